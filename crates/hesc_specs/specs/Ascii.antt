@@ -1,0 +1,23 @@
+-- The ASCII bytes that the definitions name.
+use Rattle.std.specs.Prelude.{ℕ}
+
+abbrev pub double_quote : ℕ
+double_quote = 34
+
+abbrev pub ampersand : ℕ
+ampersand = 38
+
+abbrev pub single_quote : ℕ
+single_quote = 39
+
+abbrev pub slash : ℕ
+slash = 47
+
+abbrev pub semicolon : ℕ
+semicolon = 59
+
+abbrev pub less_than : ℕ
+less_than = 60
+
+abbrev pub greater_than : ℕ
+greater_than = 62

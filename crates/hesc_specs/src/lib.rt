@@ -1,0 +1,10 @@
+//! The definitions that the contracts of all the crates speak of.
+//!
+//! What an operation makes of a text, and where it changes it, is said here in the terms of the
+//! public standards and of no code; `docs/DEFINITIONS.md` says each in words. The facts about the
+//! definitions that several crates cite are proved beside them.
+#![tactic(auto)]
+
+mod classes;
+
+pub use crate::classes::Class;
