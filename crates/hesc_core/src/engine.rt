@@ -1,0 +1,29 @@
+//! The engine: each piece of a rule's text goes to a sink. Nothing else makes output.
+ghost use Rattle.std.specs.Prelude.{◌≡◌, ◌≢◌, ◌≤◌, ◌<◌, [], ◌++◌, length, IsOk, OnOk, OnErr};
+ghost use Rattle.hesc_specs.specs.Beginning.{TookBeginning};
+
+use crate::pieces::Pieces;
+use crate::rule::Rule;
+use crate::sink::Sink;
+
+/// Hands what `rule` makes of `text` to the sink, piece by piece.
+///
+/// On success the sink took exactly that. On the sink's fault, which is handed on at once, it took
+/// a beginning of it.
+pub fn run<R: Rule, S: Sink>(rule: &R, text: &str, sink: &mut S) -> Result<(), S::Fault>
+    ensures ok_taken { OnOk result (S.taken sink.new ≡ S.taken sink.old ++ R.made rule.now text.now) }
+    ensures ok_failures { OnOk result (S.failures sink.new ≡ S.failures sink.old) }
+    ensures err_some { OnErr result (R.made rule.now text.now ≢ []) }
+    ensures err_taken {
+        OnErr result (TookBeginning (S.taken sink.old) (S.taken sink.new) (R.made rule.now text.now))
+    }
+    ensures err_failures { OnErr result (S.failures sink.old < S.failures sink.new) }
+    ensures fits { length (R.made rule.now text.now) ≤ S.room sink.old → IsOk result }
+    ensures same_reference { S.reference sink.new ≡ S.reference sink.old }
+    ensures same_before { S.before sink.new ≡ S.before sink.old }
+{
+    for piece in Pieces::new(rule, text) {
+        sink.put(piece.as_str())?;
+    }
+    Ok(())
+}

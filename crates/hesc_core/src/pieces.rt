@@ -1,0 +1,106 @@
+//! What a rule makes of a text, piece by piece: the stretches that stay are slices of the text.
+ghost use Rattle.std.specs.Str.{IsCharBoundary};
+
+use crate::found::Replacement;
+use crate::rule::Rule;
+
+/// A piece of a rule's text.
+#[derive(Clone, Copy)]
+pub enum Piece<'t> {
+    /// A stretch of the source that starts at the byte `start` there.
+    Kept { start: usize, text: &'t str },
+    /// A text that stands for other bytes of the source, or between them.
+    New(Replacement<'t>),
+}
+
+impl Piece<'_> {
+    ghost use Rattle.std.specs.Prelude.{◌≡◌};
+    ghost use Rattle.hesc_specs.specs.Parts.{part_bytes};
+    ghost use Rattle.hesc_core.specs.Pieces.{part_of};
+
+    /// The piece's text, which is not empty in a piece of `Pieces`.
+    pub fn as_str(&self) -> &str
+        ensures { result.now ≡ part_bytes (part_of self.now) }
+    {
+        match self {
+            Piece::Kept { start: _, text } => text,
+            Piece::New(replacement) => replacement.as_str(),
+        }
+    }
+}
+
+/// The pieces of a rule's text, in order and none of them empty: the stretches of the source
+/// before, between and after the changes, and the changes' replacements.
+///
+/// They are at most twice the number of changes and one. No memory is taken.
+#[derive(Drop)]
+pub struct Pieces<'t, R: Rule> {
+    rule: &'t R,
+    text: &'t str,
+    from: usize,
+    // What stands after the stretch that was handed out last.
+    pending: Option<Replacement<'t>>,
+    is_done: bool,
+    ghost boundary: { IsCharBoundary text.now from },
+}
+
+impl<'t, R: Rule> Pieces<'t, R> {
+    ghost use Rattle.std.specs.Prelude.{◌≡◌, ◌≤◌, ◌*◌, ◌+◌, length};
+    ghost use Rattle.hesc_specs.specs.Parts.{joined, parts};
+    ghost use Rattle.hesc_core.specs.Pieces.{parts_left};
+
+    /// The pieces of what `rule` makes of `text`.
+    pub fn new(rule: &'t R, text: &'t str) -> Pieces<'t, R>
+        ensures pieces {
+            parts_left result ≡ parts text.now 0 (R.changes_from rule.now text.now 0)
+        }
+        ensures joined {
+            joined (parts text.now 0 (R.changes_from rule.now text.now 0)) ≡ R.made rule.now text.now
+        }
+        ensures few {
+            length (parts text.now 0 (R.changes_from rule.now text.now 0))
+                ≤ 2 * length (R.changes_from rule.now text.now 0) + 1
+        }
+    {
+        Pieces { rule, text, from: 0, pending: None, is_done: false }
+    }
+}
+
+impl<'t, R: Rule> Iterator for Pieces<'t, R> {
+    ghost use Rattle.std.specs.Iterator.{YieldsFirstBy, item_count};
+    ghost use Rattle.hesc_core.specs.Pieces.{part_of, parts_left};
+
+    type Item = Piece<'t>;
+
+    ghost next_gives = { YieldsFirstBy part_of parts_left };
+    ghost remaining = { item_count parts_left };
+
+    fn next(&mut self) -> Option<Piece<'t>> {
+        if let Some(replacement) = self.pending {
+            self.pending = None;
+            return Some(Piece::New(replacement));
+        }
+        if self.is_done {
+            return None;
+        }
+        'finding: while let Some(found) = self.rule.next(self.text, self.from) {
+            let start = self.from;
+            self.from = found.end;
+            let is_empty = found.replacement.as_str().is_empty();
+            if start < found.start {
+                if !is_empty {
+                    self.pending = Some(found.replacement);
+                }
+                return Some(Piece::Kept { start, text: &self.text[start..found.start] });
+            }
+            if !is_empty {
+                return Some(Piece::New(found.replacement));
+            }
+        }
+        self.is_done = true;
+        if self.from == self.text.len() {
+            return None;
+        }
+        Some(Piece::Kept { start: self.from, text: &self.text[self.from..] })
+    }
+}

@@ -1,0 +1,34 @@
+//! The search for the next byte at which an encoder may change something.
+ghost use Rattle.std.specs.Prelude.{◌≡◌, ◌≤◌, length};
+ghost use Rattle.hesc_specs.specs.Classes.{in_class};
+ghost use Rattle.hesc_specs.specs.FirstPlace.{IsFirstPlace};
+
+use hesc_specs::Class;
+
+/// The least place at or after `from` whose byte is in the class, or the length where there is
+/// none.
+pub fn first_in(class: Class, bytes: &[u8], from: usize) -> usize
+    requires { from ≤ length bytes.now }
+    ensures { IsFirstPlace (in_class class) bytes.now from result }
+{
+    for at in from..bytes.len() {
+        if is_in(class, bytes[at]) {
+            return at;
+        }
+    }
+    bytes.len()
+}
+
+fn is_in(class: Class, byte: u8) -> bool
+    ensures { result ≡ in_class class byte }
+{
+    match class {
+        Class::TextMinimal => matches!(byte, b'&' | b'<'),
+        Class::Text => matches!(byte, b'&' | b'<' | b'>'),
+        Class::DoubleQuotedAttribute => matches!(byte, b'&' | b'<' | b'>' | b'"'),
+        Class::SingleQuotedAttribute => matches!(byte, b'&' | b'<' | b'>' | b'\''),
+        Class::QuotedAttribute => matches!(byte, b'&' | b'<' | b'>' | b'"' | b'\''),
+        Class::Safe => matches!(byte, b'&' | b'<' | b'>' | b'"' | b'\'' | b'/'),
+        Class::UnquotedAttribute => byte.is_ascii() && !byte.is_ascii_alphanumeric(),
+    }
+}

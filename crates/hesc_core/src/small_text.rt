@@ -1,0 +1,46 @@
+//! A text of at most six bytes that owns them and takes no memory: what an escape or a reference
+//! is written as.
+ghost use Rattle.std.specs.Prelude.{◌≤◌, take};
+ghost use Rattle.std.specs.Str.{IsAscii, IsUtf8};
+
+use std::str;
+
+/// At most six bytes of UTF-8.
+#[derive(Clone, Copy)]
+pub struct SmallText {
+    bytes: [u8; 6],
+    len: usize,
+    ghost short: { len ≤ 6 },
+    ghost utf8: { ∥ IsUtf8 (take len bytes) ∥₁ },
+}
+
+impl SmallText {
+    ghost use Rattle.std.specs.Prelude.{◌≡◌, length};
+    ghost use Rattle.hesc_core.specs.Text.{small_text_bytes};
+
+    /// The text, which has at most six bytes.
+    pub fn new(text: &str) -> SmallText
+        requires { length text.now ≤ 6 }
+        ensures { small_text_bytes result ≡ text.now }
+    {
+        let mut bytes = [0; 6];
+        bytes[..text.len()].copy_from_slice(text.as_bytes());
+        SmallText { bytes, len: text.len() }
+    }
+
+    /// The text of six ASCII bytes.
+    pub fn from_ascii(bytes: [u8; 6]) -> SmallText
+        requires { IsAscii bytes }
+        ensures { small_text_bytes result ≡ bytes }
+    {
+        SmallText { bytes, len: 6 }
+    }
+
+    /// The text.
+    pub fn as_str(&self) -> &str
+        ensures { result.now ≡ small_text_bytes self.now }
+    {
+        // The bytes are UTF-8, as the ghost field `utf8` keeps.
+        unsafe { str::from_utf8_unchecked(&self.bytes[..self.len]) }
+    }
+}
