@@ -1,1 +1,3 @@
 mod Progress
+mod Seam
+mod Told

@@ -6,12 +6,14 @@
 #![tactic(auto)]
 
 pub mod engine;
+pub mod forms;
 pub mod found;
 pub mod pieces;
 pub mod rule;
 pub mod rules;
 pub mod scan;
 pub mod sink;
+pub mod sinks;
 pub mod small_text;
 
 pub use crate::engine::run;
@@ -19,5 +21,6 @@ pub use crate::found::{Found, Replacement};
 pub use crate::pieces::{Piece, Pieces};
 pub use crate::rule::Rule;
 pub use crate::sink::Sink;
+pub use crate::sinks::{CountOverflow, Counter, StringSink, VecSink, WriterSink};
 pub use crate::small_text::SmallText;
 pub use hesc_specs::Class;

@@ -1,0 +1,66 @@
+//! A rule's text appended to a string.
+ghost use Rattle.std.specs.Prelude.{◌≡◌, ◌+◌, ◌≤◌, [], length, drop, IfOk, IsOk};
+ghost use Rattle.std.specs.Borrow.{sem};
+ghost use Rattle.std.specs.Str.{IsCharBoundary};
+ghost use Rattle.std.specs.String.{string_bytes, string_capacity, string_len};
+ghost use Rattle.hesc_core.specs.Forms.{Appended, StringAppended};
+
+use std::alloc::{AllocError, Allocator};
+
+use crate::engine::run;
+use crate::forms::measure::measure;
+use crate::rule::Rule;
+use crate::sinks::string::StringSink;
+
+/// Appends what `rule` makes of `text`, or leaves the output as it was.
+pub fn append_to_string<R: Rule, A: Allocator>(
+    output: &mut String<A>,
+    rule: &R,
+    text: &str,
+) -> Result<(), AllocError>
+    ensures appended {
+        Appended (string_bytes output.old) (string_bytes output.new) (R.made rule.now text.now) result
+    }
+    ensures empty { R.made rule.now text.now ≡ [] → IsOk result }
+    ensures fits {
+        string_len output.old + length (R.made rule.now text.now) ≤ string_capacity output.old
+            → IsOk result
+    }
+{
+    let Ok(count) = measure(rule, text) else {
+        return Err(AllocError);
+    };
+    if count == 0 {
+        return Ok(());
+    }
+    output.reserve(count)?;
+    let mut sink = StringSink::new(output);
+    let outcome = run(rule, text, &mut sink);
+    let _output = sink.into_output();
+    outcome
+}
+
+/// Appends what `rule` makes of `text`, and answers the part that was added. On a refusal the
+/// output is as it was.
+pub fn onto_string<'o, R: Rule, A: Allocator>(
+    output: &'o mut String<A>,
+    rule: &R,
+    text: &str,
+) -> Result<&'o str, AllocError>
+    ensures added { IfOk result (λ part. part.now ≡ R.made rule.now text.now) }
+    ensures* appended {
+        sem 𝓛 (StringAppended A.row A.Allocator output.entry (R.made rule.now text.now) result)
+    }
+    ensures empty { R.made rule.now text.now ≡ [] → IsOk result }
+{
+    let start = output.as_str().len();
+    append_to_string(output, rule, text)?;
+    Ok(part_from(output, start))
+}
+
+fn part_from<A: Allocator>(output: &String<A>, start: usize) -> &str
+    requires { IsCharBoundary (string_bytes output.now) start }
+    ensures { result.now ≡ drop start (string_bytes output.now) }
+{
+    &output.as_str()[start..]
+}

@@ -1,0 +1,58 @@
+//! A rule's text appended to a vector of bytes.
+ghost use Rattle.std.specs.Prelude.{◌≡◌, ◌+◌, ◌≤◌, [], length, IfOk, IsOk, vec_len};
+ghost use Rattle.std.specs.Borrow.{sem};
+ghost use Rattle.std.specs.Vec.{vec_capacity};
+ghost use Rattle.hesc_core.specs.Forms.{Appended, VecAppended};
+
+use std::alloc::{AllocError, Allocator};
+
+use crate::engine::run;
+use crate::forms::measure::measure;
+use crate::rule::Rule;
+use crate::sinks::vec::VecSink;
+
+/// Appends what `rule` makes of `text`, or leaves the output as it was.
+pub fn append_to_vec<R: Rule, A: Allocator>(
+    output: &mut Vec<u8, A>,
+    rule: &R,
+    text: &str,
+) -> Result<(), AllocError>
+    ensures appended {
+        Appended output.old.items output.new.items (R.made rule.now text.now) result
+    }
+    ensures empty { R.made rule.now text.now ≡ [] → IsOk result }
+    ensures fits {
+        vec_len output.old + length (R.made rule.now text.now) ≤ vec_capacity output.old
+            → IsOk result
+    }
+{
+    let Ok(count) = measure(rule, text) else {
+        return Err(AllocError);
+    };
+    if count == 0 {
+        return Ok(());
+    }
+    output.reserve(count)?;
+    let mut sink = VecSink::new(output);
+    let outcome = run(rule, text, &mut sink);
+    let _output = sink.into_output();
+    outcome
+}
+
+/// Appends what `rule` makes of `text`, and answers the part that was added. On a refusal the
+/// output is as it was.
+pub fn onto_vec<'o, R: Rule, A: Allocator>(
+    output: &'o mut Vec<u8, A>,
+    rule: &R,
+    text: &str,
+) -> Result<&'o [u8], AllocError>
+    ensures added { IfOk result (λ part. part.now ≡ R.made rule.now text.now) }
+    ensures* appended {
+        sem 𝓛 (VecAppended A.row A.Allocator output.entry (R.made rule.now text.now) result)
+    }
+    ensures empty { R.made rule.now text.now ≡ [] → IsOk result }
+{
+    let start = output.len();
+    append_to_vec(output, rule, text)?;
+    Ok(&output.as_slice()[start..])
+}

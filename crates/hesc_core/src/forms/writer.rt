@@ -1,0 +1,29 @@
+//! A rule's text written to a writer.
+ghost use Rattle.std.specs.Prelude.{◌≡◌, [], IsOk, OnErr, OnOk};
+ghost use Rattle.std.specs.Io.KnownBytes.{Appends};
+ghost use Rattle.hesc_core.specs.Forms.{AppendsBeginning};
+
+use std::io::{self, Write};
+
+use crate::engine::run;
+use crate::rule::Rule;
+use crate::sinks::writer::WriterSink;
+
+/// Writes what `rule` makes of `text`, or a beginning of it and then the writer's fault. It takes
+/// no memory and never flushes.
+pub fn to_writer<R: Rule, W: Write>(rule: &R, text: &str, output: &mut W) -> Result<(), io::Error>
+    ensures ok {
+        OnOk result
+            (Appends (W.contents output.old) (W.contents output.new) (R.made rule.now text.now))
+    }
+    ensures err {
+        OnErr result
+            (AppendsBeginning (W.contents output.old) (W.contents output.new) (R.made rule.now text.now))
+    }
+    ensures empty { R.made rule.now text.now ≡ [] → IsOk result }
+{
+    let mut sink = WriterSink::new(output);
+    let outcome = run(rule, text, &mut sink);
+    let _output = sink.into_output();
+    outcome
+}

@@ -1,0 +1,11 @@
+//! The sinks: a count, a string, a vector, a writer.
+pub mod counter;
+pub mod log;
+pub mod string;
+pub mod vec;
+pub mod writer;
+
+pub use crate::sinks::counter::{CountOverflow, Counter};
+pub use crate::sinks::string::StringSink;
+pub use crate::sinks::vec::VecSink;
+pub use crate::sinks::writer::WriterSink;
