@@ -1,3 +1,4 @@
+pub mod HandsOn
 mod Progress
 mod Seam
 mod Told
