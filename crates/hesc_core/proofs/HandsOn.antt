@@ -1,6 +1,6 @@
 -- A function of a text and an output at any allocator that only calls the function of the output and the text, and answers what that answers. Its one type parameter is the allocator.
 -- `onto_string` and `onto_vec` take the two contracts, and what the caller's `requires` gives and the callee's `ensures` gives, here mostly by `id⊢`.
-use Rattle.std.proofs.Common.{ℕ, List, [], ◌∷◌, refl}
+use Rattle.std.proofs.Common.{ℕ, [], ◌∷◌, refl}
 use Rattle.std.proofs.raw_atomic.Walks.{proved}
 use seplogic.Ra.Ura.{Ura}
 use base.Logic.{ent, id⊢}
@@ -99,7 +99,7 @@ module _ (form : Form) where
     givens = h.givens;
     params = 2;
     locals = local (answered X) value_local ∷ local (lone (type_at (StrRefOf {n = 3} (0 ∷ []) tt) ([], ([], ([], tt)))).mir) value_local ∷ local (ty_ref (named 1) mut (pointee R.written)) value_local
-      ∷ local (ty_ref erased mut (pointee R.written)) value_local ∷ [];
+        ∷ local (ty_ref erased mut (pointee R.written)) value_local ∷ [];
     body = seq (assign (place 3 []) (addr_of (place 2 (deref (lone R.mir) ∷ [])))) (seq (call k (copy (place 3 []) ∷ copy (place 1 []) ∷ []) (place 0 [])) return);
   }
 
@@ -154,7 +154,11 @@ bytes_answer {m} n ok = plain (λ κs. result.the_row (type_at (SliceRefOf {n = 
 
 abbrev pub string_form : (A : RattleType) → Ghosts A.Denot → Form
 string_form A alloc = record {
-  R = string_row (param 0 A) alloc; X = text_answer 1 tt; Y = text_answer 0 tt; same = λ κs r. r; owned = λ {M} {𝓤} 𝓛 κs r v. id⊢ 𝓤 _;
+  R = string_row (param 0 A) alloc;
+  X = text_answer 1 tt;
+  Y = text_answer 0 tt;
+  same = λ κs r. r;
+  owned = λ {M} {𝓤} 𝓛 κs r v. id⊢ 𝓤 _;
   fits = λ 𝓛 κs r v is. (((result_laws (Str (named 0) κs.1.0) error.the_row (str_laws (record { mir = named 0; lft = κs.1.0 })) error_laws).lawful 𝓛).typed r (v ∷ []) is).0;
 }
 
@@ -164,6 +168,10 @@ bytes_laws l = of_field (shr_slice_field l u8 tt) (shr_slice_laws l u8 tt) refl
 
 abbrev pub vec_form : (A : RattleType) → Ghosts A.Denot → Form
 vec_form A alloc = record {
-  R = vec_row (param 0 A) alloc; X = bytes_answer 1 tt; Y = bytes_answer 0 tt; same = λ κs r. r; owned = λ {M} {𝓤} 𝓛 κs r v. id⊢ 𝓤 _;
+  R = vec_row (param 0 A) alloc;
+  X = bytes_answer 1 tt;
+  Y = bytes_answer 0 tt;
+  same = λ κs r. r;
+  owned = λ {M} {𝓤} 𝓛 κs r v. id⊢ 𝓤 _;
   fits = λ 𝓛 κs r v is. (((result_laws (ShrSlice (named 0) κs.1.0 u8) error.the_row (bytes_laws (record { mir = named 0; lft = κs.1.0 })) error_laws).lawful 𝓛).typed r (v ∷ []) is).0;
 }

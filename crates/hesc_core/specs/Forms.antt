@@ -1,29 +1,52 @@
--- What the forms of an operation leave and answer.
-use Rattle.std.specs.Prelude.{◌≡◌, ◌≢◌, ⊤, ℕ, List, [], ◌++◌, Option, Result, String, Vec, is_ok, if◌then◌else◌, string_bytes}
+-- What the forms of an operation answer, and what they leave.
+use Rattle.std.specs.Prelude.{◌≡◌, ◌≢◌, ◌≤◌, ◌-◌, ⊤, ℕ, List, [], ◌++◌, Option, Result, String, Vec, IfOk, IsOk, OnOk, OnErr, is_ok, if◌then◌else◌, length, string_bytes, vec_len}
+use Rattle.std.specs.Borrow.{Bor, Fml, MutBor, follows_so, u8}
+use Rattle.std.specs.Cow.{cow_str_bytes}
 use Rattle.std.specs.Io.KnownBytes.{Appends}
-use Rattle.std.specs.Borrow.{Fml, MutBor, follows_so, u8}
+use Rattle.std.specs.String.{string_capacity, string_len}
+use Rattle.std.specs.Vec.{vec_capacity}
+use Rattle.std.specs.contracts.string.String as text
+use Rattle.std.specs.contracts.vec.Vec as vec
 use Rattle.std.specs.declared.alloc.Allocator.{Ghosts}
 use Rattle.std.specs.declared.borrow.CowStr.{CowStr}
 use Rattle.std.specs.declared.borrow.CowStr.TheVariants.{Borrowed, Owned}
-use Rattle.std.specs.contracts.string.String as text
-use Rattle.std.specs.contracts.vec.Vec as vec
 use denote.RattleType.{RattleType}
 use mathlib.Core.Option.{none}
 use Rattle.hesc_specs.specs.Beginning.{IsBeginning}
 use Rattle.hesc_specs.specs.Changes.{Change}
 
--- it borrows exactly where nothing changes, and is then the source itself
+-- it borrows exactly where nothing changes, and then the source itself
 abbrev pub BorrowsUnchanged : {A : Type 0} → List ℕ → List Change → CowStr A → Type 0
 BorrowsUnchanged source changes (Borrowed part) = (changes ≡ []) × (part.now ≡ source)
 BorrowsUnchanged source changes (Owned made) = changes ≢ []
+
+-- the answer is what was made of the source; where nothing changes, it comes without memory
+pub record AnswersText {A E : Type 0} (source made : List ℕ) (changes : List Change) (result : Result (CowStr A) E) : Type 0 where
+  pub text : IfOk result (λ cow. cow_str_bytes cow ≡ made)
+  pub borrows : IfOk result (BorrowsUnchanged source changes)
+  pub unchanged : changes ≡ [] → IsOk result
+
+-- how many more bytes an output takes without growing
+abbrev pub string_room : {A : Type 0} → String A → ℕ
+string_room output = string_capacity output - string_len output
+
+abbrev pub vec_room : {A : Type 0} → Vec ℕ A → ℕ
+vec_room output = vec_capacity output - vec_len output
 
 -- the bytes were appended, or the output is as it was
 abbrev pub Appended : {T E : Type 0} → List ℕ → List ℕ → List ℕ → Result T E → Type 0
 Appended old new bytes result = new ≡ (if is_ok result then old ++ bytes else old)
 
--- a beginning of the bytes went out
-abbrev pub AppendsBeginning : Option (List ℕ) → Option (List ℕ) → List ℕ → Type 0
-AppendsBeginning old new bytes = (a : List ℕ) × (Appends old new a × IsBeginning a bytes)
+-- the answer is the part that was added; where there is room for it, it comes without memory
+pub record AnswersPart {E : Type 0} (room : ℕ) (added : List ℕ) (result : Result (Bor (List ℕ)) E) : Type 0 where
+  pub part : IfOk result (λ part. part.now ≡ added)
+  pub fits : length added ≤ room → IsOk result
+
+-- all of the text went out, or a beginning of it
+pub record WritesText {E : Type 0} (old new : Option (List ℕ)) (made : List ℕ) (result : Result (Unit {0}) E) : Type 0 where
+  pub all : OnOk result (Appends old new made)
+  pub began : OnErr result ((a : List ℕ) × (Appends old new a × IsBeginning a made))
+  pub empty : made ≡ [] → IsOk result
 
 -- a `String` and a `Vec<u8>` over an allocator, as the logic names them
 abbrev pub string_row : (A : RattleType) → Ghosts A.Denot → RattleType

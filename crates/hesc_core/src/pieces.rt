@@ -51,18 +51,18 @@ impl<'t, R: Rule> Pieces<'t, R> {
 
     /// The pieces of what `rule` makes of `text`.
     pub fn new(rule: &'t R, text: &'t str) -> Pieces<'t, R>
-        ensures pieces {
-            parts_left result ≡ parts text.now 0 (R.changes_from rule.now text.now 0)
-        }
-        ensures joined {
-            joined (parts text.now 0 (R.changes_from rule.now text.now 0)) ≡ R.made rule.now text.now
-        }
-        ensures few {
-            length (parts text.now 0 (R.changes_from rule.now text.now 0))
-                ≤ 2 * length (R.changes_from rule.now text.now 0) + 1
-        }
+        ensures pieces { parts_left result ≡ parts text.now 0 (R.changes_from rule.now text.now 0) }
+        ensures joined { joined (parts text.now 0 (R.changes_from rule.now text.now 0)) ≡ R.made rule.now text.now }
+        ensures few { length (parts text.now 0 (R.changes_from rule.now text.now 0))
+            ≤ 2 * length (R.changes_from rule.now text.now 0) + 1 }
     {
-        Pieces { rule, text, from: 0, pending: None, is_done: false }
+        Pieces {
+            rule,
+            text,
+            from: 0,
+            pending: None,
+            is_done: false,
+        }
     }
 }
 
@@ -73,6 +73,7 @@ impl<'t, R: Rule> Iterator for Pieces<'t, R> {
     type Item = Piece<'t>;
 
     ghost next_gives = { YieldsFirstBy part_of parts_left };
+
     ghost remaining = { item_count parts_left };
 
     fn next(&mut self) -> Option<Piece<'t>> {
@@ -91,7 +92,10 @@ impl<'t, R: Rule> Iterator for Pieces<'t, R> {
                 if !is_empty {
                     self.pending = Some(found.replacement);
                 }
-                return Some(Piece::Kept { start, text: &self.text[start..found.start] });
+                return Some(Piece::Kept {
+                    start,
+                    text: &self.text[start..found.start],
+                });
             }
             if !is_empty {
                 return Some(Piece::New(found.replacement));
@@ -101,6 +105,9 @@ impl<'t, R: Rule> Iterator for Pieces<'t, R> {
         if self.from == self.text.len() {
             return None;
         }
-        Some(Piece::Kept { start: self.from, text: &self.text[self.from..] })
+        Some(Piece::Kept {
+            start: self.from,
+            text: &self.text[self.from..],
+        })
     }
 }

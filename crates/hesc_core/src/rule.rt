@@ -12,6 +12,7 @@ use crate::found::Found;
 /// rule's text from a place is the source from there with those changes made (`applied`).
 pub trait Rule {
     ghost changes_from: { Self → List ℕ → ℕ → List Change };
+
     ghost made: { Self → List ℕ → List ℕ };
 
     /// The first change at or after `from`, a character boundary, or `None` where there is none.
@@ -21,8 +22,6 @@ pub trait Rule {
         ensures found { IfSome result (IsNext text.now from (changes_from self.now text.now)) };
 
     // The changes, made, are the rule's text.
-    ghost makes: {
-        (rule : Self) (source : List ℕ) → IsUtf8 source →
-            applied source 0 (changes_from rule source 0) ≡ made rule source
-    };
+    ghost makes: { (rule : Self) (source : List ℕ) → IsUtf8 source →
+        applied source 0 (changes_from rule source 0) ≡ made rule source };
 }

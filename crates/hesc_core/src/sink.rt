@@ -12,9 +12,13 @@ pub trait Sink {
     type Fault;
 
     ghost taken: { Self → List ℕ };
+
     ghost failures: { Self → ℕ };
+
     ghost room: { Self → ℕ };
+
     ghost reference: { Self → GName };
+
     ghost before: { Self → Option (List ℕ) };
 
     /// Takes the whole piece, or fails after a beginning of it. An empty piece is always taken.

@@ -25,7 +25,10 @@ impl SmallText {
     {
         let mut bytes = [0; 6];
         bytes[..text.len()].copy_from_slice(text.as_bytes());
-        SmallText { bytes, len: text.len() }
+        SmallText {
+            bytes,
+            len: text.len(),
+        }
     }
 
     /// The text of six ASCII bytes.

@@ -4,4 +4,6 @@
 
 pub mod text;
 
-pub use crate::text::{encode_text, encode_text_to_string, encode_text_to_vec, encode_text_to_writer};
+pub use crate::text::{
+    encode_text, encode_text_to_string, encode_text_to_vec, encode_text_to_writer,
+};

@@ -1,12 +1,12 @@
 -- The changes of an HTML encoder: which comes first, when none is left, and that they make the encoding.
-use Rattle.std.proofs.Common.{◌≡◌, ℕ, zero, suc, add-zero, ◌+◌, ◌-◌, ◌≤◌, ◌<◌, List, [], ◌∷◌, ◌++◌, Bool, true, false, length, take, drop, refl, ap, sym, ◌∙◌, append_assoc, arith, length-append}
-use Rattle.std.specs.Prelude.{slice_range, slice_index, if◌then◌else◌}
+use Rattle.std.proofs.Common.{◌≡◌, ℕ, zero, suc, add-zero, ◌+◌, ◌-◌, ◌≤◌, ◌<◌, List, [], ◌∷◌, ◌++◌, Bool, true, false, length, take, drop, refl, ap, sym, ◌∙◌, append_assoc, arith}
+use Rattle.std.specs.Prelude.{slice_range, slice_index}
 use Rattle.std.proofs.lemmas.List.{drop-drop, drop_more, length-drop, get_or-drop}
 use Rattle.std.proofs.lemmas.List.Folds.{drop_split}
 use Rattle.std.proofs.Math.Seq.{take-add, drop-length}
-use Rattle.hesc_specs.specs.Changes.{Change, applied, html_changes, html_changes_of}
+use Rattle.hesc_specs.specs.Changes.{applied, html_changes, html_changes_of}
 use Rattle.hesc_specs.specs.Classes.{in_class}
-use Rattle.hesc_specs.specs.Html.{encoding, image, reference_to}
+use Rattle.hesc_specs.specs.Html.{encoding, reference_to}
 use Rattle.hesc_specs.specs.FirstPlace.{IsFirstPlace}
 use Rattle.hesc_specs.specs.declared.classes.Class.{Class}
 
@@ -21,7 +21,7 @@ kept-html_changes_of class at bytes zero within before = rw add-zero refl
 kept-html_changes_of class at [] (suc n) within before = absurd (omega arith)
 kept-html_changes_of class at (b ∷ bytes) (suc n) within before =
     let later : html_changes_of class (at + 1) bytes ≡ html_changes_of class ((at + 1) + n) (drop n bytes) =
-          kept-html_changes_of class (at + 1) bytes n (omega arith) (λ k below. before (suc k) (omega arith)) in
+    kept-html_changes_of class (at + 1) bytes n (omega arith) (λ k below. before (suc k) (omega arith)) in
     let there : (at + 1) + n ≡ at + suc n = omega arith in
     unchanged-html_changes_of class at b bytes (before 0 (omega arith)) ∙ rw there at later
 
@@ -30,8 +30,8 @@ reached-html_changes : (class : Class) (source : List ℕ) (from at : ℕ) → I
 reached-html_changes class source from at first =
     let there : from + (at - from) ≡ at = omega (arith, first.ordered) in
     let kept : html_changes_of class from (drop from source) ≡ html_changes_of class (from + (at - from)) (drop (at - from) (drop from source)) =
-          kept-html_changes_of class from (drop from source) (at - from) (omega (arith, length-drop from source, first.in_range))
-            (λ k below. rw (get_or-drop from source k 0) (first.before (from + k) (omega arith) (omega arith))) in
+    kept-html_changes_of class from (drop from source) (at - from) (omega (arith, length-drop from source, first.in_range))
+    (λ k below. rw (get_or-drop from source k 0) (first.before (from + k) (omega arith) (omega arith))) in
     kept ∙ rw (drop-drop (at - from) from source, there) refl
 
 -- none is left where the class comes no more
@@ -75,8 +75,8 @@ applied-html_changes_of class source from at [] ordered is = drop_split source f
 applied-html_changes_of class source from at (b ∷ bytes) ordered is =
     let rest : drop (at + 1) source ≡ bytes = drop-more source at b bytes is in
     applied-step class source from at b bytes (in_class class b) refl ordered is
-      (applied-html_changes_of class source from (at + 1) bytes (omega arith) rest)
-      (applied-html_changes_of class source (at + 1) (at + 1) bytes (omega arith) rest)
+    (applied-html_changes_of class source from (at + 1) bytes (omega arith) rest)
+    (applied-html_changes_of class source (at + 1) (at + 1) bytes (omega arith) rest)
 
 -- the changes of an HTML encoder, made, are its encoding
 pub applied-html_changes : (class : Class) (source : List ℕ) → applied source 0 (html_changes class source 0) ≡ encoding class source

@@ -1,11 +1,11 @@
 -- The parts of a changed source, joined, are the source with the changes made, and they are few.
-use Rattle.std.proofs.Common.{◌≡◌, ℕ, ◌+◌, ◌-◌, ◌*◌, ◌≤◌, List, [], ◌∷◌, ◌++◌, Bool, true, false, length, take, drop, refl, ap, sym, ◌∙◌, arith, length-append}
+use Rattle.std.proofs.Common.{◌≡◌, ℕ, ◌+◌, ◌-◌, ◌*◌, ◌≤◌, List, [], ◌∷◌, ◌++◌, Bool, true, false, length, drop, refl, sym, ◌∙◌, arith, length-append}
 use Rattle.std.specs.Prelude.{slice_range, nat_lt, if◌then◌else◌}
 use Rattle.std.proofs.lemmas.List.{append-nil, take_all, length-drop}
 use Rattle.std.proofs.lemmas.Grind.{flat_map-append}
 use Rattle.std.proofs.lemmas.Bool.Decides.{nat_tests}
 use Rattle.hesc_specs.specs.Changes.{Change, applied}
-use Rattle.hesc_specs.specs.Parts.{Part, kept, part_bytes, stretch, renewed, parts, joined}
+use Rattle.hesc_specs.specs.Parts.{kept, part_bytes, stretch, renewed, parts, joined}
 
 stretch_if-joined : (b : Bool) (start : ℕ) (bytes : List ℕ) → (b ≡ false → bytes ≡ []) → joined (if b then kept start bytes ∷ [] else []) ≡ bytes
 stretch_if-joined true start bytes empty = append-nil bytes
@@ -28,7 +28,7 @@ pub parts-joined : (source : List ℕ) (from : ℕ) (changes : List Change) → 
 parts-joined source from [] = stretch-joined source from (length source) ∙ rest-joined source from
 parts-joined source from (c ∷ cs) =
     let first : joined (stretch source from c.start ++ (renewed c.bytes ++ parts source c.end cs)) ≡ joined (stretch source from c.start) ++ joined (renewed c.bytes ++ parts source c.end cs) =
-          flat_map-append part_bytes (stretch source from c.start) (renewed c.bytes ++ parts source c.end cs) in
+    flat_map-append part_bytes (stretch source from c.start) (renewed c.bytes ++ parts source c.end cs) in
     let second : joined (renewed c.bytes ++ parts source c.end cs) ≡ joined (renewed c.bytes) ++ joined (parts source c.end cs) = flat_map-append part_bytes (renewed c.bytes) (parts source c.end cs) in
     cc (stretch-joined source from c.start, renewed-joined c.bytes, parts-joined source c.end cs)
 

@@ -1,13 +1,10 @@
 //! A rule's text as a text that is borrowed where nothing changes.
-ghost use Rattle.std.specs.Prelude.{◌≡◌, [], IfOk, IsOk};
-ghost use Rattle.std.specs.Cow.{cow_str_bytes};
-ghost use Rattle.hesc_core.specs.Forms.{BorrowsUnchanged};
-
-use std::alloc::{AllocError, Allocator};
-use std::borrow::CowStr;
+ghost use Rattle.hesc_core.specs.Forms.{AnswersText};
 
 use crate::forms::string::append_to_string;
 use crate::rule::Rule;
+use std::alloc::{AllocError, Allocator};
+use std::borrow::CowStr;
 
 /// What `rule` makes of `text`: `text` itself where nothing changes, which takes no memory.
 pub fn to_cow<'t, R: Rule, A: Allocator>(
@@ -15,11 +12,7 @@ pub fn to_cow<'t, R: Rule, A: Allocator>(
     rule: &R,
     text: &'t str,
 ) -> Result<CowStr<'t, A>, AllocError>
-    ensures text { IfOk result (λ cow. cow_str_bytes cow ≡ R.made rule.now text.now) }
-    ensures borrows {
-        IfOk result (BorrowsUnchanged text.now (R.changes_from rule.now text.now 0))
-    }
-    ensures unchanged { R.changes_from rule.now text.now 0 ≡ [] → IsOk result }
+    ensures { AnswersText text.now (R.made rule.now text.now) (R.changes_from rule.now text.now 0) result }
 {
     if rule.next(text, 0).is_none() {
         return Ok(CowStr::Borrowed(text));

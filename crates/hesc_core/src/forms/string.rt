@@ -1,16 +1,15 @@
 //! A rule's text appended to a string.
-ghost use Rattle.std.specs.Prelude.{◌≡◌, ◌+◌, ◌≤◌, [], length, drop, IfOk, IsOk};
+ghost use Rattle.std.specs.Prelude.{◌≡◌, ◌≤◌, IsOk, drop, length};
 ghost use Rattle.std.specs.Borrow.{sem};
 ghost use Rattle.std.specs.Str.{IsCharBoundary};
-ghost use Rattle.std.specs.String.{string_bytes, string_capacity, string_len};
-ghost use Rattle.hesc_core.specs.Forms.{Appended, StringAppended};
-
-use std::alloc::{AllocError, Allocator};
+ghost use Rattle.std.specs.String.{string_bytes};
+ghost use Rattle.hesc_core.specs.Forms.{AnswersPart, Appended, StringAppended, string_room};
 
 use crate::engine::run;
 use crate::forms::measure::measure;
 use crate::rule::Rule;
 use crate::sinks::string::StringSink;
+use std::alloc::{AllocError, Allocator};
 
 /// Appends what `rule` makes of `text`, or leaves the output as it was.
 pub fn append_to_string<R: Rule, A: Allocator>(
@@ -18,14 +17,8 @@ pub fn append_to_string<R: Rule, A: Allocator>(
     rule: &R,
     text: &str,
 ) -> Result<(), AllocError>
-    ensures appended {
-        Appended (string_bytes output.old) (string_bytes output.new) (R.made rule.now text.now) result
-    }
-    ensures empty { R.made rule.now text.now ≡ [] → IsOk result }
-    ensures fits {
-        string_len output.old + length (R.made rule.now text.now) ≤ string_capacity output.old
-            → IsOk result
-    }
+    ensures appended { Appended (string_bytes output.old) (string_bytes output.new) (R.made rule.now text.now) result }
+    ensures fits { length (R.made rule.now text.now) ≤ string_room output.old → IsOk result }
 {
     let Ok(count) = measure(rule, text) else {
         return Err(AllocError);
@@ -47,11 +40,8 @@ pub fn onto_string<'o, R: Rule, A: Allocator>(
     rule: &R,
     text: &str,
 ) -> Result<&'o str, AllocError>
-    ensures added { IfOk result (λ part. part.now ≡ R.made rule.now text.now) }
-    ensures* appended {
-        sem 𝓛 (StringAppended A.row A.Allocator output.entry (R.made rule.now text.now) result)
-    }
-    ensures empty { R.made rule.now text.now ≡ [] → IsOk result }
+    ensures part { AnswersPart (string_room output.old) (R.made rule.now text.now) result }
+    ensures* appended { sem 𝓛 (StringAppended A.row A.Allocator output.entry (R.made rule.now text.now) result) }
 {
     let start = output.as_str().len();
     append_to_string(output, rule, text)?;

@@ -1,15 +1,13 @@
 //! A rule's text appended to a vector of bytes.
-ghost use Rattle.std.specs.Prelude.{◌≡◌, ◌+◌, ◌≤◌, [], length, IfOk, IsOk, vec_len};
+ghost use Rattle.std.specs.Prelude.{◌≤◌, IsOk, length};
 ghost use Rattle.std.specs.Borrow.{sem};
-ghost use Rattle.std.specs.Vec.{vec_capacity};
-ghost use Rattle.hesc_core.specs.Forms.{Appended, VecAppended};
-
-use std::alloc::{AllocError, Allocator};
+ghost use Rattle.hesc_core.specs.Forms.{AnswersPart, Appended, VecAppended, vec_room};
 
 use crate::engine::run;
 use crate::forms::measure::measure;
 use crate::rule::Rule;
 use crate::sinks::vec::VecSink;
+use std::alloc::{AllocError, Allocator};
 
 /// Appends what `rule` makes of `text`, or leaves the output as it was.
 pub fn append_to_vec<R: Rule, A: Allocator>(
@@ -17,14 +15,8 @@ pub fn append_to_vec<R: Rule, A: Allocator>(
     rule: &R,
     text: &str,
 ) -> Result<(), AllocError>
-    ensures appended {
-        Appended output.old.items output.new.items (R.made rule.now text.now) result
-    }
-    ensures empty { R.made rule.now text.now ≡ [] → IsOk result }
-    ensures fits {
-        vec_len output.old + length (R.made rule.now text.now) ≤ vec_capacity output.old
-            → IsOk result
-    }
+    ensures appended { Appended output.old.items output.new.items (R.made rule.now text.now) result }
+    ensures fits { length (R.made rule.now text.now) ≤ vec_room output.old → IsOk result }
 {
     let Ok(count) = measure(rule, text) else {
         return Err(AllocError);
@@ -46,11 +38,8 @@ pub fn onto_vec<'o, R: Rule, A: Allocator>(
     rule: &R,
     text: &str,
 ) -> Result<&'o [u8], AllocError>
-    ensures added { IfOk result (λ part. part.now ≡ R.made rule.now text.now) }
-    ensures* appended {
-        sem 𝓛 (VecAppended A.row A.Allocator output.entry (R.made rule.now text.now) result)
-    }
-    ensures empty { R.made rule.now text.now ≡ [] → IsOk result }
+    ensures part { AnswersPart (vec_room output.old) (R.made rule.now text.now) result }
+    ensures* appended { sem 𝓛 (VecAppended A.row A.Allocator output.entry (R.made rule.now text.now) result) }
 {
     let start = output.len();
     append_to_vec(output, rule, text)?;

@@ -1,26 +1,15 @@
 //! A rule's text written to a writer.
-ghost use Rattle.std.specs.Prelude.{◌≡◌, [], IsOk, OnErr, OnOk};
-ghost use Rattle.std.specs.Io.KnownBytes.{Appends};
-ghost use Rattle.hesc_core.specs.Forms.{AppendsBeginning};
-
-use std::io::{self, Write};
+ghost use Rattle.hesc_core.specs.Forms.{WritesText};
 
 use crate::engine::run;
 use crate::rule::Rule;
 use crate::sinks::writer::WriterSink;
+use std::io::{self, Write};
 
 /// Writes what `rule` makes of `text`, or a beginning of it and then the writer's fault. It takes
 /// no memory and never flushes.
 pub fn to_writer<R: Rule, W: Write>(rule: &R, text: &str, output: &mut W) -> Result<(), io::Error>
-    ensures ok {
-        OnOk result
-            (Appends (W.contents output.old) (W.contents output.new) (R.made rule.now text.now))
-    }
-    ensures err {
-        OnErr result
-            (AppendsBeginning (W.contents output.old) (W.contents output.new) (R.made rule.now text.now))
-    }
-    ensures empty { R.made rule.now text.now ≡ [] → IsOk result }
+    ensures { WritesText (W.contents output.old) (W.contents output.new) (R.made rule.now text.now) result }
 {
     let mut sink = WriterSink::new(output);
     let outcome = run(rule, text, &mut sink);

@@ -7,12 +7,11 @@ ghost use Rattle.hesc_specs.proofs.HtmlChanges.{applied-html_changes};
 ghost use Rattle.hesc_core.specs.Next.{IsNext};
 ghost use Rattle.hesc_core.specs.Text.{replacement_bytes};
 
-use hesc_specs::Class;
-
 use crate::found::{Found, Replacement};
 use crate::rule::Rule;
 use crate::scan::first_in;
 use crate::small_text::SmallText;
+use hesc_specs::Class;
 
 /// The encoder of a class.
 #[derive(Clone, Copy)]
@@ -20,6 +19,7 @@ pub struct Escape(pub Class);
 
 impl Rule for Escape {
     ghost changes_from = { λ rule. html_changes rule.0 };
+
     ghost made = { λ rule. encoding rule.0 };
 
     fn next(&self, text: &str, from: usize) -> Option<Found<'_>> {
@@ -40,7 +40,11 @@ pub fn next_escape(class: Class, text: &str, from: usize) -> Option<Found<'stati
     if start == bytes.len() {
         return None;
     }
-    Some(Found { start, end: start + 1, replacement: reference(bytes[start]) })
+    Some(Found {
+        start,
+        end: start + 1,
+        replacement: reference(bytes[start]),
+    })
 }
 
 fn reference(byte: u8) -> Replacement<'static>
@@ -70,5 +74,9 @@ fn upper_hex_digit(digit: u8) -> u8
     ensures digit { result ≡ hex_digit digit }
     ensures ascii { result < 128 }
 {
-    if digit < 10 { b'0' + digit } else { b'A' + (digit - 10) }
+    if digit < 10 {
+        b'0' + digit
+    } else {
+        b'A' + (digit - 10)
+    }
 }

@@ -23,7 +23,10 @@ impl Counter {
     pub fn new() -> Counter
         ensures { counted result ≡ [] }
     {
-        Counter { count: 0, log: Log::new() }
+        Counter {
+            count: 0,
+            log: Log::new(),
+        }
     }
 
     /// The number of bytes taken.
@@ -40,9 +43,13 @@ impl Sink for Counter {
     type Fault = CountOverflow;
 
     ghost taken = { counted };
+
     ghost failures = { λ sink. sink.log.failures };
+
     ghost room = { λ sink. 2 ^ 64 - 1 - sink.count };
+
     ghost reference = { λ _. 0 };
+
     ghost before = { λ _. None };
 
     fn put(&mut self, piece: &str) -> Result<(), CountOverflow> {

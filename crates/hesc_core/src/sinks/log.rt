@@ -22,7 +22,9 @@ impl Log {
     pub fn new() -> Log
         ensures { (result.taken ≡ []) × (result.failures ≡ 0) }
     {
-        Log { marker: PhantomData }
+        Log {
+            marker: PhantomData,
+        }
     }
 
     /// The log after `bytes` were taken too.
@@ -46,6 +48,8 @@ impl Log {
         ghost said: { List ℕ × ℕ }
         ensures { (result.taken ≡ said.0) × (result.failures ≡ said.1) }
     {
-        Log { marker: PhantomData }
+        Log {
+            marker: PhantomData,
+        }
     }
 }

@@ -2,11 +2,10 @@
 ghost use Rattle.std.specs.Prelude.{◌≡◌, ◌-◌, [], ◌++◌, Some};
 ghost use Rattle.std.specs.String.{string_bytes, string_capacity, string_len};
 
-use std::alloc::{AllocError, Allocator};
-use std::snapshot::Snapshot;
-
 use crate::sink::Sink;
 use crate::sinks::log::Log;
+use std::alloc::{AllocError, Allocator};
+use std::snapshot::Snapshot;
 
 /// Appends to a string, which grows where its room runs out.
 #[derive(Drop)]
@@ -28,7 +27,11 @@ impl<'a, A: Allocator> StringSink<'a, A> {
         ensures nothing { string_sink_taken result ≡ [] }
     {
         let start = Snapshot::of(&*output);
-        StringSink { output, start, log: Log::new() }
+        StringSink {
+            output,
+            start,
+            log: Log::new(),
+        }
     }
 
     /// The output, to be used again: a caller knows of it only what is asked for here.
@@ -46,9 +49,13 @@ impl<A: Allocator> Sink for StringSink<'_, A> {
     type Fault = AllocError;
 
     ghost taken = { string_sink_taken };
+
     ghost failures = { λ sink. sink.log.failures };
+
     ghost room = { λ sink. string_capacity sink.output.now - string_len sink.output.now };
+
     ghost reference = { λ sink. (string_sink_output sink).ghost_name };
+
     ghost before = { λ sink. Some (string_bytes (string_sink_start sink)) };
 
     fn put(&mut self, piece: &str) -> Result<(), AllocError> {

@@ -2,11 +2,10 @@
 ghost use Rattle.std.specs.Prelude.{◌≡◌, ◌-◌, [], ◌++◌, Some, vec_len};
 ghost use Rattle.std.specs.Vec.{vec_capacity};
 
-use std::alloc::{AllocError, Allocator};
-use std::snapshot::Snapshot;
-
 use crate::sink::Sink;
 use crate::sinks::log::Log;
+use std::alloc::{AllocError, Allocator};
+use std::snapshot::Snapshot;
 
 /// Appends to a vector, which grows where its room runs out.
 #[derive(Drop)]
@@ -28,7 +27,11 @@ impl<'a, A: Allocator> VecSink<'a, A> {
         ensures nothing { vec_sink_taken result ≡ [] }
     {
         let start = Snapshot::of(&*output);
-        VecSink { output, start, log: Log::new() }
+        VecSink {
+            output,
+            start,
+            log: Log::new(),
+        }
     }
 
     /// The output, to be used again: a caller knows of it only what is asked for here.
@@ -46,9 +49,13 @@ impl<A: Allocator> Sink for VecSink<'_, A> {
     type Fault = AllocError;
 
     ghost taken = { vec_sink_taken };
+
     ghost failures = { λ sink. sink.log.failures };
+
     ghost room = { λ sink. vec_capacity sink.output.now - vec_len sink.output.now };
+
     ghost reference = { λ sink. (vec_sink_output sink).ghost_name };
+
     ghost before = { λ sink. Some (vec_sink_start sink).items };
 
     fn put(&mut self, piece: &str) -> Result<(), AllocError> {

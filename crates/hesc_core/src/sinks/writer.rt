@@ -2,11 +2,10 @@
 ghost use Rattle.std.specs.Prelude.{◌≡◌, []};
 ghost use Rattle.std.specs.Io.KnownBytes.{Appends};
 
-use std::io::{self, ErrorKind, Write};
-use std::snapshot::Snapshot;
-
 use crate::sink::Sink;
 use crate::sinks::log::Log;
+use std::io::{self, ErrorKind, Write};
+use std::snapshot::Snapshot;
 
 /// Writes to a writer, which it never flushes.
 ///
@@ -17,9 +16,7 @@ pub struct WriterSink<'a, W: Write> {
     output: &'a mut W,
     start: Snapshot<W>,
     log: Log,
-    pub ghost told: {
-        ∥ Appends (W.contents start.value) (W.contents output.now) log.taken ∥₁
-    },
+    pub ghost told: { ∥ Appends (W.contents start.value) (W.contents output.now) log.taken ∥₁ },
 }
 
 impl<'a, W: Write> WriterSink<'a, W> {
@@ -33,7 +30,11 @@ impl<'a, W: Write> WriterSink<'a, W> {
         ensures nothing { writer_sink_taken result ≡ [] }
     {
         let start = Snapshot::of(&*output);
-        WriterSink { output, start, log: Log::new() }
+        WriterSink {
+            output,
+            start,
+            log: Log::new(),
+        }
     }
 
     /// The output, to be used again: a caller knows of it only what is asked for here.
@@ -51,9 +52,13 @@ impl<W: Write> Sink for WriterSink<'_, W> {
     type Fault = io::Error;
 
     ghost taken = { writer_sink_taken };
+
     ghost failures = { λ sink. sink.log.failures };
+
     ghost room = { λ _. 0 };
+
     ghost reference = { λ sink. (writer_sink_output sink).ghost_name };
+
     ghost before = { λ sink. W.contents (writer_sink_start sink) };
 
     fn put(&mut self, piece: &str) -> Result<(), io::Error> {

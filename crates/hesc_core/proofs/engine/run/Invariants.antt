@@ -10,5 +10,5 @@ invariant-loop-piece g l = record {
   room : g.S.Sink.room l.initial.sink + length (joined (parts_left l.piece-iterator)) ≤ g.S.Sink.room l.sink + length (g.R.Rule.made l.rule l.text);
   failures : g.S.Sink.failures l.sink ≡ g.S.Sink.failures l.initial.sink;
   reference : g.S.Sink.reference l.sink ≡ g.S.Sink.reference l.initial.sink;
-  before : g.S.Sink.before l.sink ≡ g.S.Sink.before l.initial.sink
+  before : g.S.Sink.before l.sink ≡ g.S.Sink.before l.initial.sink;
 }

@@ -1,6 +1,6 @@
-use Rattle.std.proofs.Common.{◌≡◌, ap, sym, ◌∙◌, ◌++◌, []}
+use Rattle.std.proofs.Common.{◌≡◌, ap, sym, ◌∙◌, arith}
 use Rattle.std.proofs.lemmas.Result.{on_ok_weaker, on_err_weaker}
-use Rattle.hesc_core.specs.Sinks.{writer_sink_output, writer_sink_start, writer_sink_taken}
+use Rattle.hesc_core.specs.Sinks.{writer_sink_output, writer_sink_start}
 use Rattle.hesc_core.proofs.Told.{told-all}
 use Rattle.hesc_core.proofs.forms.writer.to_writer.Goals as goal
 
@@ -12,10 +12,11 @@ last-told g c =
     let same = sym (c.into_output-output.ensures.same_reference ∙ c.run-outcome.ensures.same_reference ∙ c.new-sink.ensures.same_reference) in
     ap g.W.Write.contents (sym (c.output-1.given.1 same ∙ c.into_output-output.ensures.value))
 
-pub returns-clause-ok : goal.returns-clause-ok
-returns-clause-ok g c =
-    on_ok_weaker c.run-outcome.result (λ taken. told-all _ _ _ _ _ _ (first-told g c) (last-told g c) (rw c.new-sink.ensures.nothing at taken) c.run-outcome.new.sink.told) c.run-outcome.ensures.ok_taken
-
-pub returns-clause-err : goal.returns-clause-err
-returns-clause-err g c =
-    on_err_weaker c.run-outcome.result (λ taken. (taken.0, (told-all _ _ _ _ _ _ (first-told g c) (last-told g c) (rw c.new-sink.ensures.nothing at taken.1.0) c.run-outcome.new.sink.told, taken.1.1))) c.run-outcome.ensures.err_taken
+pub returns : goal.returns
+returns g c = record {
+  all = on_ok_weaker c.run-outcome.result (λ taken. told-all _ _ _ _ _ _ (first-told g c) (last-told g c) (rw c.new-sink.ensures.nothing at taken) c.run-outcome.new.sink.told) c.run-outcome.ensures.ok_taken;
+  began = on_err_weaker c.run-outcome.result
+      (λ taken. (taken.0, (told-all _ _ _ _ _ _ (first-told g c) (last-told g c) (rw c.new-sink.ensures.nothing at taken.1.0) c.run-outcome.new.sink.told, taken.1.1)))
+      c.run-outcome.ensures.err_taken;
+  empty = λ none. c.run-outcome.ensures.fits (rw none (omega arith));
+}

@@ -9,7 +9,7 @@ invariant-finding g l = record {
   pending : l.self.pending ≡ None;
   is_done : l.self.is_done ≡ false;
   text : l.self.text ≡ l.initial.self.text;
-  rule : l.self.rule ≡ l.initial.self.rule
+  rule : l.self.rule ≡ l.initial.self.rule;
 }
 
 abbrev pub decreases-finding : goal.decreases-finding

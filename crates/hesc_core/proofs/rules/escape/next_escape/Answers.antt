@@ -1,4 +1,4 @@
-use Rattle.std.proofs.Common.{◌≡◌, ◌<◌, ◌≤◌, length, sym, ◌∙◌, arith, slice_index}
+use Rattle.std.proofs.Common.{◌<◌, length, ◌∙◌, arith, slice_index}
 use Rattle.std.proofs.lemmas.Str.{IsCharBoundary-before_ascii, IsCharBoundary-after_ascii}
 use Rattle.hesc_specs.specs.Classes.{in_class}
 use Rattle.hesc_specs.specs.FirstPlace.{IsFirstPlace}
@@ -23,5 +23,5 @@ returns-clause-found c =
       within = omega arith;
       start_boundary = IsCharBoundary-before_ascii c.args.text.now c.first_in-start.result within ascii;
       end_boundary = IsCharBoundary-after_ascii c.args.text.now c.first_in-start.result c.utf8.text within ascii;
-      changes = rw (c.reference.ensures, c.as_bytes-bytes.ensures.value) (next-html_changes c.args.class c.args.text.now c.args.from c.first_in-start.result first within)
+      changes = rw (c.reference.ensures, c.as_bytes-bytes.ensures.value) (next-html_changes c.args.class c.args.text.now c.args.from c.first_in-start.result first within);
     }

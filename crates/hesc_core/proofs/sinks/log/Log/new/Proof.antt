@@ -1,10 +1,9 @@
 -- `new` makes a value of no bytes, whose ghost fields say that nothing was taken.
-use Rattle.std.proofs.Common.{ℕ, List, [], ◌∷◌, refl}
+use Rattle.std.proofs.Common.{[], ◌∷◌, refl}
 use Rattle.std.proofs.raw_atomic.Walks.{proved}
 use base.Fml.{Fml}
 use mir.Val.{Val, vstruct, vcons, vnil}
-use contract.Running.{tables}
-use types.Kit.{‵, raw, ◌$◌, ◌∵◌, !, qed, keep, join, use0, suffices, done}
+use types.Kit.{‵, raw, ◌$◌, ◌∵◌, !, qed, keep, use0, suffices, done}
 use types.Run.{no_more, and_then, returns, enter}
 use types.Part.{agg}
 use types.ByLocal.{alloc_all, pass_all, free_all, look_at, get, sets}

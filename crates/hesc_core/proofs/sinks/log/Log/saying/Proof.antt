@@ -1,9 +1,8 @@
 -- `saying` makes a value of no bytes, whose ghost fields are what the caller picks.
-use Rattle.std.proofs.Common.{ℕ, List, [], ◌∷◌, refl}
+use Rattle.std.proofs.Common.{[], ◌∷◌, refl}
 use Rattle.std.proofs.raw_atomic.Walks.{proved}
 use base.Fml.{Fml}
 use mir.Val.{Val, vstruct, vcons, vnil}
-use contract.Running.{tables}
 use types.Kit.{‵, raw, ◌⊛◌, move, fjoin, ◌$◌, ◌∵◌, !, qed, keep, join, use0, suffices, done, split}
 use types.Run.{no_more, and_then, returns, enter}
 use types.Part.{agg}
@@ -15,7 +14,7 @@ use denote.Ref.{shr_vals, shr_Tells}
 use denote.Slice.{shr_slice_vals, shr_slice_Tells}
 use denote.Signature.{type_at, plain, name_of, meet_at}
 use denote.Steps.{nothing}
-use denote.Triple.Entry.{on_entry, alive, Res}
+use denote.Triple.Entry.{alive, Res}
 use denote.RattleType.{owns}
 use denote.Signature.{types_at}
 use denote.Triple.Walked.{Stays, stay_dropped, Goes-dropped, walk_of, says, ends_at}

@@ -8,7 +8,7 @@ invariant-offering g l = record {
   progress : Progress (writer_sink_taken l.initial.self) (writer_sink_taken l.self) l.left l.piece;
   failures : l.self.log.failures ≡ l.initial.self.log.failures;
   reference : (writer_sink_output l.self).ghost_name ≡ (writer_sink_output l.initial.self).ghost_name;
-  start : writer_sink_start l.self ≡ writer_sink_start l.initial.self
+  start : writer_sink_start l.self ≡ writer_sink_start l.initial.self;
 }
 
 abbrev pub decreases-offering : goal.decreases-offering
