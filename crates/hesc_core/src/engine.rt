@@ -11,10 +11,12 @@ use crate::sink::Sink;
 /// On success the sink took exactly that. On the sink's fault, which is handed on at once, it took
 /// a beginning of it.
 pub fn run<R: Rule, S: Sink>(rule: &R, text: &str, sink: &mut S) -> Result<(), S::Fault>
-    ensures ok_taken { OnOk result (S.taken sink.new ≡ S.taken sink.old ++ R.made rule.now text.now) }
+    ensures ok_taken { OnOk result
+        (S.taken sink.new ≡ S.taken sink.old ++ R.made rule.now text.now) }
     ensures ok_failures { OnOk result (S.failures sink.new ≡ S.failures sink.old) }
     ensures err_some { OnErr result (R.made rule.now text.now ≢ []) }
-    ensures err_taken { OnErr result (TookBeginning (S.taken sink.old) (S.taken sink.new) (R.made rule.now text.now)) }
+    ensures err_taken { OnErr result
+        (TookBeginning (S.taken sink.old) (S.taken sink.new) (R.made rule.now text.now)) }
     ensures err_failures { OnErr result (S.failures sink.old < S.failures sink.new) }
     ensures fits { length (R.made rule.now text.now) ≤ S.room sink.old → IsOk result }
     ensures same_reference { S.reference sink.new ≡ S.reference sink.old }

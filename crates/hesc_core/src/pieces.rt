@@ -52,7 +52,8 @@ impl<'t, R: Rule> Pieces<'t, R> {
     /// The pieces of what `rule` makes of `text`.
     pub fn new(rule: &'t R, text: &'t str) -> Pieces<'t, R>
         ensures pieces { parts_left result ≡ parts text.now 0 (R.changes_from rule.now text.now 0) }
-        ensures joined { joined (parts text.now 0 (R.changes_from rule.now text.now 0)) ≡ R.made rule.now text.now }
+        ensures joined { joined (parts text.now 0 (R.changes_from rule.now text.now 0))
+            ≡ R.made rule.now text.now }
         ensures few { length (parts text.now 0 (R.changes_from rule.now text.now 0))
             ≤ 2 * length (R.changes_from rule.now text.now 0) + 1 }
     {

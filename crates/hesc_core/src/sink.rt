@@ -25,7 +25,8 @@ pub trait Sink {
     fn put(&mut self, piece: &str) -> Result<(), Self::Fault>
         ensures ok_taken { OnOk result (taken self.new ≡ taken self.old ++ piece.now) }
         ensures ok_failures { OnOk result (failures self.new ≡ failures self.old) }
-        ensures err_taken { OnErr result (TookBeginning (taken self.old) (taken self.new) piece.now) }
+        ensures err_taken { OnErr result
+            (TookBeginning (taken self.old) (taken self.new) piece.now) }
         ensures err_failures { OnErr result (failures self.new ≡ failures self.old + 1) }
 
         // Room for the piece is enough, and no more room than that is lost.

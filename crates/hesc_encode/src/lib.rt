@@ -2,8 +2,37 @@
 //! string or a vector, or written.
 #![tactic(auto)]
 
+pub mod double_quoted_attribute;
+pub mod quoted_attribute;
+pub mod safe;
+pub mod single_quoted_attribute;
 pub mod text;
+pub mod text_minimal;
+pub mod unquoted_attribute;
 
+pub use crate::double_quoted_attribute::{
+    encode_double_quoted_attribute, encode_double_quoted_attribute_to_string,
+    encode_double_quoted_attribute_to_vec, encode_double_quoted_attribute_to_writer,
+};
+pub use crate::quoted_attribute::{
+    encode_quoted_attribute, encode_quoted_attribute_to_string, encode_quoted_attribute_to_vec,
+    encode_quoted_attribute_to_writer,
+};
+pub use crate::safe::{
+    encode_safe, encode_safe_to_string, encode_safe_to_vec, encode_safe_to_writer,
+};
+pub use crate::single_quoted_attribute::{
+    encode_single_quoted_attribute, encode_single_quoted_attribute_to_string,
+    encode_single_quoted_attribute_to_vec, encode_single_quoted_attribute_to_writer,
+};
 pub use crate::text::{
     encode_text, encode_text_to_string, encode_text_to_vec, encode_text_to_writer,
+};
+pub use crate::text_minimal::{
+    encode_text_minimal, encode_text_minimal_to_string, encode_text_minimal_to_vec,
+    encode_text_minimal_to_writer,
+};
+pub use crate::unquoted_attribute::{
+    encode_unquoted_attribute, encode_unquoted_attribute_to_string,
+    encode_unquoted_attribute_to_vec, encode_unquoted_attribute_to_writer,
 };

@@ -21,7 +21,8 @@ use std::io::{self, Write};
 
 /// The encoding of `text`. Where nothing changes it is `text` itself, and takes no memory.
 pub fn encode_text<'t, A: Allocator>(alloc: A, text: &'t str) -> Result<CowStr<'t, A>, AllocError>
-    ensures { AnswersText text.now (encoding Class.Text text.now) (html_changes Class.Text text.now 0) result }
+    ensures { AnswersText text.now (encoding Class.Text text.now)
+        (html_changes Class.Text text.now 0) result }
 {
     to_cow(alloc, &Escape(Class::Text), text)
 }
@@ -32,8 +33,10 @@ pub fn encode_text_to_string<'o, A: Allocator>(
     text: &str,
     output: &'o mut String<A>,
 ) -> Result<&'o str, AllocError>
-    ensures part { AnswersPart (string_room output.old) (encoding Class.Text text.now) result }
-    ensures* appended { sem 𝓛 (StringAppended A.row A.Allocator output.entry (encoding Class.Text text.now) result) }
+    ensures part { AnswersPart (string_room output.old)
+        (encoding Class.Text text.now) result }
+    ensures* appended { sem 𝓛 (StringAppended A.row A.Allocator output.entry
+        (encoding Class.Text text.now) result) }
 {
     encode_text_onto_string(output, text)
 }
@@ -44,15 +47,18 @@ pub fn encode_text_to_vec<'o, A: Allocator>(
     text: &str,
     output: &'o mut Vec<u8, A>,
 ) -> Result<&'o [u8], AllocError>
-    ensures part { AnswersPart (vec_room output.old) (encoding Class.Text text.now) result }
-    ensures* appended { sem 𝓛 (VecAppended A.row A.Allocator output.entry (encoding Class.Text text.now) result) }
+    ensures part { AnswersPart (vec_room output.old)
+        (encoding Class.Text text.now) result }
+    ensures* appended { sem 𝓛 (VecAppended A.row A.Allocator output.entry
+        (encoding Class.Text text.now) result) }
 {
     encode_text_onto_vec(output, text)
 }
 
 /// Writes the encoding of `text` to `output`, or a beginning of it and then the writer's fault.
 pub fn encode_text_to_writer<W: Write>(text: &str, output: &mut W) -> Result<(), io::Error>
-    ensures { WritesText (W.contents output.old) (W.contents output.new) (encoding Class.Text text.now) result }
+    ensures { WritesText (W.contents output.old) (W.contents output.new)
+        (encoding Class.Text text.now) result }
 {
     to_writer(&Escape(Class::Text), text, output)
 }
@@ -61,8 +67,10 @@ fn encode_text_onto_string<'o, A: Allocator>(
     output: &'o mut String<A>,
     text: &str,
 ) -> Result<&'o str, AllocError>
-    ensures part { AnswersPart (string_room output.old) (encoding Class.Text text.now) result }
-    ensures* appended { sem 𝓛 (StringAppended A.row A.Allocator output.entry (encoding Class.Text text.now) result) }
+    ensures part { AnswersPart (string_room output.old)
+        (encoding Class.Text text.now) result }
+    ensures* appended { sem 𝓛 (StringAppended A.row A.Allocator output.entry
+        (encoding Class.Text text.now) result) }
 {
     onto_string(output, &Escape(Class::Text), text)
 }
@@ -71,8 +79,10 @@ fn encode_text_onto_vec<'o, A: Allocator>(
     output: &'o mut Vec<u8, A>,
     text: &str,
 ) -> Result<&'o [u8], AllocError>
-    ensures part { AnswersPart (vec_room output.old) (encoding Class.Text text.now) result }
-    ensures* appended { sem 𝓛 (VecAppended A.row A.Allocator output.entry (encoding Class.Text text.now) result) }
+    ensures part { AnswersPart (vec_room output.old)
+        (encoding Class.Text text.now) result }
+    ensures* appended { sem 𝓛 (VecAppended A.row A.Allocator output.entry
+        (encoding Class.Text text.now) result) }
 {
     onto_vec(output, &Escape(Class::Text), text)
 }

@@ -12,7 +12,8 @@ pub fn to_cow<'t, R: Rule, A: Allocator>(
     rule: &R,
     text: &'t str,
 ) -> Result<CowStr<'t, A>, AllocError>
-    ensures { AnswersText text.now (R.made rule.now text.now) (R.changes_from rule.now text.now 0) result }
+    ensures { AnswersText text.now (R.made rule.now text.now)
+        (R.changes_from rule.now text.now 0) result }
 {
     if rule.next(text, 0).is_none() {
         return Ok(CowStr::Borrowed(text));

@@ -17,7 +17,8 @@ pub fn append_to_string<R: Rule, A: Allocator>(
     rule: &R,
     text: &str,
 ) -> Result<(), AllocError>
-    ensures appended { Appended (string_bytes output.old) (string_bytes output.new) (R.made rule.now text.now) result }
+    ensures appended { Appended (string_bytes output.old) (string_bytes output.new)
+        (R.made rule.now text.now) result }
     ensures fits { length (R.made rule.now text.now) ≤ string_room output.old → IsOk result }
 {
     let Ok(count) = measure(rule, text) else {
@@ -41,7 +42,8 @@ pub fn onto_string<'o, R: Rule, A: Allocator>(
     text: &str,
 ) -> Result<&'o str, AllocError>
     ensures part { AnswersPart (string_room output.old) (R.made rule.now text.now) result }
-    ensures* appended { sem 𝓛 (StringAppended A.row A.Allocator output.entry (R.made rule.now text.now) result) }
+    ensures* appended { sem 𝓛 (StringAppended A.row A.Allocator output.entry
+        (R.made rule.now text.now) result) }
 {
     let start = output.as_str().len();
     append_to_string(output, rule, text)?;

@@ -15,7 +15,8 @@ pub fn append_to_vec<R: Rule, A: Allocator>(
     rule: &R,
     text: &str,
 ) -> Result<(), AllocError>
-    ensures appended { Appended output.old.items output.new.items (R.made rule.now text.now) result }
+    ensures appended { Appended output.old.items output.new.items
+        (R.made rule.now text.now) result }
     ensures fits { length (R.made rule.now text.now) ≤ vec_room output.old → IsOk result }
 {
     let Ok(count) = measure(rule, text) else {
@@ -39,7 +40,8 @@ pub fn onto_vec<'o, R: Rule, A: Allocator>(
     text: &str,
 ) -> Result<&'o [u8], AllocError>
     ensures part { AnswersPart (vec_room output.old) (R.made rule.now text.now) result }
-    ensures* appended { sem 𝓛 (VecAppended A.row A.Allocator output.entry (R.made rule.now text.now) result) }
+    ensures* appended { sem 𝓛 (VecAppended A.row A.Allocator output.entry
+        (R.made rule.now text.now) result) }
 {
     let start = output.len();
     append_to_vec(output, rule, text)?;

@@ -1,0 +1,60 @@
+//! The encoders by name.
+ghost use Rattle.std.specs.Prelude.{◌≡◌, [], IfNone, IfSome};
+ghost use Rattle.std.specs.Str.{IsCharBoundary};
+ghost use Rattle.hesc_core.specs.Next.{IsNext};
+ghost use Rattle.html_escape.specs.Encoders.{
+  applied-encoder_changes,
+  encoded,
+  encoder_changes,
+};
+
+use hesc_core::rules::next_escape;
+use hesc_core::{Class, Found, Rule};
+
+/// An encoder by its name.
+#[derive(Clone, Copy, Debug, PartialEq, Eq)]
+pub enum Encoder {
+    /// Replaces `&` and `<`.
+    TextMinimal,
+    /// Replaces `&`, `<` and `>`.
+    Text,
+    /// Replaces those of `Text`, and `"`.
+    DoubleQuotedAttribute,
+    /// Replaces those of `Text`, and `'`.
+    SingleQuotedAttribute,
+    /// Replaces those of `Text`, and both `"` and `'`.
+    QuotedAttribute,
+    /// Replaces those of `QuotedAttribute`, and `/`.
+    Safe,
+    /// Replaces all of ASCII but letters and digits.
+    UnquotedAttribute,
+}
+
+impl Rule for Encoder {
+    ghost changes_from = { encoder_changes };
+
+    ghost made = { encoded };
+
+    fn next(&self, text: &str, from: usize) -> Option<Found<'_>> {
+        next_encoded(*self, text, from)
+    }
+
+    ghost makes = { λ encoder source _. applied-encoder_changes encoder source };
+}
+
+/// The first change of the encoder at or after `from`, a character boundary.
+pub fn next_encoded(encoder: Encoder, text: &str, from: usize) -> Option<Found<'static>>
+    requires { IsCharBoundary text.now from }
+    ensures none { IfNone result (encoder_changes encoder text.now from ≡ []) }
+    ensures found { IfSome result (IsNext text.now from (encoder_changes encoder text.now)) }
+{
+    match encoder {
+        Encoder::TextMinimal => next_escape(Class::TextMinimal, text, from),
+        Encoder::Text => next_escape(Class::Text, text, from),
+        Encoder::DoubleQuotedAttribute => next_escape(Class::DoubleQuotedAttribute, text, from),
+        Encoder::SingleQuotedAttribute => next_escape(Class::SingleQuotedAttribute, text, from),
+        Encoder::QuotedAttribute => next_escape(Class::QuotedAttribute, text, from),
+        Encoder::Safe => next_escape(Class::Safe, text, from),
+        Encoder::UnquotedAttribute => next_escape(Class::UnquotedAttribute, text, from),
+    }
+}

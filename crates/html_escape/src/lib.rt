@@ -1,0 +1,24 @@
+//! Escapes any text for a place of an HTML page, and proves that it comes back.
+//!
+//! Each encoder has four forms: `encode_text` answers a text that borrows where nothing changes,
+//! `encode_text_to_string` and `encode_text_to_vec` append, and `encode_text_to_writer` writes. An
+//! [`Encoder`] is an encoder as a value.
+#![tactic(auto)]
+
+pub mod encoder;
+
+pub use crate::encoder::Encoder;
+pub use hesc_core::{Piece, Pieces};
+pub use hesc_encode::{
+    encode_double_quoted_attribute, encode_double_quoted_attribute_to_string,
+    encode_double_quoted_attribute_to_vec, encode_double_quoted_attribute_to_writer,
+    encode_quoted_attribute, encode_quoted_attribute_to_string, encode_quoted_attribute_to_vec,
+    encode_quoted_attribute_to_writer, encode_safe, encode_safe_to_string, encode_safe_to_vec,
+    encode_safe_to_writer, encode_single_quoted_attribute,
+    encode_single_quoted_attribute_to_string, encode_single_quoted_attribute_to_vec,
+    encode_single_quoted_attribute_to_writer, encode_text, encode_text_minimal,
+    encode_text_minimal_to_string, encode_text_minimal_to_vec, encode_text_minimal_to_writer,
+    encode_text_to_string, encode_text_to_vec, encode_text_to_writer, encode_unquoted_attribute,
+    encode_unquoted_attribute_to_string, encode_unquoted_attribute_to_vec,
+    encode_unquoted_attribute_to_writer,
+};
