@@ -31,13 +31,15 @@ pub struct Weakness {
 pub struct WeakWriter {
     pub taken: Vec<u8>,
     pub calls: u64,
-    weakness: Weakness,
+    pub weakness: Weakness,
 }
 
 impl WeakWriter {
     /// A writer that has taken nothing. With a step of 0 it never takes a byte.
     pub fn new(alloc: Global, weakness: Weakness) -> WeakWriter
-        ensures { result.taken.items ≡ [] }
+        ensures empty { result.taken.items ≡ [] }
+        ensures uncalled { result.calls ≡ 0 }
+        ensures weak { result.weakness ≡ weakness }
     {
         WeakWriter {
             taken: Vec::new(alloc),
@@ -75,13 +77,15 @@ impl Write for WeakWriter {
 pub struct WeakReader<'a> {
     pub left: &'a [u8],
     pub calls: u64,
-    weakness: Weakness,
+    pub weakness: Weakness,
 }
 
 impl<'a> WeakReader<'a> {
     /// A reader that has the whole slice left. A step of 0 stands for 1.
     pub fn new(left: &'a [u8], weakness: Weakness) -> WeakReader<'a>
-        ensures { result.left.now ≡ left.now }
+        ensures whole { result.left.now ≡ left.now }
+        ensures uncalled { result.calls ≡ 0 }
+        ensures weak { result.weakness ≡ weakness }
     {
         WeakReader {
             left,
