@@ -1,1 +1,4 @@
+pub mod HexDigits
 pub mod HtmlImages
+pub mod JoinedTexts
+pub mod DifferentTexts
