@@ -21,10 +21,14 @@ pub enum Place {
 /// What ends an attribute's value without quotes: white space, or the `>` of the tag.
 #[derive(Clone, Copy, Debug, PartialEq, Eq)]
 pub enum End {
+    /// The byte 09 hex.
     Tab,
+    /// The byte 0A hex.
     LineFeed,
+    /// The byte 0C hex.
     FormFeed,
+    /// The byte 20 hex.
     Space,
-    /// `>`
+    /// The byte 3E hex, `>`.
     Greater,
 }
