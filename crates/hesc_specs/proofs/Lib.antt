@@ -1,3 +1,6 @@
-pub mod PartLemmas
-pub mod ClassLemmas
+pub mod DifferentTexts
+pub mod HexDigits
 pub mod HtmlChanges
+pub mod HtmlImages
+pub mod JoinedTexts
+pub mod PartLemmas

@@ -1,6 +1,18 @@
 -- The ASCII bytes that the definitions name.
 use Rattle.std.specs.Prelude.{ℕ}
 
+abbrev pub tab : ℕ
+tab = 9
+
+abbrev pub line_feed : ℕ
+line_feed = 10
+
+abbrev pub form_feed : ℕ
+form_feed = 12
+
+abbrev pub space : ℕ
+space = 32
+
 abbrev pub double_quote : ℕ
 double_quote = 34
 
@@ -19,5 +31,11 @@ semicolon = 59
 abbrev pub less_than : ℕ
 less_than = 60
 
+abbrev pub equals_sign : ℕ
+equals_sign = 61
+
 abbrev pub greater_than : ℕ
 greater_than = 62
+
+abbrev pub backtick : ℕ
+backtick = 96

@@ -1,0 +1,29 @@
+-- The opening and closing marks of the places.
+use Rattle.std.specs.Prelude.{ℕ, List, [], ◌∷◌}
+use Rattle.hesc_specs.specs.Ascii.{tab, line_feed, form_feed, space, double_quote, single_quote, less_than, equals_sign, greater_than}
+use Rattle.hesc_places.specs.declared.places.End.{End}
+use Rattle.hesc_places.specs.declared.places.End.TheVariants.{Tab, LineFeed, FormFeed, Space, Greater}
+use Rattle.hesc_places.specs.declared.places.Place.{Place}
+use Rattle.hesc_places.specs.declared.places.Place.TheVariants.{Text, DoubleAttribute, SingleAttribute, UnquotedAttribute}
+
+-- the byte of an ending
+abbrev pub end_byte : End → ℕ
+end_byte Tab = tab
+end_byte LineFeed = line_feed
+end_byte FormFeed = form_feed
+end_byte Space = space
+end_byte Greater = greater_than
+
+-- the mark behind which a place begins
+abbrev pub opening : Place → List ℕ
+opening Text = greater_than ∷ []
+opening DoubleAttribute = double_quote ∷ []
+opening SingleAttribute = single_quote ∷ []
+opening (UnquotedAttribute end) = equals_sign ∷ []
+
+-- the mark at which a place ends
+abbrev pub closing : Place → List ℕ
+closing Text = less_than ∷ []
+closing DoubleAttribute = double_quote ∷ []
+closing SingleAttribute = single_quote ∷ []
+closing (UnquotedAttribute end) = end_byte end ∷ []

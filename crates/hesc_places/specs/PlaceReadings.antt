@@ -1,0 +1,29 @@
+-- The grammar of each place, and its reading.
+use Rattle.std.specs.Prelude.{ℕ, List, Option}
+use Rattle.hesc_specs.specs.Ascii.{double_quote, single_quote, less_than}
+use Rattle.hesc_places.specs.declared.grammar.Mode.{Mode}
+use Rattle.hesc_places.specs.declared.grammar.Mode.TheVariants.{Empty, Plain}
+use Rattle.hesc_places.specs.declared.grammar.Step.{Step}
+use Rattle.hesc_places.specs.declared.places.Place.{Place}
+use Rattle.hesc_places.specs.declared.places.Place.TheVariants.{Text, DoubleAttribute, SingleAttribute, UnquotedAttribute}
+use Rattle.hesc_places.specs.HtmlReadings.{marked_step, unquoted_step}
+use Rattle.hesc_places.specs.Marks.{end_byte}
+use Rattle.hesc_places.specs.Reading.{reading_after}
+
+-- what begins at a position of a place
+abbrev pub step_of : Place → Mode → List ℕ → Step
+step_of Text = marked_step less_than
+step_of DoubleAttribute = marked_step double_quote
+step_of SingleAttribute = marked_step single_quote
+step_of (UnquotedAttribute end) = unquoted_step (end_byte end)
+
+-- the mode at the opening mark: an unquoted value has at least one item
+abbrev pub first_mode : Place → Mode
+first_mode Text = Plain
+first_mode DoubleAttribute = Plain
+first_mode SingleAttribute = Plain
+first_mode (UnquotedAttribute end) = Empty
+
+-- the reading of the bytes behind a place's opening mark: a value and an end, if there is one
+abbrev pub reading : Place → List ℕ → Option (List ℕ × ℕ)
+reading place bytes = reading_after (step_of place) 0 (first_mode place) bytes

@@ -1,0 +1,23 @@
+/// How far a reading is.
+#[derive(Clone, Copy, Debug, PartialEq, Eq)]
+pub enum Mode {
+    /// No item has been read, and at least one must be.
+    Empty,
+    /// Any item or the end may follow.
+    Plain,
+}
+
+/// What begins at a position of a place: its end, an item, or nothing that its grammar knows.
+#[derive(Clone, Copy, Debug, PartialEq, Eq)]
+pub enum Step {
+    /// The closing mark.
+    Close,
+    /// An item that is read as one byte: how many bytes it has after its first, the byte, and the
+    /// mode after it.
+    Byte(usize, u8, Mode),
+    /// An item that is read as one character: how many bytes it has after its first, the
+    /// character, and the mode after it.
+    Character(usize, char, Mode),
+    /// There is no reading.
+    Nothing,
+}

@@ -1,0 +1,15 @@
+//! The places of an HTML page where a text may stand, how each is read, and which encoder suits it.
+//!
+//! A place begins behind its opening mark. Its grammar, which comes from a public standard, says
+//! where it ends and what it holds. The law of places ties the two sides: what a suiting encoder
+//! wrote ends exactly at the closing mark, whatever follows, and is read as the text.
+#![tactic(auto)]
+
+mod grammar;
+pub mod laws;
+mod marks;
+mod places;
+mod suiting;
+
+pub use crate::places::{End, Place};
+pub use crate::suiting::suits;

@@ -1,0 +1,32 @@
+ghost use Rattle.std.specs.Prelude.{◌≡◌};
+ghost use Rattle.hesc_places.specs.Marks.{opening, closing};
+
+use crate::places::{End, Place};
+
+/// The mark behind which a place begins.
+pub(crate) fn opening(place: Place) -> &'static str
+    ensures { result.now ≡ opening place }
+{
+    match place {
+        Place::Text => ">",
+        Place::DoubleAttribute => "\"",
+        Place::SingleAttribute => "'",
+        Place::UnquotedAttribute(_) => "=",
+    }
+}
+
+/// The mark at which a place ends.
+pub(crate) fn closing(place: Place) -> &'static str
+    ensures { result.now ≡ closing place }
+{
+    match place {
+        Place::Text => "<",
+        Place::DoubleAttribute => "\"",
+        Place::SingleAttribute => "'",
+        Place::UnquotedAttribute(End::Tab) => "\t",
+        Place::UnquotedAttribute(End::LineFeed) => "\n",
+        Place::UnquotedAttribute(End::FormFeed) => "\u{c}",
+        Place::UnquotedAttribute(End::Space) => " ",
+        Place::UnquotedAttribute(End::Greater) => ">",
+    }
+}

@@ -1,0 +1,34 @@
+/// A place of a page where a text may stand.
+///
+/// | place | opening mark | closing mark |
+/// |---|---|---|
+/// | `Text` | `>` | `<` |
+/// | `DoubleAttribute` | `"` | `"` |
+/// | `SingleAttribute` | `'` | `'` |
+/// | `UnquotedAttribute` | `=` | its ending |
+#[derive(Clone, Copy, Debug, PartialEq, Eq)]
+pub enum Place {
+    /// The text between two tags.
+    Text,
+    /// An attribute's value in double quotes.
+    DoubleAttribute,
+    /// An attribute's value in single quotes.
+    SingleAttribute,
+    /// An attribute's value without quotes, and what stands right after it. It may not be empty.
+    UnquotedAttribute(End),
+}
+
+/// What ends an attribute's value without quotes: white space, or the `>` of the tag.
+#[derive(Clone, Copy, Debug, PartialEq, Eq)]
+pub enum End {
+    /// The byte 09 hex.
+    Tab,
+    /// The byte 0A hex.
+    LineFeed,
+    /// The byte 0C hex.
+    FormFeed,
+    /// The byte 20 hex.
+    Space,
+    /// The byte 3E hex, `>`.
+    Greater,
+}

@@ -1,0 +1,36 @@
+ghost use Rattle.std.specs.Prelude.{◌≡◌};
+ghost use Rattle.hesc_places.specs.Suits.{suits};
+
+use crate::places::Place;
+use html_escape::Encoder;
+
+/// Whether what the encoder writes for any text can stand in the place.
+///
+/// | place | encoders that suit it |
+/// |---|---|
+/// | `Text` | the seven HTML encoders |
+/// | `DoubleAttribute` | `DoubleQuotedAttribute`, `QuotedAttribute`, `Safe`, `UnquotedAttribute` |
+/// | `SingleAttribute` | `SingleQuotedAttribute`, `QuotedAttribute`, `Safe`, `UnquotedAttribute` |
+/// | `UnquotedAttribute` | `UnquotedAttribute`, with a text that is not empty |
+pub fn suits(encoder: Encoder, place: Place) -> bool
+    ensures { result ≡ suits encoder place }
+{
+    match place {
+        Place::Text => true,
+        Place::DoubleAttribute => matches!(
+            encoder,
+            Encoder::DoubleQuotedAttribute
+                | Encoder::QuotedAttribute
+                | Encoder::Safe
+                | Encoder::UnquotedAttribute
+        ),
+        Place::SingleAttribute => matches!(
+            encoder,
+            Encoder::SingleQuotedAttribute
+                | Encoder::QuotedAttribute
+                | Encoder::Safe
+                | Encoder::UnquotedAttribute
+        ),
+        Place::UnquotedAttribute(_) => matches!(encoder, Encoder::UnquotedAttribute),
+    }
+}
