@@ -8,6 +8,7 @@
 pub mod engine;
 pub mod forms;
 pub mod found;
+pub mod laws;
 pub mod pieces;
 pub mod rule;
 pub mod rules;

@@ -8,7 +8,7 @@
 pub mod encoder;
 
 pub use crate::encoder::Encoder;
-pub use hesc_core::{Piece, Pieces};
+pub use hesc_core::{Piece, Pieces, laws};
 pub use hesc_encode::{
     encode_double_quoted_attribute, encode_double_quoted_attribute_to_string,
     encode_double_quoted_attribute_to_vec, encode_double_quoted_attribute_to_writer,
