@@ -10,13 +10,21 @@ use Rattle.hesc_tool.specs.declared.faults.Fault.TheVariants.{Usage, Read, NotUt
 -- the words name a command, and this is its answer to all that was read
 abbrev pub AnswersInput : List (List ℕ) → Option (List ℕ) → Option (List ℕ) → Result (List ℕ) Fault → Type 0
 AnswersInput words reader reader' answer =
-    (command : Command) × (input : List ℕ) × (words_of command ≡ words) × WasRead reader reader' input × Answers command input answer
+    (command : Command) × (input : List ℕ)
+    × (words_of command ≡ words) × WasRead reader reader' input × Answers command input answer
 
--- a run: its words; its reader before and after; its writer before and after; its answer
-abbrev pub RanAs : List (List ℕ) → Option (List ℕ) → Option (List ℕ) → Option (List ℕ) → Option (List ℕ) → Result (Unit {0}) Fault → Type 0
-RanAs words reader reader' writer writer' (Ok _) = (text : List ℕ) × AnswersInput words reader reader' (Ok text) × Appends writer writer' text
-RanAs words reader reader' writer writer' (Err Usage) = NamesNoCommand words × Keeps reader reader' × Keeps writer writer'
-RanAs words reader reader' writer writer' (Err Read) = NamesCommand words × Keeps writer writer'
-RanAs words reader reader' writer writer' (Err NotUtf8) = AnswersInput words reader reader' (Err NotUtf8) × Keeps writer writer'
-RanAs words reader reader' writer writer' (Err Memory) = NamesCommand words × Keeps writer writer'
-RanAs words reader reader' writer writer' (Err Write) = (text : List ℕ) × AnswersInput words reader reader' (Ok text) × AppendsBeginning writer writer' text
+-- a run, by its words, by its reader and its writer before and after, and by what it answers
+abbrev pub RanAs : List (List ℕ) → Option (List ℕ) → Option (List ℕ) → Option (List ℕ) → Option (List ℕ)
+    → Result (Unit {0}) Fault → Type 0
+RanAs words reader reader' writer writer' (Ok _) =
+    (text : List ℕ) × AnswersInput words reader reader' (Ok text) × Appends writer writer' text
+RanAs words reader reader' writer writer' (Err Usage) =
+    NamesNoCommand words × Keeps reader reader' × Keeps writer writer'
+RanAs words reader reader' writer writer' (Err Read) =
+    NamesCommand words × Keeps writer writer'
+RanAs words reader reader' writer writer' (Err NotUtf8) =
+    AnswersInput words reader reader' (Err NotUtf8) × Keeps writer writer'
+RanAs words reader reader' writer writer' (Err Memory) =
+    NamesCommand words × Keeps writer writer'
+RanAs words reader reader' writer writer' (Err Write) =
+    (text : List ℕ) × AnswersInput words reader reader' (Ok text) × AppendsBeginning writer writer' text

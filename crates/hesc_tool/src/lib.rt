@@ -11,17 +11,23 @@ mod commands;
 mod faults;
 mod steps;
 
+use crate::commands::command_of;
 pub use crate::faults::Fault;
-
+use crate::steps::{answer, read_whole};
 use std::alloc::Allocator;
 use std::io::{Read, Write};
 
-use crate::commands::command_of;
-use crate::steps::{answer, read_whole};
-
-/// Runs the command that the words name, over all that the reader has left. A fault of the writer
-/// leaves a beginning of the text behind; before any other fault nothing is written.
-pub fn run<A: Allocator, R: Read, W: Write>(alloc: A, args: &[&str], input: &mut R, output: &mut W) -> Result<(), Fault>
+/// Runs the command that `args`, the words after the program's name, name: reads all that `input`
+/// has left, and writes the command's text of it to `output`.
+///
+/// Nothing is written before all else has succeeded, so only `Fault::Write` leaves anything behind,
+/// a beginning of the text. A reader that never ends comes to `Fault::Memory`.
+pub fn run<A: Allocator, R: Read, W: Write>(
+    alloc: A,
+    args: &[&str],
+    input: &mut R,
+    output: &mut W,
+) -> Result<(), Fault>
     ensures { RanAs (map (λ word. word.now) args.now) (R.remaining input.old) (R.remaining input.new)
         (W.contents output.old) (W.contents output.new) result }
 {

@@ -1,23 +1,25 @@
-//! The steps of a run after its words: reading all of the input, and writing all of the text.
+//! The steps of a run after its words: all of the input is read, and the command's text of it is
+//! made and then written.
 ghost use Rattle.std.specs.Prelude.{◌≡◌, IfErr, IfOk, OnErr, OnOk};
 ghost use Rattle.std.specs.Io.KnownBytes.{Appends};
 ghost use Rattle.hesc_tool.specs.Steps.{AnsweredAs, AppendsBeginning, IsReadingFault, WasRead};
 ghost use Rattle.hesc_tool.specs.declared.faults.Fault.{Fault};
 
+use crate::commands::Command;
+use crate::faults::Fault;
+use html_escape::encode_text;
 use std::alloc::Allocator;
 use std::io::{Read, Write};
 use std::str;
 
-use crate::commands::Command;
-use crate::faults::Fault;
-use html_escape::encode_text;
-
 /// How many bytes a read is offered.
 const READ_SIZE: usize = 4096;
 
-/// All bytes that the reader has left. A read that fails for any reason is `Read`.
+/// All bytes that the reader has left. A read that fails for any reason is `Read`, and bytes for
+/// which there is no room are `Memory`.
 pub fn read_whole<A: Allocator, R: Read>(alloc: A, input: &mut R) -> Result<Vec<u8, A>, Fault>
-    ensures whole { IfOk result (λ bytes. WasRead (R.remaining input.old) (R.remaining input.new) bytes.items) }
+    ensures whole { IfOk result
+        (λ bytes. WasRead (R.remaining input.old) (R.remaining input.new) bytes.items) }
     ensures fault { IfErr result IsReadingFault }
 {
     let mut bytes = Vec::new(alloc);
@@ -38,7 +40,8 @@ pub fn read_whole<A: Allocator, R: Read>(alloc: A, input: &mut R) -> Result<Vec<
 /// Writes all of the bytes. A write that fails for any reason, or takes no byte, is `Write`.
 pub fn write_whole<W: Write>(bytes: &[u8], output: &mut W) -> Result<(), Fault>
     ensures all { OnOk result (Appends (W.contents output.old) (W.contents output.new) bytes.now) }
-    ensures began { OnErr result (AppendsBeginning (W.contents output.old) (W.contents output.new) bytes.now) }
+    ensures began { OnErr result
+        (AppendsBeginning (W.contents output.old) (W.contents output.new) bytes.now) }
     ensures fault { IfErr result (λ fault. fault ≡ Fault.Write) }
 {
     let mut at = 0;
@@ -55,7 +58,12 @@ pub fn write_whole<W: Write>(bytes: &[u8], output: &mut W) -> Result<(), Fault>
 }
 
 /// Makes the command's text of the whole input, and only then writes it.
-pub fn answer<A: Allocator, W: Write>(alloc: A, command: Command, input: &[u8], output: &mut W) -> Result<(), Fault>
+pub fn answer<A: Allocator, W: Write>(
+    alloc: A,
+    command: Command,
+    input: &[u8],
+    output: &mut W,
+) -> Result<(), Fault>
     ensures { AnsweredAs command input.now (W.contents output.old) (W.contents output.new) result }
 {
     match command {

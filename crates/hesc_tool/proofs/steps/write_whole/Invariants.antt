@@ -6,7 +6,7 @@ use Rattle.hesc_tool.proofs.steps.write_whole.Given as goal
 abbrev pub invariant-writing : goal.invariant-writing
 invariant-writing g l = record {
   within : l.at ≤ length l.bytes;
-  written : Appends (g.W.Write.contents l.initial.output) (g.W.Write.contents l.output) (take l.at l.bytes)
+  written : Appends (g.W.Write.contents l.initial.output) (g.W.Write.contents l.output) (take l.at l.bytes);
 }
 
 abbrev pub decreases-writing : goal.decreases-writing
