@@ -20,11 +20,11 @@ NamesCommand words = (command : Command) × (words_of command ≡ words)
 abbrev pub NamesNoCommand : List (List ℕ) → Type 0
 NamesNoCommand words = (command : Command) → words_of command ≡ words → ⊥
 
--- an operation's answer to an input: its text of the input, refused exactly where the input is no text
-abbrev pub AnswersText : (List ℕ → List ℕ) → List ℕ → Result (List ℕ) Fault → Type 0
-AnswersText operation input (Ok text) = IsUtf8 input × (text ≡ operation input)
-AnswersText operation input (Err fault) = (IsUtf8 input → ⊥) × (fault ≡ NotUtf8)
+-- a command's text of an input
+abbrev pub text_of : Command → List ℕ → List ℕ
+text_of EncodeText input = encoding Text input
 
--- a command's answer to an input: its text, or its refusal
+-- a command's answer to an input: its text, or its refusal where the input is no text
 abbrev pub Answers : Command → List ℕ → Result (List ℕ) Fault → Type 0
-Answers EncodeText input answer = AnswersText (encoding Text) input answer
+Answers command input (Ok text) = IsUtf8 input × (text ≡ text_of command input)
+Answers command input (Err fault) = (IsUtf8 input → ⊥) × (fault ≡ NotUtf8)

@@ -22,6 +22,7 @@ use std::io::{Read, Write};
 ///
 /// Nothing is written before all else has succeeded, so only `Fault::Write` leaves anything behind,
 /// a beginning of the text. A reader that never ends comes to `Fault::Memory`.
+#[tactic(auto, using(crate::proofs::Ran::ran))]
 pub fn run<A: Allocator, R: Read, W: Write>(
     alloc: A,
     args: &[&str],

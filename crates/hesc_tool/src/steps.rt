@@ -1,14 +1,17 @@
 //! The steps of a run after its words: all of the input is read, and the command's text of it is
 //! made and then written.
 ghost use Rattle.std.specs.Prelude.{◌≡◌, IfErr, IfOk, OnErr, OnOk};
+ghost use Rattle.std.specs.Cow.{cow_str_bytes};
 ghost use Rattle.std.specs.Io.KnownBytes.{Appends};
+ghost use Rattle.hesc_tool.specs.Commands.{text_of};
 ghost use Rattle.hesc_tool.specs.Steps.{AnsweredAs, AppendsBeginning, IsReadingFault, WasRead};
 ghost use Rattle.hesc_tool.specs.declared.faults.Fault.{Fault};
 
 use crate::commands::Command;
 use crate::faults::Fault;
 use html_escape::encode_text;
-use std::alloc::Allocator;
+use std::alloc::{AllocError, Allocator};
+use std::borrow::CowStr;
 use std::io::{Read, Write};
 use std::str;
 
@@ -57,6 +60,19 @@ pub fn write_whole<W: Write>(bytes: &[u8], output: &mut W) -> Result<(), Fault>
     Ok(())
 }
 
+/// The command's text of a text.
+fn text_of<'t, A: Allocator>(
+    alloc: A,
+    command: Command,
+    text: &'t str,
+) -> Result<CowStr<'t, A>, AllocError>
+    ensures { IfOk result (λ made. cow_str_bytes made ≡ text_of command text.now) }
+{
+    match command {
+        Command::EncodeText => encode_text(alloc, text),
+    }
+}
+
 /// Makes the command's text of the whole input, and only then writes it.
 pub fn answer<A: Allocator, W: Write>(
     alloc: A,
@@ -66,15 +82,11 @@ pub fn answer<A: Allocator, W: Write>(
 ) -> Result<(), Fault>
     ensures { AnsweredAs command input.now (W.contents output.old) (W.contents output.new) result }
 {
-    match command {
-        Command::EncodeText => {
-            let Ok(text) = str::from_utf8(input) else {
-                return Err(Fault::NotUtf8);
-            };
-            let Ok(encoded) = encode_text(alloc, text) else {
-                return Err(Fault::Memory);
-            };
-            write_whole(encoded.as_str().as_bytes(), output)
-        }
-    }
+    let Ok(text) = str::from_utf8(input) else {
+        return Err(Fault::NotUtf8);
+    };
+    let Ok(made) = text_of(alloc, command, text) else {
+        return Err(Fault::Memory);
+    };
+    write_whole(made.as_str().as_bytes(), output)
 }
