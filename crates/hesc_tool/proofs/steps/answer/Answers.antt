@@ -5,4 +5,5 @@ use Rattle.hesc_tool.proofs.steps.answer.Goals as goal
 pub returns : goal.returns
 returns g c =
     let written = c.write_whole.ensures in
-    answered _ _ _ _ _ _ (search rules) written.all written.began written.fault
+    answered c.args.command c.args.input.now c.as_bytes.result.now _ _ _
+        (search rules) written.all written.began written.fault
