@@ -6,4 +6,4 @@ pub returns : goal.returns
 returns g c =
     let written = c.write_whole.ensures in
     answered c.args.command c.args.input.now c.as_bytes.result.now _ _ _
-        (search rules) written.all written.began written.fault
+    (search rules) written.all written.began written.fault
