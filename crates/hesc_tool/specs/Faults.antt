@@ -1,0 +1,20 @@
+-- How a fault ends the program.
+use Rattle.std.specs.Prelude.{ℕ, List, codes}
+use Rattle.hesc_tool.specs.declared.faults.Fault.{Fault}
+use Rattle.hesc_tool.specs.declared.faults.Fault.TheVariants.{Usage, Read, NotUtf8, Memory, Write}
+
+-- the program's status
+abbrev pub status_of : Fault → ℕ
+status_of Usage = 2
+status_of Read = 1
+status_of NotUtf8 = 1
+status_of Memory = 1
+status_of Write = 1
+
+-- the line on standard error, without its line feed
+abbrev pub line_of : Fault → List ℕ
+line_of Usage = codes "usage: hesc COMMAND [ARGUMENT..]"
+line_of Read = codes "hesc: input cannot be read"
+line_of NotUtf8 = codes "hesc: input is not UTF-8"
+line_of Memory = codes "hesc: out of memory"
+line_of Write = codes "hesc: output cannot be written"

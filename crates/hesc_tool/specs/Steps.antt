@@ -1,0 +1,37 @@
+-- What the steps of a run do to the bytes that its reader has left and its writer holds.
+use Rattle.std.specs.Prelude.{ℕ, List, ⊤, Option, Result, Ok, Err}
+use Rattle.std.specs.Io.KnownBytes.{Appends, Consumes, IsAtEnd, Keeps}
+use Rattle.hesc_specs.specs.Beginning.{IsBeginning}
+use Rattle.hesc_tool.specs.Commands.{Answers}
+use Rattle.hesc_tool.specs.declared.commands.Command.{Command}
+use Rattle.hesc_tool.specs.declared.faults.Fault.{Fault}
+use Rattle.hesc_tool.specs.declared.faults.Fault.TheVariants.{Usage, Read, NotUtf8, Memory, Write}
+
+-- the reader gave these bytes, and then its end
+abbrev pub WasRead : Option (List ℕ) → Option (List ℕ) → List ℕ → Type 0
+WasRead reader reader' bytes = Consumes reader reader' bytes × IsAtEnd reader'
+
+-- a fault that reading can end in
+abbrev pub IsReadingFault : Fault → Type 0
+IsReadingFault Usage = ⊥
+IsReadingFault Read = ⊤
+IsReadingFault NotUtf8 = ⊥
+IsReadingFault Memory = ⊤
+IsReadingFault Write = ⊥
+
+-- a beginning of the text was written
+abbrev pub AppendsBeginning : Option (List ℕ) → Option (List ℕ) → List ℕ → Type 0
+AppendsBeginning writer writer' text =
+    (beginning : List ℕ) × IsBeginning beginning text × Appends writer writer' beginning
+
+-- a command's answer to an input was written, or a fault stands in its place
+abbrev pub AnsweredAs : Command → List ℕ → Option (List ℕ) → Option (List ℕ) → Result (Unit {0}) Fault → Type 0
+AnsweredAs command input writer writer' (Ok _) =
+    (text : List ℕ) × Answers command input (Ok text) × Appends writer writer' text
+AnsweredAs command input writer writer' (Err Usage) = ⊥
+AnsweredAs command input writer writer' (Err Read) = ⊥
+AnsweredAs command input writer writer' (Err NotUtf8) =
+    Answers command input (Err NotUtf8) × Keeps writer writer'
+AnsweredAs command input writer writer' (Err Memory) = Keeps writer writer'
+AnsweredAs command input writer writer' (Err Write) =
+    (text : List ℕ) × Answers command input (Ok text) × AppendsBeginning writer writer' text

@@ -1,0 +1,43 @@
+//! What can stand in place of a command's text.
+ghost use Rattle.std.specs.Prelude.{◌≡◌};
+ghost use Rattle.hesc_tool.specs.Faults.{line_of, status_of};
+
+/// Why a run did not write its command's text.
+#[derive(Clone, Copy, Debug, PartialEq, Eq)]
+pub enum Fault {
+    /// The words name no command.
+    Usage,
+    /// The input cannot be read.
+    Read,
+    /// The command wants a text, and the input is not UTF-8.
+    NotUtf8,
+    /// No memory was found.
+    Memory,
+    /// The output cannot be written.
+    Write,
+}
+
+impl Fault {
+    /// The status that the program ends with.
+    pub fn status(&self) -> u8
+        ensures { result ≡ status_of self.now }
+    {
+        match self {
+            Fault::Usage => 2,
+            Fault::Read | Fault::NotUtf8 | Fault::Memory | Fault::Write => 1,
+        }
+    }
+
+    /// The line that the program prints to standard error, without its line feed.
+    pub fn line(&self) -> &'static str
+        ensures { result.now ≡ line_of self.now }
+    {
+        match self {
+            Fault::Usage => "usage: hesc COMMAND [ARGUMENT..]",
+            Fault::Read => "hesc: input cannot be read",
+            Fault::NotUtf8 => "hesc: input is not UTF-8",
+            Fault::Memory => "hesc: out of memory",
+            Fault::Write => "hesc: output cannot be written",
+        }
+    }
+}

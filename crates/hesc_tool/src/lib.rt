@@ -1,0 +1,43 @@
+//! The command-line tool as a library, over any allocator, reader and writer.
+//!
+//! A run goes by steps: the words name a command, all of the input is read, the command's text is
+//! made in memory, and only then written.
+#![tactic(auto)]
+
+ghost use Rattle.std.specs.Prelude.{map};
+ghost use Rattle.hesc_tool.specs.Run.{RanAs};
+
+mod commands;
+mod faults;
+mod steps;
+
+use crate::commands::command_of;
+pub use crate::faults::Fault;
+use crate::steps::{answer, read_whole};
+use std::alloc::Allocator;
+use std::io::{Read, Write};
+
+/// Runs the command that `args`, the words after the program's name, name: reads all that `input`
+/// has left, and writes the command's text of it to `output`.
+///
+/// Nothing is written before all else has succeeded, so only `Fault::Write` leaves anything behind,
+/// a beginning of the text. A reader that never ends comes to `Fault::Memory`.
+#[tactic(auto, using(crate::proofs::Ran::ran))]
+pub fn run<A: Allocator, R: Read, W: Write>(
+    alloc: A,
+    args: &[&str],
+    input: &mut R,
+    output: &mut W,
+) -> Result<(), Fault>
+    ensures { RanAs (map (λ word. word.now) args.now) (R.remaining input.old) (R.remaining input.new)
+        (W.contents output.old) (W.contents output.new) result }
+{
+    let Some(command) = command_of(args) else {
+        return Err(Fault::Usage);
+    };
+    let bytes = match read_whole(&alloc, input) {
+        Ok(bytes) => bytes,
+        Err(fault) => return Err(fault),
+    };
+    answer(&alloc, command, bytes.as_slice(), output)
+}
