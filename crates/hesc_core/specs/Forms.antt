@@ -12,7 +12,7 @@ use Rattle.std.specs.declared.borrow.CowStr.{CowStr}
 use Rattle.std.specs.declared.borrow.CowStr.TheVariants.{Borrowed, Owned}
 use denote.RattleType.{RattleType}
 use mathlib.Core.Option.{none}
-use Rattle.hesc_specs.specs.Beginning.{IsBeginning}
+use Rattle.hesc_specs.specs.Beginning.{AppendsBeginning}
 use Rattle.hesc_specs.specs.Changes.{Change}
 
 -- it borrows exactly where nothing changes, and then the source itself
@@ -45,7 +45,7 @@ pub record AnswersPart {E : Type 0} (room : ℕ) (added : List ℕ) (result : Re
 -- all of the text went out, or a beginning of it
 pub record WritesText {E : Type 0} (old new : Option (List ℕ)) (made : List ℕ) (result : Result (Unit {0}) E) : Type 0 where
   pub all : OnOk result (Appends old new made)
-  pub began : OnErr result ((a : List ℕ) × (Appends old new a × IsBeginning a made))
+  pub began : OnErr result (AppendsBeginning old new made)
   pub empty : made ≡ [] → IsOk result
 
 -- a `String` and a `Vec<u8>` over an allocator, as the logic names them

@@ -3,7 +3,8 @@ use Rattle.std.proofs.Common.{◌≡◌, ℕ, ◌+◌, List, take, drop, sym, su
 use Rattle.std.proofs.KnownBytes.{Appends-trans}
 use Rattle.std.specs.Io.KnownBytes.{Appends}
 use Rattle.hesc_tool.specs.Commands.{Answers}
-use Rattle.hesc_tool.specs.Steps.{AnsweredAs, AppendsBeginning}
+use Rattle.hesc_specs.specs.Beginning.{AppendsBeginning}
+use Rattle.hesc_tool.specs.Steps.{AnsweredAs}
 use Rattle.hesc_tool.specs.declared.commands.Command.{Command}
 use Rattle.hesc_tool.specs.declared.faults.Fault.{Fault}
 use Rattle.hesc_tool.specs.declared.faults.Fault.TheVariants.{Usage, Read, NotUtf8, Memory, Write}

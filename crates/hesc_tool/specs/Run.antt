@@ -2,7 +2,8 @@
 use Rattle.std.specs.Prelude.{◌≡◌, ℕ, List, Option, Result, Ok, Err}
 use Rattle.std.specs.Io.KnownBytes.{Appends, Keeps}
 use Rattle.hesc_tool.specs.Commands.{Answers, NamesCommand, NamesNoCommand, words_of}
-use Rattle.hesc_tool.specs.Steps.{AppendsBeginning, WasRead}
+use Rattle.hesc_specs.specs.Beginning.{AppendsBeginning}
+use Rattle.hesc_tool.specs.Steps.{WasRead}
 use Rattle.hesc_tool.specs.declared.commands.Command.{Command}
 use Rattle.hesc_tool.specs.declared.faults.Fault.{Fault}
 use Rattle.hesc_tool.specs.declared.faults.Fault.TheVariants.{Usage, Read, NotUtf8, Memory, Write}

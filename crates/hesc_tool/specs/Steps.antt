@@ -1,7 +1,7 @@
 -- What the steps of a run do to the bytes that its reader has left and its writer holds.
 use Rattle.std.specs.Prelude.{ℕ, List, ⊤, Option, Result, Ok, Err}
 use Rattle.std.specs.Io.KnownBytes.{Appends, Consumes, IsAtEnd, Keeps}
-use Rattle.hesc_specs.specs.Beginning.{IsBeginning}
+use Rattle.hesc_specs.specs.Beginning.{AppendsBeginning}
 use Rattle.hesc_tool.specs.Commands.{Answers}
 use Rattle.hesc_tool.specs.declared.commands.Command.{Command}
 use Rattle.hesc_tool.specs.declared.faults.Fault.{Fault}
@@ -18,11 +18,6 @@ IsReadingFault Read = ⊤
 IsReadingFault NotUtf8 = ⊥
 IsReadingFault Memory = ⊤
 IsReadingFault Write = ⊥
-
--- a beginning of the text was written
-abbrev pub AppendsBeginning : Option (List ℕ) → Option (List ℕ) → List ℕ → Type 0
-AppendsBeginning writer writer' text =
-    (beginning : List ℕ) × IsBeginning beginning text × Appends writer writer' beginning
 
 -- a command's answer to an input was written, or a fault stands in its place
 abbrev pub AnsweredAs : Command → List ℕ → Option (List ℕ) → Option (List ℕ) → Result (Unit {0}) Fault → Type 0

@@ -4,7 +4,8 @@ ghost use Rattle.std.specs.Prelude.{◌≡◌, IfErr, IfOk, OnErr, OnOk};
 ghost use Rattle.std.specs.Cow.{cow_str_bytes};
 ghost use Rattle.std.specs.Io.KnownBytes.{Appends};
 ghost use Rattle.hesc_tool.specs.Commands.{text_of};
-ghost use Rattle.hesc_tool.specs.Steps.{AnsweredAs, AppendsBeginning, IsReadingFault, WasRead};
+ghost use Rattle.hesc_specs.specs.Beginning.{AppendsBeginning};
+ghost use Rattle.hesc_tool.specs.Steps.{AnsweredAs, IsReadingFault, WasRead};
 ghost use Rattle.hesc_tool.specs.declared.faults.Fault.{Fault};
 
 use crate::commands::Command;

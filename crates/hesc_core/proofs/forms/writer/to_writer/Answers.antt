@@ -16,7 +16,7 @@ pub returns : goal.returns
 returns g c = record {
   all = on_ok_weaker c.run-outcome.result (λ taken. told-all _ _ _ _ _ _ (first-told g c) (last-told g c) (rw c.new-sink.ensures.nothing at taken) c.run-outcome.new.sink.told) c.run-outcome.ensures.ok_taken;
   began = on_err_weaker c.run-outcome.result
-      (λ taken. (taken.0, (told-all _ _ _ _ _ _ (first-told g c) (last-told g c) (rw c.new-sink.ensures.nothing at taken.1.0) c.run-outcome.new.sink.told, taken.1.1)))
+      (λ taken. (taken.0, taken.1.1, told-all _ _ _ _ _ _ (first-told g c) (last-told g c) (rw c.new-sink.ensures.nothing at taken.1.0) c.run-outcome.new.sink.told))
       c.run-outcome.ensures.err_taken;
   empty = λ none. c.run-outcome.ensures.fits (rw none (omega arith));
 }
