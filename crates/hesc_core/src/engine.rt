@@ -1,5 +1,5 @@
 //! The engine: each piece of a rule's text goes to a sink. Nothing else makes output.
-ghost use Rattle.std.specs.Prelude.{◌≡◌, ◌≢◌, ◌≤◌, ◌<◌, [], ◌++◌, length, IsOk, OnOk, OnErr};
+ghost use Rattle.std.specs.Prelude.{◌≡◌, ◌≢◌, ◌≤◌, ◌<◌, ◌+◌, [], ◌++◌, length, IsOk, OnOk, OnErr};
 ghost use Rattle.hesc_specs.specs.Beginning.{TookBeginning};
 
 use crate::pieces::Pieces;
@@ -19,6 +19,8 @@ pub fn run<R: Rule, S: Sink>(rule: &R, text: &str, sink: &mut S) -> Result<(), S
         (TookBeginning (S.taken sink.old) (S.taken sink.new) (R.made rule.now text.now)) }
     ensures err_failures { OnErr result (S.failures sink.old < S.failures sink.new) }
     ensures fits { length (R.made rule.now text.now) ≤ S.room sink.old → IsOk result }
+    ensures room { OnOk result
+        (S.room sink.old ≤ S.room sink.new + length (R.made rule.now text.now)) }
     ensures same_reference { S.reference sink.new ≡ S.reference sink.old }
     ensures same_before { S.before sink.new ≡ S.before sink.old }
 {
