@@ -8,4 +8,5 @@ mod pieces;
 mod refusing;
 mod rows;
 mod streams;
+mod tool;
 mod writers;
