@@ -5,11 +5,15 @@
 //! wrote ends exactly at the closing mark, whatever follows, and is read as the text.
 #![tactic(auto)]
 
+mod enclosing;
+mod fault;
 mod grammar;
 pub mod laws;
 mod marks;
 mod places;
 mod suiting;
 
+pub use crate::enclosing::append_enclosed;
+pub use crate::fault::PlaceFault;
 pub use crate::places::{End, Place};
 pub use crate::suiting::suits;
