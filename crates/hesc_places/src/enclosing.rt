@@ -15,6 +15,26 @@ use hesc_core::{Counter, Pieces, Sink, StringSink};
 use html_escape::Encoder;
 use std::alloc::{AllocError, Allocator};
 
+/// Appends the opening mark, the encoding of `text` and the closing mark, and answers that part. On
+/// a fault `output` is as it was.
+///
+/// Whatever follows the part, it ends exactly at the closing mark and is read as the text, with
+/// U+FFFD for NUL where the encoder is `UnquotedAttribute`.
+pub fn enclose<'o, A: Allocator>(
+    encoder: Encoder,
+    place: Place,
+    text: &str,
+    output: &'o mut String<A>,
+) -> Result<&'o str, PlaceFault>
+    ensures part { IfOk result (λ part. part.now ≡ enclosed encoder place text.now) }
+    ensures read { IfOk result (λ part. IsReadAsText encoder place text.now part.now) }
+    ensures faults { FaultsFirst encoder place text.now (string_room output.old) result }
+    ensures* appended { sem 𝓛 (StringAppended A.row A.Allocator output.entry
+        (enclosed encoder place text.now) result) }
+{
+    enclose_onto(output, encoder, place, text)
+}
+
 /// Appends the opening mark, the encoding of `text` and the closing mark, or leaves the output as
 /// it was.
 pub fn append_enclosed<A: Allocator>(

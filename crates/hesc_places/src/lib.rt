@@ -13,7 +13,7 @@ mod marks;
 mod places;
 mod suiting;
 
-pub use crate::enclosing::append_enclosed;
+pub use crate::enclosing::{append_enclosed, enclose};
 pub use crate::fault::PlaceFault;
 pub use crate::places::{End, Place};
 pub use crate::suiting::suits;
