@@ -1,5 +1,5 @@
--- What enclosing a text for a place appends, what it is read as, and when it is refused.
-use Rattle.std.specs.Prelude.{◌≡◌, ◌≤◌, ◌↔◌, ℕ, List, [], ◌++◌, Result, Some, IsOk, IsErrOf, IsTrue, false, drop, length}
+-- A text between the marks of a place: its bytes, what they are read as, and when there are none.
+use Rattle.std.specs.Prelude.{◌≡◌, ◌↔◌, ℕ, List, [], ◌++◌, Result, Some, IsErrOf, IsTrue, false, drop, length}
 use Rattle.html_escape.specs.declared.encoder.Encoder.{Encoder}
 use Rattle.html_escape.specs.Encoders.{encoded}
 use Rattle.hesc_places.specs.declared.fault.PlaceFault.{PlaceFault}
@@ -9,7 +9,7 @@ use Rattle.hesc_places.specs.declared.places.Place.TheVariants.{UnquotedAttribut
 use Rattle.hesc_places.specs.Marks.{opening, closing}
 use Rattle.hesc_places.specs.PlaceReadings.{reading}
 use Rattle.hesc_places.specs.ReadBack.{read_back}
-use Rattle.hesc_places.specs.Suits.{suits, MayHold}
+use Rattle.hesc_places.specs.Suits.{suits}
 
 -- the opening mark, what the encoder writes for the text, and the closing mark
 abbrev pub enclosed : Encoder → Place → List ℕ → List ℕ
@@ -26,8 +26,7 @@ abbrev pub IsEmptyUnquoted : Place → List ℕ → Type 0
 IsEmptyUnquoted (UnquotedAttribute end) text = text ≡ []
 IsEmptyUnquoted other text = ⊥
 
--- each fault comes exactly where it is the first; where there is none, and room, the call succeeds
-pub record FaultsFirst {T : Type 0} (encoder : Encoder) (place : Place) (text : List ℕ) (room : ℕ) (result : Result T PlaceFault) : Type 0 where
+-- each fault is answered exactly where it is the first that applies
+pub record AnswersFirstFault {T : Type 0} (encoder : Encoder) (place : Place) (text : List ℕ) (result : Result T PlaceFault) : Type 0 where
   pub not_for_place : IsErrOf result NotForPlace ↔ (suits encoder place ≡ false)
   pub empty_unquoted : IsErrOf result EmptyUnquoted ↔ (IsTrue (suits encoder place) × IsEmptyUnquoted place text)
-  pub fits : IsTrue (suits encoder place) → MayHold place text → length (enclosed encoder place text) ≤ room → IsOk result
