@@ -37,6 +37,7 @@ pub(crate) fn append_between_marks<A: Allocator>(
     outcome
 }
 
+// The marks and the encoding between them, in order.
 fn put_enclosed<S: Sink>(
     encoder: Encoder,
     place: Place,
@@ -55,7 +56,7 @@ fn put_enclosed<S: Sink>(
     sink.put(closing(place))
 }
 
-// What `hesc_core::run` does, and it loses no more of the sink's room than the encoding takes.
+// As `hesc_core::run`, with the room that is left: the closing mark has to find its own.
 fn put_encoded<S: Sink>(encoder: Encoder, text: &str, sink: &mut S) -> Result<(), S::Fault>
     ensures ok_taken { OnOk result
         (S.taken sink.new ≡ S.taken sink.old ++ encoded encoder text.now) }

@@ -15,7 +15,7 @@ use html_escape::Encoder;
 use std::alloc::{AllocError, Allocator};
 
 /// Appends the opening mark of `place`, what `encoder` writes for `text`, and the closing mark, and
-/// answers that part. On a fault `output` is as it was.
+/// answers that part. On a fault, the first of [`PlaceFault`] that applies, `output` is as it was.
 ///
 /// Whatever follows the part, the place ends exactly at its closing mark and is read as the text,
 /// with U+FFFD for NUL where the encoder is `UnquotedAttribute`.
@@ -37,7 +37,7 @@ pub fn enclose<'o, A: Allocator>(
     enclose_onto(output, encoder, place, text)
 }
 
-// `enclose`, with the output first: only so is the clause of the output's end found.
+// `enclose` with the output first, the order in which the check follows a loan by itself.
 fn enclose_onto<'o, A: Allocator>(
     output: &'o mut String<A>,
     encoder: Encoder,
@@ -58,8 +58,8 @@ fn enclose_onto<'o, A: Allocator>(
     Ok(&output.as_str()[start..])
 }
 
-/// Appends what [`enclose`] does. A caller who proves learns all of `output` from this function,
-/// and of `enclose` only what its answer is.
+/// Appends what [`enclose`] does, and answers nothing. A caller's proof learns from this call what
+/// `output` holds afterwards, and from `enclose` only what its answer is.
 pub fn append_enclosed<A: Allocator>(
     output: &mut String<A>,
     encoder: Encoder,

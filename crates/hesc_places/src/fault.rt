@@ -1,6 +1,6 @@
 //! Why a text is not enclosed.
 
-/// Why a text is not enclosed for a place. The first that applies is answered.
+/// Why a text is not enclosed for a place, in the order in which it is checked.
 #[derive(Clone, Copy, Debug, PartialEq, Eq)]
 pub enum PlaceFault {
     /// The encoder does not suit the place.
