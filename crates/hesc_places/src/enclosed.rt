@@ -1,13 +1,12 @@
 //! What an encoder writes for a text, between the marks of a place: to any sink, and appended.
-ghost use Rattle.std.specs.Prelude.{◌≡◌, ◌≤◌, ◌+◌, ◌++◌, length, IsOk, OnOk};
+ghost use Rattle.std.specs.Prelude.{◌≡◌, ◌≤◌, ◌++◌, length, IsOk, OnOk};
 ghost use Rattle.std.specs.String.{string_bytes};
 ghost use Rattle.hesc_core.specs.Forms.{Appended, string_room};
-ghost use Rattle.html_escape.specs.Encoders.{encoded};
 ghost use Rattle.hesc_places.specs.Enclosed.{enclosed};
 
 use crate::marks::{closing, opening};
 use crate::places::Place;
-use hesc_core::{Counter, Pieces, Sink, StringSink};
+use hesc_core::{Counter, Sink, StringSink, run};
 use html_escape::Encoder;
 use std::alloc::{AllocError, Allocator};
 
@@ -52,23 +51,6 @@ fn put_enclosed<S: Sink>(
     ensures same_before { S.before sink.new ≡ S.before sink.old }
 {
     sink.put(opening(place))?;
-    put_encoded(encoder, text, sink)?;
+    run(&encoder, text, sink)?;
     sink.put(closing(place))
-}
-
-// As `hesc_core::run`, with the room that is left: the closing mark has to find its own.
-fn put_encoded<S: Sink>(encoder: Encoder, text: &str, sink: &mut S) -> Result<(), S::Fault>
-    ensures ok_taken { OnOk result
-        (S.taken sink.new ≡ S.taken sink.old ++ encoded encoder text.now) }
-    ensures ok_failures { OnOk result (S.failures sink.new ≡ S.failures sink.old) }
-    ensures fits { length (encoded encoder text.now) ≤ S.room sink.old → IsOk result }
-    ensures room { OnOk result
-        (S.room sink.old ≤ S.room sink.new + length (encoded encoder text.now)) }
-    ensures same_reference { S.reference sink.new ≡ S.reference sink.old }
-    ensures same_before { S.before sink.new ≡ S.before sink.old }
-{
-    for piece in Pieces::new(&encoder, text) {
-        sink.put(piece.as_str())?;
-    }
-    Ok(())
 }
