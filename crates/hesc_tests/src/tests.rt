@@ -5,6 +5,7 @@ mod forms;
 mod memory;
 mod parts;
 mod pieces;
+mod places;
 mod refusing;
 mod rows;
 mod streams;
