@@ -2,7 +2,7 @@
 use html_escape::Encoder;
 
 /// How the `Cow` form holds its text.
-#[derive(Clone, Copy, Debug, PartialEq, Eq)]
+#[derive(Clone, Copy)]
 pub enum Held {
     Borrowed,
     Owned,
