@@ -31,7 +31,7 @@ fn borrows_where_nothing_changes(
     let is_borrowed = matches!(cow, CowStr::Borrowed(_));
     assert_eq!(rt;
         is_borrowed,
-        held == Held::Borrowed,
+        matches!(held, Held::Borrowed),
         "{encoder:?} of {text:?}"
     );
     Ok(())

@@ -28,7 +28,7 @@ fn refuse_cow(rt: &impl Abort, alloc: Global, encoder: Encoder, row: Row, number
     let (text, encoding, held) = row;
     let heap = Refusing::new(alloc, number);
     let is_ok = gives_cow(rt, &heap, encoder, text, encoding);
-    let requests = if held == Held::Borrowed { 0 } else { 1 };
+    let requests = if matches!(held, Held::Borrowed) { 0 } else { 1 };
     assert_eq!(rt; heap.asked(number), requests, "{encoder:?} of {text:?}");
     assert_eq!(rt; is_ok, requests < number, "{encoder:?} of {text:?}");
 }

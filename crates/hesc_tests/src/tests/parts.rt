@@ -5,7 +5,7 @@ use hesc_core::{Class, Counter, Sink, SmallText};
 use std::test::Fail;
 
 // The place of the one `<` among 64 bytes, where the search begins, and what it finds.
-const FIRST_PLACES: [(usize, usize, usize); 15] = [
+const FIRST_PLACES: [(usize, usize, usize); 16] = [
     (0, 0, 0),
     (0, 1, 64),
     (0, 31, 64),
@@ -19,6 +19,7 @@ const FIRST_PLACES: [(usize, usize, usize); 15] = [
     (32, 31, 32),
     (32, 33, 64),
     (63, 0, 63),
+    (63, 1, 63),
     (63, 31, 63),
     (63, 33, 63),
 ];

@@ -3,7 +3,7 @@ use html_escape::{Encoder, Piece, Pieces};
 use std::process::Abort;
 
 /// A piece that is kept, with its place in the source, or a new text.
-#[derive(Clone, Copy, Debug, PartialEq, Eq)]
+#[derive(Clone, Copy, Debug)]
 enum Part {
     Kept(usize, &'static str),
     New(&'static str),

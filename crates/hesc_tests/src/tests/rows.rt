@@ -2,7 +2,7 @@
 use html_escape::Encoder;
 
 /// How the `Cow` form holds its text.
-#[derive(Clone, Copy, Debug, PartialEq, Eq)]
+#[derive(Clone, Copy)]
 pub enum Held {
     Borrowed,
     Owned,
@@ -48,12 +48,13 @@ const TEXT_MINIMAL: [Row; 9] = [
     ("\"/'&<>", "\"/'&amp;&lt;>", Owned),
 ];
 
-const TEXT: [Row; 12] = [
+const TEXT: [Row; 13] = [
     ("", "", Borrowed),
     ("\"a\"", "\"a\"", Borrowed),
     (";/ ;' ", ";/ ;' ", Borrowed),
     ("\u{0}", "\u{0}", Borrowed),
     ("&", "&amp;", Owned),
+    ("<", "&lt;", Owned),
     ("<a<", "&lt;a&lt;", Owned),
     ("éé>x/>/x\u{2026}", "éé&gt;x/&gt;/x\u{2026}", Owned),
     (" é&", " é&amp;", Owned),
