@@ -142,18 +142,17 @@ fn refuse(rt: &impl Abort, alloc: Global, row: Row, number: u64) -> Result<(), F
     let mut output = String::with_capacity(&heap, 1)?;
     output.push('x')?;
     heap.refuse(number);
-    let answer = append_enclosed(&mut output, encoder, place, text);
+    let is_ok = append_enclosed(&mut output, encoder, place, text) == Ok(());
+    let added = if is_ok { enclosed } else { "" };
+    assert_eq!(rt; is_ok, number != 1, "{encoder:?} in {place:?}");
     assert_eq!(rt; heap.asked(number), 1, "{encoder:?} in {place:?}");
-    if number == 1 {
-        assert_eq!(rt; answer, Err(PlaceFault::Memory), "{encoder:?} in {place:?}");
-        assert_eq!(rt; output.as_str(), "x", "{encoder:?} in {place:?}");
-    } else {
-        assert_eq!(rt; answer, Ok(()), "{encoder:?} in {place:?}");
-        assert_eq!(rt;
-            output.strip_prefix("x"),
-            Some(enclosed),
-            "{encoder:?} in {place:?}"
-        );
-    }
+    assert!(rt;
+        is_x_and(output.as_str(), added),
+        "{encoder:?} in {place:?}"
+    );
     Ok(())
+}
+
+fn is_x_and(output: &str, added: &str) -> bool {
+    output.strip_prefix("x") == Some(added)
 }
