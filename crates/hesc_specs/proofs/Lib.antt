@@ -4,5 +4,6 @@ pub mod HexDigits
 pub mod HtmlChanges
 pub mod HtmlImages
 pub mod JoinedTexts
+pub mod NextReference
 pub mod PartLemmas
 pub mod SliceRanges
