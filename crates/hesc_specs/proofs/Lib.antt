@@ -6,4 +6,6 @@ pub mod HtmlImages
 pub mod JoinedTexts
 pub mod NextReference
 pub mod PartLemmas
+pub mod ReferencesUndone
 pub mod SliceRanges
+pub mod Tables
