@@ -1,3 +1,6 @@
+mod Capped
+mod FoundBytes
+mod Halving
 pub mod HandsOn
 mod Progress
 mod Seam

@@ -3,3 +3,6 @@ pub mod Next
 pub mod Pieces
 pub mod Sinks
 pub mod Forms
+pub mod Numbers
+pub mod Rows
+pub mod Table

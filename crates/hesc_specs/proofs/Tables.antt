@@ -33,6 +33,19 @@ row_among rows (suc n) i h below =
     (λ (other : i ≢ n). row_among rows n i (or_else-first (faults_below rows n) (row_fault rows n) h) (omega arith))
     (cases_eq i n)
 
+-- the fault of a row behind faultless ones is the first, whatever comes later
+faults_stay : (rows : List Row) (i n : ℕ) (fault : TableFault) → faults_below rows i ≡ None → row_fault rows i ≡ Some fault → faults_below rows (i + suc n) ≡ Some fault
+faults_stay rows i zero fault none here = let next : i + 1 ≡ suc i = omega arith in rw (next, none, here) refl
+faults_stay rows i (suc n) fault none here =
+    let next : i + suc (suc n) ≡ suc (i + suc n) = omega arith in
+    rw (next, faults_stay rows i n fault none here) refl
+
+pub first_fault-row : (rows : List Row) (i : ℕ) (fault : TableFault) → i < length rows → faults_below rows i ≡ None → row_fault rows i ≡ Some fault → first_fault rows ≡ Some fault
+first_fault-row rows i fault within none here =
+    let there : i + suc (length rows - suc i) ≡ length rows = omega arith in
+    let found : faults_below rows (length rows) ≡ Some fault = rw there at (faults_stay rows i (length rows - suc i) fault none here) in
+    rw found refl
+
 missing_here : (found : Option (List ℕ)) (n : ℕ) → (if is_none found then Some (MissingCommon n) else None) ≡ None → is_none found ≡ false
 missing_here None n h = absurd (cc)
 missing_here (Some value) n h = refl
