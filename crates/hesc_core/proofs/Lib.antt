@@ -2,6 +2,7 @@ mod Capped
 mod FoundBytes
 mod Halving
 pub mod HandsOn
+pub mod HandsOnTable
 mod Progress
 mod Seam
 mod Told

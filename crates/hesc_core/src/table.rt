@@ -1,5 +1,5 @@
 //! Tables of entities: which rows make one, and the value of a name.
-ghost use Rattle.std.specs.Prelude.{◌≡◌, IsTrue, map};
+ghost use Rattle.std.specs.Prelude.{◌≡◌, IsTrue};
 ghost use Rattle.std.specs.Option.{option_map};
 ghost use Rattle.hesc_specs.specs.Entities.{value_of};
 ghost use Rattle.hesc_specs.specs.TableFaults.{is_table};
@@ -19,11 +19,12 @@ pub struct EntityTable<'a> {
 }
 
 impl EntityTable<'static> {
+    ghost use Rattle.hesc_core.specs.NamedRows.{named_rows};
     ghost use Rattle.hesc_core.specs.Table.{rows_of};
 
     /// The table of [`NAMED_ENTITIES`].
     pub fn built_in() -> EntityTable<'static>
-        ensures { rows_of result ≡ map (λ row. (row.0.now, row.1.now)) NAMED_ENTITIES }
+        ensures { rows_of result ≡ named_rows }
     {
         EntityTable {
             rows: &NAMED_ENTITIES,
