@@ -1,4 +1,4 @@
-//! `decode_html_entities_with`: each reference that has a value by a table that the caller hands in becomes it.
+//! `decode_html_entities_with`: each reference that has a value by a given table becomes it.
 ghost use Rattle.std.specs.Borrow.{sem};
 ghost use Rattle.hesc_specs.specs.ReferenceChanges.{reference_changes};
 ghost use Rattle.hesc_specs.specs.References.{decoded};

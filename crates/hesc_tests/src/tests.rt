@@ -1,3 +1,5 @@
+mod references;
+
 use super::*;
 use std::io::{self, ErrorKind, Read, Write};
 use std::test::Fail;
