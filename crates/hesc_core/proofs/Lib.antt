@@ -1,4 +1,8 @@
+mod Capped
+mod FoundBytes
+mod Halving
 pub mod HandsOn
+pub mod HandsOnTable
 mod Progress
 mod Seam
 mod Told

@@ -3,3 +3,7 @@ pub mod Next
 pub mod Pieces
 pub mod Sinks
 pub mod Forms
+pub mod NamedRows
+pub mod Numbers
+pub mod Rows
+pub mod Table

@@ -6,22 +6,28 @@
 #![tactic(auto)]
 
 pub mod engine;
+pub mod entities;
+mod find;
 pub mod forms;
 pub mod found;
 pub mod laws;
 pub mod pieces;
+mod row_faults;
 pub mod rule;
 pub mod rules;
 pub mod scan;
 pub mod sink;
 pub mod sinks;
 pub mod small_text;
+pub mod table;
 
 pub use crate::engine::run;
+pub use crate::entities::NAMED_ENTITIES;
 pub use crate::found::{Found, Replacement};
 pub use crate::pieces::{Piece, Pieces};
 pub use crate::rule::Rule;
 pub use crate::sink::Sink;
 pub use crate::sinks::{CountOverflow, Counter, StringSink, VecSink, WriterSink};
 pub use crate::small_text::SmallText;
-pub use hesc_specs::Class;
+pub use crate::table::EntityTable;
+pub use hesc_specs::{Class, TableFault};

@@ -1,4 +1,7 @@
 //! The rules of the operations.
 pub mod escape;
+mod reference_values;
+pub mod references;
 
 pub use crate::rules::escape::{Escape, next_escape};
+pub use crate::rules::references::{References, next_references};

@@ -1,14 +1,15 @@
 -- The changes of an HTML encoder: which comes first, when none is left, and that they make the encoding.
-use Rattle.std.proofs.Common.{◌≡◌, ℕ, zero, suc, add-zero, ◌+◌, ◌-◌, ◌≤◌, ◌<◌, List, [], ◌∷◌, ◌++◌, Bool, true, false, length, take, drop, refl, ap, sym, ◌∙◌, append_assoc, arith}
+use Rattle.std.proofs.Common.{◌≡◌, ℕ, zero, suc, add-zero, ◌+◌, ◌-◌, ◌≤◌, ◌<◌, List, [], ◌∷◌, ◌++◌, Bool, true, false, length, drop, refl, ap, ◌∙◌, append_assoc, arith}
 use Rattle.std.specs.Prelude.{slice_range, slice_index}
 use Rattle.std.proofs.lemmas.List.{drop-drop, drop_more, length-drop, get_or-drop}
 use Rattle.std.proofs.lemmas.List.Folds.{drop_split}
-use Rattle.std.proofs.Math.Seq.{take-add, drop-length}
+use Rattle.std.proofs.Math.Seq.{drop-length}
 use Rattle.hesc_specs.specs.Changes.{applied, html_changes, html_changes_of}
 use Rattle.hesc_specs.specs.Classes.{in_class}
 use Rattle.hesc_specs.specs.Html.{encoding, reference_to}
 use Rattle.hesc_specs.specs.FirstPlace.{IsFirstPlace}
 use Rattle.hesc_specs.specs.declared.classes.Class.{Class}
+use Rattle.hesc_specs.proofs.SliceRanges.{slice_range-more, slice_range-nothing, drop-next}
 
 -- one byte further
 unchanged-html_changes_of : (class : Class) (at b : ℕ) (bytes : List ℕ) → in_class class b ≡ false → html_changes_of class at (b ∷ bytes) ≡ html_changes_of class (at + 1) bytes
@@ -44,26 +45,13 @@ pub next-html_changes : (class : Class) (source : List ℕ) (from at : ℕ) → 
 next-html_changes class source from at first within =
     reached-html_changes class source from at first ∙ rw (drop_more source at 0 within, first.found within) refl
 
--- the stretch up to one byte further
-slice_range-more : (source : List ℕ) (from at b : ℕ) (bytes : List ℕ) → from ≤ at → drop at source ≡ b ∷ bytes → slice_range source from (at + 1) ≡ slice_range source from at ++ b ∷ []
-slice_range-more source from at b bytes ordered is =
-    let count : (at + 1) - from ≡ (at - from) + 1 = omega arith in
-    let there : from + (at - from) ≡ at = omega arith in
-    let front : take ((at - from) + 1) (drop from source) ≡ take (at - from) (drop from source) ++ take 1 (drop (at - from) (drop from source)) = take-add (at - from) 1 (drop from source) in
-    let rest : drop (at - from) (drop from source) ≡ b ∷ bytes = drop-drop (at - from) from source ∙ rw there is in
-    rw count (front ∙ rw rest refl)
-
-drop-more : (source : List ℕ) (at b : ℕ) (bytes : List ℕ) → drop at source ≡ b ∷ bytes → drop (at + 1) source ≡ bytes
-drop-more source at b bytes is = sym (drop-drop 1 at source) ∙ rw is refl
-
 -- one byte more, by whether it is in the class
 applied-step : (class : Class) (source : List ℕ) (from at b : ℕ) (bytes : List ℕ) (t : Bool) → in_class class b ≡ t → from ≤ at → drop at source ≡ b ∷ bytes
     → applied source from (html_changes_of class (at + 1) bytes) ≡ slice_range source from (at + 1) ++ encoding class bytes
     → applied source (at + 1) (html_changes_of class (at + 1) bytes) ≡ slice_range source (at + 1) (at + 1) ++ encoding class bytes
     → applied source from (html_changes_of class at (b ∷ bytes)) ≡ slice_range source from at ++ encoding class (b ∷ bytes)
 applied-step class source from at b bytes true hit ordered is on next =
-    let nothing : (at + 1) - (at + 1) ≡ 0 = omega arith in
-    let after : applied source (at + 1) (html_changes_of class (at + 1) bytes) ≡ encoding class bytes = rw nothing at next in
+    let after : applied source (at + 1) (html_changes_of class (at + 1) bytes) ≡ encoding class bytes = rw (slice_range-nothing source (at + 1)) at next in
     rw (hit, after) refl
 applied-step class source from at b bytes false hit ordered is on next =
     rw hit (on ∙ rw (slice_range-more source from at b bytes ordered is) (append_assoc (slice_range source from at) (b ∷ []) (encoding class bytes)))
@@ -73,7 +61,7 @@ pub applied-html_changes_of : (class : Class) (source : List ℕ) (from at : ℕ
     → applied source from (html_changes_of class at bytes) ≡ slice_range source from at ++ encoding class bytes
 applied-html_changes_of class source from at [] ordered is = drop_split source from at ordered ∙ ap (λ rest. slice_range source from at ++ rest) is
 applied-html_changes_of class source from at (b ∷ bytes) ordered is =
-    let rest : drop (at + 1) source ≡ bytes = drop-more source at b bytes is in
+    let rest : drop (at + 1) source ≡ bytes = drop-next source at b bytes is in
     applied-step class source from at b bytes (in_class class b) refl ordered is
     (applied-html_changes_of class source from (at + 1) bytes (omega arith) rest)
     (applied-html_changes_of class source (at + 1) (at + 1) bytes (omega arith) rest)

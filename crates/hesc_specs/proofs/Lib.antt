@@ -1,6 +1,11 @@
+pub mod AppliedReferences
 pub mod DifferentTexts
 pub mod HexDigits
 pub mod HtmlChanges
 pub mod HtmlImages
 pub mod JoinedTexts
+pub mod NextReference
 pub mod PartLemmas
+pub mod ReferencesUndone
+pub mod SliceRanges
+pub mod Tables

@@ -10,11 +10,17 @@ line_feed = 10
 abbrev pub form_feed : ℕ
 form_feed = 12
 
+abbrev pub carriage_return : ℕ
+carriage_return = 13
+
 abbrev pub space : ℕ
 space = 32
 
 abbrev pub double_quote : ℕ
 double_quote = 34
+
+abbrev pub number_sign : ℕ
+number_sign = 35
 
 abbrev pub ampersand : ℕ
 ampersand = 38
@@ -37,5 +43,11 @@ equals_sign = 61
 abbrev pub greater_than : ℕ
 greater_than = 62
 
+abbrev pub upper_x : ℕ
+upper_x = 88
+
 abbrev pub backtick : ℕ
 backtick = 96
+
+abbrev pub lower_x : ℕ
+lower_x = 120

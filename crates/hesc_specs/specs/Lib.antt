@@ -6,3 +6,8 @@ pub mod Changes
 pub mod Parts
 pub mod FirstPlace
 pub mod Beginning
+pub mod Entities
+pub mod TableFaults
+pub mod References
+pub mod ReferenceChanges
+pub mod KeptControls

@@ -6,5 +6,7 @@
 #![tactic(auto)]
 
 mod classes;
+mod table_fault;
 
 pub use crate::classes::Class;
+pub use crate::table_fault::TableFault;

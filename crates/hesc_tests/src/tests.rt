@@ -6,6 +6,7 @@ mod memory;
 mod parts;
 mod pieces;
 mod places;
+mod references;
 mod refusing;
 mod rows;
 mod streams;

@@ -7,6 +7,8 @@ ghost use Rattle.hesc_tool.specs.Commands.{NamesNoCommand, words_of};
 pub enum Command {
     /// `encode_text`: the encoding of a text.
     EncodeText,
+    /// `decode_html_entities`: a text decoded by the built-in table.
+    DecodeHtmlEntities,
 }
 
 /// The command that the words after the program's name name, `None` where they name none.
@@ -16,6 +18,7 @@ pub fn command_of(words: &[&str]) -> Option<Command>
 {
     match words {
         ["encode_text"] => Some(Command::EncodeText),
+        ["decode_html_entities"] => Some(Command::DecodeHtmlEntities),
         _ => None,
     }
 }

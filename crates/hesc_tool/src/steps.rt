@@ -10,7 +10,7 @@ ghost use Rattle.hesc_tool.specs.declared.faults.Fault.{Fault};
 
 use crate::commands::Command;
 use crate::faults::Fault;
-use html_escape::encode_text;
+use html_escape::{decode_html_entities, encode_text};
 use std::alloc::{AllocError, Allocator};
 use std::borrow::CowStr;
 use std::io::{Read, Write};
@@ -71,6 +71,7 @@ fn text_of<'t, A: Allocator>(
 {
     match command {
         Command::EncodeText => encode_text(alloc, text),
+        Command::DecodeHtmlEntities => decode_html_entities(alloc, text),
     }
 }
 

@@ -1,14 +1,20 @@
 //! Escapes any text for a place of an HTML page, and proves that it comes back.
 //!
-//! Each encoder has four forms: `encode_text` answers a text that borrows where nothing changes,
+//! Each operation has four forms: `encode_text` answers a text that borrows where nothing changes,
 //! `encode_text_to_string` and `encode_text_to_vec` append, and `encode_text_to_writer` writes. An
-//! [`Encoder`] is an encoder as a value.
+//! [`Encoder`] is an encoder as a value. References are decoded by the built-in table of names, or
+//! by an [`EntityTable`] that is handed in.
 #![tactic(auto)]
 
 pub mod encoder;
 
 pub use crate::encoder::Encoder;
-pub use hesc_core::{Piece, Pieces, laws};
+pub use hesc_core::{EntityTable, NAMED_ENTITIES, Piece, Pieces, TableFault, laws};
+pub use hesc_decode::{
+    decode_html_entities, decode_html_entities_to_string, decode_html_entities_to_vec,
+    decode_html_entities_to_writer, decode_html_entities_with, decode_html_entities_with_to_string,
+    decode_html_entities_with_to_vec, decode_html_entities_with_to_writer,
+};
 pub use hesc_encode::{
     encode_double_quoted_attribute, encode_double_quoted_attribute_to_string,
     encode_double_quoted_attribute_to_vec, encode_double_quoted_attribute_to_writer,

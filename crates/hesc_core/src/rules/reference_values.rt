@@ -1,0 +1,92 @@
+//! The value of a reference's body: of its number, or of its name.
+ghost use Rattle.std.specs.Prelude.{◌≡◌, ◌≤◌, ◌<◌, ◌+◌, ◌*◌};
+ghost use Rattle.std.specs.Option.{option_map};
+ghost use Rattle.hesc_specs.specs.References.{body_value, is_kept_control, number_of, numbered_value, numeral};
+ghost use Rattle.hesc_core.specs.Numbers.{base_of, capped};
+ghost use Rattle.hesc_core.specs.Table.{rows_of};
+ghost use Rattle.hesc_core.specs.Text.{replacement_bytes};
+
+use crate::found::Replacement;
+use crate::small_text::SmallText;
+use crate::table::EntityTable;
+
+/// The number right behind that of the last character, for which any greater one stands.
+const PAST_CHARACTERS: u32 = 0x110000;
+
+/// The value of a body, if it has one.
+pub fn value_of_body<'a>(table: &EntityTable<'a>, body: &[u8]) -> Option<Replacement<'a>>
+    ensures { option_map replacement_bytes result ≡ body_value (rows_of table.now) body.now }
+{
+    match number_of(body) {
+        Some(number) => character(number),
+        None => match table.get(body) {
+            Some(value) => Some(Replacement::Borrowed(value)),
+            None => None,
+        },
+    }
+}
+
+// The character of a number, if a reference may stand for it.
+fn character(number: u32) -> Option<Replacement<'static>>
+    ensures { option_map replacement_bytes result ≡ numbered_value number }
+{
+    if is_kept_control(number) {
+        return None;
+    }
+    let character = char::from_u32(number)?;
+    let mut bytes = [0; 4];
+    Some(Replacement::Small(SmallText::new(character.encode_utf8(&mut bytes))))
+}
+
+// Whether the number is of a C0 control other than tab, line feed, form feed, carriage return.
+fn is_kept_control(number: u32) -> bool
+    ensures { result ≡ is_kept_control number }
+{
+    number < 32 && !matches!(number, 9 | 10 | 12 | 13)
+}
+
+// The number of a body, if it is one.
+fn number_of(body: &[u8]) -> Option<u32>
+    ensures { result ≡ option_map capped (number_of body.now) }
+{
+    match body {
+        [b'#', b'x' | b'X', digits @ ..] => numeral(true, digits),
+        [b'#', digits @ ..] => numeral(false, digits),
+        _ => None,
+    }
+}
+
+// The number that one or more digits write.
+fn numeral(is_hex: bool, digits: &[u8]) -> Option<u32>
+    ensures { result ≡ option_map capped (numeral (base_of is_hex) digits.now) }
+{
+    if digits.is_empty() {
+        return None;
+    }
+    let mut number = 0;
+    for digit in digits {
+        let value = (*digit as char).to_digit(base(is_hex))?;
+        number = with_digit(is_hex, number, value);
+    }
+    Some(number)
+}
+
+// The number that a number's digits and one more digit write.
+fn with_digit(is_hex: bool, number: u32, digit: u32) -> u32
+    requires number { number ≤ 0x110000 }
+    requires digit { digit < base_of is_hex }
+    ensures { result ≡ capped (number * base_of is_hex + digit) }
+{
+    let longer = number * base(is_hex) + digit;
+    if longer < PAST_CHARACTERS {
+        longer
+    } else {
+        PAST_CHARACTERS
+    }
+}
+
+fn base(is_hex: bool) -> u32
+    ensures { result ≡ base_of is_hex }
+{
+    if is_hex { 16 } else { 10 }
+}

@@ -1,0 +1,63 @@
+//! Decoding by a table: each reference that has a value becomes it.
+ghost use Rattle.std.specs.Prelude.{◌≡◌, [], IfNone, IfSome};
+ghost use Rattle.std.specs.Str.{IsCharBoundary};
+ghost use Rattle.hesc_specs.specs.ReferenceChanges.{reference_changes};
+ghost use Rattle.hesc_specs.specs.References.{decoded};
+ghost use Rattle.hesc_specs.proofs.AppliedReferences.{applied-reference_changes};
+ghost use Rattle.hesc_core.specs.Next.{IsNext};
+ghost use Rattle.hesc_core.specs.Table.{rows_of};
+
+use crate::find::{first_byte, first_of_two};
+use crate::found::Found;
+use crate::rule::Rule;
+use crate::rules::reference_values::value_of_body;
+use crate::table::EntityTable;
+
+/// The decoder of the references of a table.
+#[derive(Clone, Copy)]
+pub struct References<'a>(pub &'a EntityTable<'a>);
+
+impl Rule for References<'_> {
+    ghost changes_from = { λ rule. reference_changes (rows_of rule.0.now) };
+
+    ghost made = { λ rule. decoded (rows_of rule.0.now) };
+
+    fn next(&self, text: &str, from: usize) -> Option<Found<'_>> {
+        next_references(self.0, text, from)
+    }
+
+    ghost makes = { λ rule source _. applied-reference_changes (rows_of rule.0.now) source };
+}
+
+/// The first reference at or after `from`, a character boundary, that has a value, and its value.
+///
+/// Each `&` is judged by itself: what follows it goes up to the next `&` or `;`, and no byte is
+/// searched twice for either.
+pub fn next_references<'a>(table: &EntityTable<'a>, text: &str, from: usize) -> Option<Found<'a>>
+    requires { IsCharBoundary text.now from }
+    ensures none { IfNone result (reference_changes (rows_of table.now) text.now from ≡ []) }
+    ensures found { IfSome result
+        (IsNext text.now from (reference_changes (rows_of table.now) text.now)) }
+{
+    let bytes = text.as_bytes();
+    let mut start = first_byte(b'&', bytes, from);
+    'seeking: while start < bytes.len() {
+        let end = first_of_two(b'&', b';', bytes, start + 1);
+        if end == bytes.len() {
+            return None;
+        }
+        if bytes[end] == b'&' {
+            start = end;
+        } else {
+            if let Some(replacement) = value_of_body(table, &bytes[start + 1..end]) {
+                return Some(Found {
+                    start,
+                    end: end + 1,
+                    replacement,
+                });
+            }
+            start = first_byte(b'&', bytes, end + 1);
+        }
+    }
+    None
+}

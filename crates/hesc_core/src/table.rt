@@ -1,0 +1,83 @@
+//! Tables of entities: which rows make one, and the value of a name.
+ghost use Rattle.std.specs.Prelude.{◌≡◌, IsTrue};
+ghost use Rattle.std.specs.Option.{option_map};
+ghost use Rattle.hesc_specs.specs.Entities.{value_of};
+ghost use Rattle.hesc_specs.specs.TableFaults.{is_table};
+ghost use Rattle.hesc_core.specs.Rows.{rows_in};
+
+use crate::entities::NAMED_ENTITIES;
+use crate::row_faults::{COMMON_ENTITIES, fault_of_row, first_value};
+use hesc_specs::TableFault;
+use std::cmp::Ordering;
+
+/// A table of entities: rows of a name and its value, by strictly rising names of ASCII letters and
+/// digits, that have the six common names with their values.
+#[derive(Clone, Copy)]
+pub struct EntityTable<'a> {
+    rows: &'a [(&'a [u8], &'a str)],
+    ghost good: { IsTrue (is_table (rows_in rows.now)) },
+}
+
+impl EntityTable<'static> {
+    ghost use Rattle.hesc_core.specs.NamedRows.{named_rows};
+    ghost use Rattle.hesc_core.specs.Table.{rows_of};
+
+    /// The table of [`NAMED_ENTITIES`].
+    pub fn built_in() -> EntityTable<'static>
+        ensures { rows_of result ≡ named_rows }
+    {
+        EntityTable {
+            rows: &NAMED_ENTITIES,
+        }
+    }
+}
+
+impl<'a> EntityTable<'a> {
+    ghost use Rattle.std.specs.Prelude.{IfOk};
+    ghost use Rattle.std.specs.Result.{result_err};
+    ghost use Rattle.hesc_specs.specs.TableFaults.{first_fault};
+    ghost use Rattle.hesc_core.specs.Table.{rows_of};
+
+    /// The table of these rows, or their first fault: the rows are checked in order, at each row
+    /// the faults in the order of `TableFault`, and at last whether a common name is missing.
+    pub fn new(rows: &'a [(&'a [u8], &'a str)]) -> Result<EntityTable<'a>, TableFault>
+        ensures made { IfOk result (λ table. rows_of table ≡ rows_in rows.now) }
+        ensures fault { result_err result ≡ first_fault (rows_in rows.now) }
+    {
+        for i in 0..rows.len() {
+            if let Some(fault) = fault_of_row(rows, i) {
+                return Err(fault);
+            }
+        }
+        for k in 0..COMMON_ENTITIES.len() {
+            if first_value(rows, COMMON_ENTITIES[k].0).is_none() {
+                return Err(TableFault::MissingCommon(k));
+            }
+        }
+        Ok(EntityTable { rows })
+    }
+
+    /// The value of exactly this name, found by halving the rows.
+    pub fn get(&self, name: &[u8]) -> Option<&'a str>
+        ensures { option_map (λ value. value.now) result ≡ value_of (rows_of self.now) name.now }
+    {
+        let mut low = 0;
+        let mut high = self.rows.len();
+        'halving: while low < high {
+            let middle = low + (high - low) / 2;
+            match self.rows[middle].0.cmp(name) {
+                Ordering::Less => low = middle + 1,
+                Ordering::Greater => high = middle,
+                Ordering::Equal => return Some(self.rows[middle].1),
+            }
+        }
+        None
+    }
+
+    /// The rows that the table was made of, in order.
+    pub fn rows(&self) -> &'a [(&'a [u8], &'a str)]
+        ensures { rows_in result.now ≡ rows_of self.now }
+    {
+        self.rows
+    }
+}

@@ -1,0 +1,92 @@
+//! `decode_html_entities`: each reference that has a value by the built-in table becomes it.
+ghost use Rattle.std.specs.Borrow.{sem};
+ghost use Rattle.hesc_specs.specs.ReferenceChanges.{reference_changes};
+ghost use Rattle.hesc_specs.specs.References.{decoded};
+ghost use Rattle.hesc_core.specs.Forms.{
+  AnswersPart,
+  AnswersText,
+  StringAppended,
+  VecAppended,
+  WritesText,
+  string_room,
+  vec_room,
+};
+ghost use Rattle.hesc_core.specs.NamedRows.{named_rows};
+
+use hesc_core::EntityTable;
+use hesc_core::forms::{onto_string, onto_vec, to_cow, to_writer};
+use hesc_core::rules::References;
+use std::alloc::{AllocError, Allocator};
+use std::borrow::CowStr;
+use std::io::{self, Write};
+
+/// `text` decoded. Where no reference has a value it is `text` itself, and takes no memory.
+pub fn decode_html_entities<'t, A: Allocator>(
+    alloc: A,
+    text: &'t str,
+) -> Result<CowStr<'t, A>, AllocError>
+    ensures { AnswersText text.now (decoded named_rows text.now)
+        (reference_changes named_rows text.now 0) result }
+{
+    to_cow(alloc, &References(&EntityTable::built_in()), text)
+}
+
+/// Appends `text` decoded to `output`, and answers the part that was added. On a refusal
+/// `output` is as it was.
+pub fn decode_html_entities_to_string<'o, A: Allocator>(
+    text: &str,
+    output: &'o mut String<A>,
+) -> Result<&'o str, AllocError>
+    ensures part { AnswersPart (string_room output.old)
+        (decoded named_rows text.now) result }
+    ensures* appended { sem 𝓛 (StringAppended A.row A.Allocator output.entry
+        (decoded named_rows text.now) result) }
+{
+    decode_html_entities_onto_string(output, text)
+}
+
+/// Appends `text` decoded to `output`, and answers the part that was added. On a refusal
+/// `output` is as it was.
+pub fn decode_html_entities_to_vec<'o, A: Allocator>(
+    text: &str,
+    output: &'o mut Vec<u8, A>,
+) -> Result<&'o [u8], AllocError>
+    ensures part { AnswersPart (vec_room output.old)
+        (decoded named_rows text.now) result }
+    ensures* appended { sem 𝓛 (VecAppended A.row A.Allocator output.entry
+        (decoded named_rows text.now) result) }
+{
+    decode_html_entities_onto_vec(output, text)
+}
+
+/// Writes `text` decoded to `output`, or a beginning of it and then the writer's fault.
+pub fn decode_html_entities_to_writer<W: Write>(text: &str, output: &mut W) -> Result<(), io::Error>
+    ensures { WritesText (W.contents output.old) (W.contents output.new)
+        (decoded named_rows text.now) result }
+{
+    to_writer(&References(&EntityTable::built_in()), text, output)
+}
+
+fn decode_html_entities_onto_string<'o, A: Allocator>(
+    output: &'o mut String<A>,
+    text: &str,
+) -> Result<&'o str, AllocError>
+    ensures part { AnswersPart (string_room output.old)
+        (decoded named_rows text.now) result }
+    ensures* appended { sem 𝓛 (StringAppended A.row A.Allocator output.entry
+        (decoded named_rows text.now) result) }
+{
+    onto_string(output, &References(&EntityTable::built_in()), text)
+}
+
+fn decode_html_entities_onto_vec<'o, A: Allocator>(
+    output: &'o mut Vec<u8, A>,
+    text: &str,
+) -> Result<&'o [u8], AllocError>
+    ensures part { AnswersPart (vec_room output.old)
+        (decoded named_rows text.now) result }
+    ensures* appended { sem 𝓛 (VecAppended A.row A.Allocator output.entry
+        (decoded named_rows text.now) result) }
+{
+    onto_vec(output, &References(&EntityTable::built_in()), text)
+}

@@ -1,0 +1,15 @@
+//! The decoders, each in four forms: a text that borrows where nothing changes, appended to a
+//! string or a vector, or written.
+#![tactic(auto)]
+
+pub mod html_entities;
+pub mod html_entities_with;
+
+pub use crate::html_entities::{
+    decode_html_entities, decode_html_entities_to_string, decode_html_entities_to_vec,
+    decode_html_entities_to_writer,
+};
+pub use crate::html_entities_with::{
+    decode_html_entities_with, decode_html_entities_with_to_string,
+    decode_html_entities_with_to_vec, decode_html_entities_with_to_writer,
+};
