@@ -45,7 +45,7 @@ next-html_changes class source from at first within =
     reached-html_changes class source from at first ∙ rw (drop_more source at 0 within, first.found within) refl
 
 -- the stretch up to one byte further
-slice_range-more : (source : List ℕ) (from at b : ℕ) (bytes : List ℕ) → from ≤ at → drop at source ≡ b ∷ bytes → slice_range source from (at + 1) ≡ slice_range source from at ++ b ∷ []
+pub slice_range-more : (source : List ℕ) (from at b : ℕ) (bytes : List ℕ) → from ≤ at → drop at source ≡ b ∷ bytes → slice_range source from (at + 1) ≡ slice_range source from at ++ b ∷ []
 slice_range-more source from at b bytes ordered is =
     let count : (at + 1) - from ≡ (at - from) + 1 = omega arith in
     let there : from + (at - from) ≡ at = omega arith in
@@ -53,7 +53,8 @@ slice_range-more source from at b bytes ordered is =
     let rest : drop (at - from) (drop from source) ≡ b ∷ bytes = drop-drop (at - from) from source ∙ rw there is in
     rw count (front ∙ rw rest refl)
 
-drop-more : (source : List ℕ) (at b : ℕ) (bytes : List ℕ) → drop at source ≡ b ∷ bytes → drop (at + 1) source ≡ bytes
+-- what stands one byte further
+pub drop-more : (source : List ℕ) (at b : ℕ) (bytes : List ℕ) → drop at source ≡ b ∷ bytes → drop (at + 1) source ≡ bytes
 drop-more source at b bytes is = sym (drop-drop 1 at source) ∙ rw is refl
 
 -- one byte more, by whether it is in the class

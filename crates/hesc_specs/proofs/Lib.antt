@@ -1,6 +1,12 @@
+pub mod BodyDecodingChanges
+pub mod BodyEncodingChanges
+pub mod BodySeam
+pub mod CanonicalBodies
 pub mod DifferentTexts
 pub mod HexDigits
 pub mod HtmlChanges
 pub mod HtmlImages
 pub mod JoinedTexts
+pub mod OpeningLemmas
 pub mod PartLemmas
+pub mod SameBodies

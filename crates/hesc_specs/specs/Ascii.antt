@@ -37,5 +37,8 @@ equals_sign = 61
 abbrev pub greater_than : ℕ
 greater_than = 62
 
+abbrev pub backslash : ℕ
+backslash = 92
+
 abbrev pub backtick : ℕ
 backtick = 96

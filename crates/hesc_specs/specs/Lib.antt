@@ -1,4 +1,5 @@
 pub mod Ascii
+pub mod Words
 pub mod Classes
 pub mod Html
 pub mod Nul
@@ -6,3 +7,8 @@ pub mod Changes
 pub mod Parts
 pub mod FirstPlace
 pub mod Beginning
+pub mod Elements
+pub mod Openings
+pub mod Bodies
+pub mod BodyChanges
+pub mod SameBody

@@ -6,5 +6,7 @@
 #![tactic(auto)]
 
 mod classes;
+mod elements;
 
 pub use crate::classes::Class;
+pub use crate::elements::Element;

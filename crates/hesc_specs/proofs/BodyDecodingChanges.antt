@@ -1,0 +1,82 @@
+-- The changes of a body decoder: which comes first, when none is left, and that they make the decoding.
+use Rattle.std.proofs.Common.{◌≡◌, ℕ, zero, suc, add-zero, ◌+◌, ◌-◌, ◌≤◌, ◌<◌, List, [], ◌∷◌, ◌++◌, Bool, true, false, length, drop, refl, ap, ◌∙◌, append_assoc, arith}
+use Rattle.std.specs.Prelude.{slice_range, slice_index}
+use Rattle.std.proofs.lemmas.List.{drop_more}
+use Rattle.std.proofs.lemmas.List.Folds.{drop_split}
+use Rattle.std.proofs.Math.Seq.{drop-length}
+use Rattle.hesc_specs.specs.Bodies.{body_decoding, body_decoding_after, nothing_before}
+use Rattle.hesc_specs.specs.BodyChanges.{body_decoding_changes, body_decoding_changes_of, byte_before}
+use Rattle.hesc_specs.specs.Changes.{applied}
+use Rattle.hesc_specs.specs.Openings.{is_escaped_opening}
+use Rattle.hesc_specs.specs.declared.elements.Element.{Element}
+use Rattle.hesc_specs.proofs.HtmlChanges.{slice_range-more, drop-more}
+
+-- the byte before a place and those from it on are the second byte of an escaped opening and what follows
+abbrev pub is_escape : Element → List ℕ → ℕ → Bool
+is_escape element source place = is_escaped_opening element (byte_before source place ∷ drop place source)
+
+byte_before-more : (source : List ℕ) (at : ℕ) → byte_before source (at + 1) ≡ slice_index source at
+byte_before-more source at = let there : at + 1 ≡ suc at = omega arith in rw there refl
+
+-- one byte further, where none is dropped
+kept-one : (element : Element) (source : List ℕ) (at : ℕ) → at < length source → is_escape element source at ≡ false
+    → body_decoding_changes element source at ≡ body_decoding_changes element source (at + 1)
+kept-one element source at within plain =
+    rw (drop_more source at 0 within, byte_before-more source at) (rw (rw (drop_more source at 0 within) at plain) refl)
+
+kept-many : (element : Element) (source : List ℕ) (from n : ℕ) → from + n ≤ length source → ((k : ℕ) → from ≤ k → k < from + n → is_escape element source k ≡ false)
+    → body_decoding_changes element source from ≡ body_decoding_changes element source (from + n)
+kept-many element source from zero within before = rw add-zero refl
+kept-many element source from (suc n) within before =
+    let there : (from + 1) + n ≡ from + suc n = omega arith in
+    kept-one element source from (omega arith) (before from (omega arith) (omega arith))
+    ∙ rw there at (kept-many element source (from + 1) n (omega arith) (λ k after below. before k (omega arith) (omega arith)))
+
+-- the changes from a place on are those from another, where no byte between is dropped
+pub reached-body_decoding_changes : (element : Element) (source : List ℕ) (from at : ℕ) → from ≤ at → at ≤ length source
+    → ((k : ℕ) → from ≤ k → k < at → is_escape element source k ≡ false)
+    → body_decoding_changes element source from ≡ body_decoding_changes element source at
+reached-body_decoding_changes element source from at ordered within before =
+    let there : from + (at - from) ≡ at = omega arith in
+    rw there at (kept-many element source from (at - from) (omega arith) (λ k after below. before k after (omega arith)))
+
+-- none is left where no byte is dropped
+pub no-body_decoding_changes : (element : Element) (source : List ℕ) (from : ℕ) → from ≤ length source
+    → ((k : ℕ) → from ≤ k → k < length source → is_escape element source k ≡ false) → body_decoding_changes element source from ≡ []
+no-body_decoding_changes element source from within before =
+    reached-body_decoding_changes element source from (length source) within (omega arith) before ∙ rw (drop-length source) refl
+
+-- the first is that of the first byte that is dropped
+pub next-body_decoding_changes : (element : Element) (source : List ℕ) (from at : ℕ) → from ≤ at → at < length source
+    → ((k : ℕ) → from ≤ k → k < at → is_escape element source k ≡ false) → is_escape element source at ≡ true
+    → body_decoding_changes element source from ≡ record { start = at; end = at + 1; bytes = [] } ∷ body_decoding_changes element source (at + 1)
+next-body_decoding_changes element source from at ordered within before escaped =
+    reached-body_decoding_changes element source from at ordered (omega arith) before
+    ∙ rw (drop_more source at 0 within, byte_before-more source at) (rw (rw (drop_more source at 0 within) at escaped) refl)
+
+-- one byte more, by whether it is dropped
+applied-step : (element : Element) (source : List ℕ) (before from at b : ℕ) (bytes : List ℕ) (t : Bool) → is_escaped_opening element (before ∷ b ∷ bytes) ≡ t
+    → from ≤ at → drop at source ≡ b ∷ bytes
+    → applied source from (body_decoding_changes_of element b (at + 1) bytes) ≡ slice_range source from (at + 1) ++ body_decoding_after element b bytes
+    → applied source (at + 1) (body_decoding_changes_of element b (at + 1) bytes) ≡ slice_range source (at + 1) (at + 1) ++ body_decoding_after element b bytes
+    → applied source from (body_decoding_changes_of element before at (b ∷ bytes)) ≡ slice_range source from at ++ body_decoding_after element before (b ∷ bytes)
+applied-step element source before from at b bytes true escaped ordered is on next =
+    let nothing : (at + 1) - (at + 1) ≡ 0 = omega arith in
+    let after : applied source (at + 1) (body_decoding_changes_of element b (at + 1) bytes) ≡ body_decoding_after element b bytes = rw nothing at next in
+    rw (escaped, after) refl
+applied-step element source before from at b bytes false plain ordered is on next =
+    rw plain (on ∙ rw (slice_range-more source from at b bytes ordered is) (append_assoc (slice_range source from at) (b ∷ []) (body_decoding_after element b bytes)))
+
+-- the changes made, from a place before the bytes on
+applied-changes_of : (element : Element) (source : List ℕ) (before from at : ℕ) (bytes : List ℕ) → from ≤ at → drop at source ≡ bytes
+    → applied source from (body_decoding_changes_of element before at bytes) ≡ slice_range source from at ++ body_decoding_after element before bytes
+applied-changes_of element source before from at [] ordered is = drop_split source from at ordered ∙ ap (λ rest. slice_range source from at ++ rest) is
+applied-changes_of element source before from at (b ∷ bytes) ordered is =
+    let rest : drop (at + 1) source ≡ bytes = drop-more source at b bytes is in
+    applied-step element source before from at b bytes (is_escaped_opening element (before ∷ b ∷ bytes)) refl ordered is
+    (applied-changes_of element source b from (at + 1) bytes (omega arith) rest)
+    (applied-changes_of element source b (at + 1) (at + 1) bytes (omega arith) rest)
+
+-- the changes of a body decoder, made, are its decoding
+pub applied-body_decoding_changes : (element : Element) (source : List ℕ) → applied source 0 (body_decoding_changes element source 0) ≡ body_decoding element source
+applied-body_decoding_changes element source = applied-changes_of element source nothing_before 0 0 source (omega arith) refl
