@@ -1,4 +1,6 @@
+mod FoundBytes
 pub mod HandsOn
+mod OpeningSearch
 mod Progress
 mod Seam
 mod Told

@@ -6,9 +6,11 @@
 #![tactic(auto)]
 
 pub mod engine;
+pub mod find;
 pub mod forms;
 pub mod found;
 pub mod laws;
+pub mod openings;
 pub mod pieces;
 pub mod rule;
 pub mod rules;
@@ -24,4 +26,4 @@ pub use crate::rule::Rule;
 pub use crate::sink::Sink;
 pub use crate::sinks::{CountOverflow, Counter, StringSink, VecSink, WriterSink};
 pub use crate::small_text::SmallText;
-pub use hesc_specs::Class;
+pub use hesc_specs::{Class, Element};

@@ -1,4 +1,8 @@
 //! The rules of the operations.
+pub mod bodies;
 pub mod escape;
 
+pub use crate::rules::bodies::{
+    DecodeScript, DecodeStyle, EncodeScript, EncodeStyle, next_body_escape, next_body_unescape,
+};
 pub use crate::rules::escape::{Escape, next_escape};

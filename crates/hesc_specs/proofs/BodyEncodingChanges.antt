@@ -1,14 +1,16 @@
 -- The changes of a body encoder: which comes first, when none is left, and that they make the encoding.
-use Rattle.std.proofs.Common.{◌≡◌, ℕ, zero, suc, add-zero, ◌+◌, ◌-◌, ◌≤◌, ◌<◌, List, [], ◌∷◌, ◌++◌, Bool, true, false, length, drop, refl, ap, ◌∙◌, append_assoc, arith}
-use Rattle.std.specs.Prelude.{slice_range}
+use Rattle.std.proofs.Common.{◌≡◌, ℕ, zero, suc, add-zero, ◌+◌, ◌-◌, ◌≤◌, ◌<◌, List, [], ◌∷◌, ◌++◌, Bool, true, false, length, drop, refl, ap, ◌∙◌, append_assoc, arith, ◌==◌}
+use Rattle.std.specs.Prelude.{slice_range, slice_index}
+use Rattle.std.proofs.lemmas.Bool.{and_parts, eqb-true}
 use Rattle.std.proofs.lemmas.List.{drop-drop, drop_more, length-drop}
 use Rattle.std.proofs.lemmas.List.Folds.{drop_split}
 use Rattle.std.proofs.Math.Seq.{drop-length}
-use Rattle.hesc_specs.specs.Ascii.{backslash}
+use Rattle.hesc_specs.specs.Ascii.{less_than, backslash}
 use Rattle.hesc_specs.specs.Bodies.{body_encoding}
 use Rattle.hesc_specs.specs.BodyChanges.{body_encoding_changes, body_encoding_changes_of}
 use Rattle.hesc_specs.specs.Changes.{applied}
-use Rattle.hesc_specs.specs.Openings.{is_opening}
+use Rattle.hesc_specs.specs.FirstPlace.{IsFirstAt}
+use Rattle.hesc_specs.specs.Openings.{completes_opening, is_opening, opens_at}
 use Rattle.hesc_specs.specs.declared.elements.Element.{Element}
 use Rattle.hesc_specs.proofs.HtmlChanges.{slice_range-more, drop-more}
 
@@ -23,29 +25,32 @@ kept-changes_of element at (b ∷ bytes) (suc n) within before =
     let there : (at + 1) + n ≡ at + suc n = omega arith in
     rw (before 0 (omega arith)) (rw there at later)
 
--- the changes from a place on are those from another, where no opening begins between
-pub reached-body_encoding_changes : (element : Element) (source : List ℕ) (from at : ℕ) → from ≤ at → at ≤ length source
-    → ((k : ℕ) → from ≤ k → k < at → is_opening element (drop k source) ≡ false)
+-- the changes from a place on are those from the first opening on
+reached-changes : (element : Element) (source : List ℕ) (from at : ℕ) → IsFirstAt (opens_at element source) from (length source) at
     → body_encoding_changes element source from ≡ body_encoding_changes element source at
-reached-body_encoding_changes element source from at ordered within before =
-    let there : from + (at - from) ≡ at = omega arith in
-    kept-changes_of element from (drop from source) (at - from) (omega (arith, length-drop from source))
-    (λ k below. rw (drop-drop k from source) (before (from + k) (omega arith) (omega arith)))
+reached-changes element source from at first =
+    let there : from + (at - from) ≡ at = omega (arith, first.ordered) in
+    kept-changes_of element from (drop from source) (at - from) (omega (arith, length-drop from source, first.in_range))
+    (λ k below. rw (drop-drop k from source) (first.before (from + k) (omega arith) (omega arith)))
     ∙ rw (drop-drop (at - from) from source, there) refl
 
--- none is left where no opening begins
-pub no-body_encoding_changes : (element : Element) (source : List ℕ) (from : ℕ) → from ≤ length source
-    → ((k : ℕ) → from ≤ k → k < length source → is_opening element (drop k source) ≡ false) → body_encoding_changes element source from ≡ []
-no-body_encoding_changes element source from within before =
-    reached-body_encoding_changes element source from (length source) within (omega arith) before ∙ rw (drop-length source) refl
+-- none is left where no opening begins any more
+pub no-body_encoding_changes : (element : Element) (source : List ℕ) (from at : ℕ) → IsFirstAt (opens_at element source) from (length source) at
+    → at ≡ length source → body_encoding_changes element source from ≡ []
+no-body_encoding_changes element source from at first is_end = reached-changes element source from at first ∙ rw (is_end, drop-length source) refl
 
 -- the first is that of the first opening
-pub next-body_encoding_changes : (element : Element) (source : List ℕ) (from at : ℕ) → from ≤ at → at < length source
-    → ((k : ℕ) → from ≤ k → k < at → is_opening element (drop k source) ≡ false) → is_opening element (drop at source) ≡ true
+pub next-body_encoding_changes : (element : Element) (source : List ℕ) (from at : ℕ) → IsFirstAt (opens_at element source) from (length source) at → at < length source
     → body_encoding_changes element source from ≡ record { start = at + 1; end = at + 1; bytes = backslash ∷ [] } ∷ body_encoding_changes element source (at + 1)
-next-body_encoding_changes element source from at ordered within before opens =
-    reached-body_encoding_changes element source from at ordered (omega arith) before
-    ∙ rw (drop_more source at 0 within) (rw (rw (drop_more source at 0 within) at opens) refl)
+next-body_encoding_changes element source from at first within =
+    reached-changes element source from at first
+    ∙ rw (drop_more source at 0 within) (rw (rw (drop_more source at 0 within) at (first.found within)) refl)
+
+-- an opening begins with a `<`
+pub opening-byte : (element : Element) (source : List ℕ) (place : ℕ) → place < length source → opens_at element source place ≡ true → slice_index source place ≡ less_than
+opening-byte element source place within opens =
+    let parts = and_parts (slice_index source place == less_than) (completes_opening element (drop (place + 1) source)) (rw (drop_more source place 0 within) at opens) in
+    eqb-true (slice_index source place) less_than parts.0
 
 -- one byte more, by whether an opening begins at it
 applied-step : (element : Element) (source : List ℕ) (from at b : ℕ) (bytes : List ℕ) (t : Bool) → is_opening element (b ∷ bytes) ≡ t → from ≤ at → drop at source ≡ b ∷ bytes

@@ -25,10 +25,18 @@ is_escaped_opening element [] = false
 is_escaped_opening element (b ∷ []) = false
 is_escaped_opening element (b ∷ c ∷ bytes) = b == less_than && (c == backslash && is_opening element (b ∷ bytes))
 
+-- an opening begins at a place of a text
+abbrev pub opens_at : Element → List ℕ → ℕ → Bool
+opens_at element text place = is_opening element (drop place text)
+
+-- an escaped opening begins at a place of a text
+abbrev pub opens_escaped_at : Element → List ℕ → ℕ → Bool
+opens_escaped_at element text place = is_escaped_opening element (drop place text)
+
 -- no opening begins at any place
 abbrev pub HasNoOpening : Element → List ℕ → Type 0
-HasNoOpening element text = (place : ℕ) → is_opening element (drop place text) ≡ false
+HasNoOpening element text = (place : ℕ) → opens_at element text place ≡ false
 
 -- no escaped opening begins at any place
 abbrev pub HasNoEscapedOpening : Element → List ℕ → Type 0
-HasNoEscapedOpening element text = (place : ℕ) → is_escaped_opening element (drop place text) ≡ false
+HasNoEscapedOpening element text = (place : ℕ) → opens_escaped_at element text place ≡ false
