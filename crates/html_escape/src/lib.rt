@@ -1,6 +1,6 @@
 //! Escapes any text for a place of an HTML page, and proves that it comes back.
 //!
-//! Each encoder has four forms: `encode_text` answers a text that borrows where nothing changes,
+//! Each operation has four forms: `encode_text` answers a text that borrows where nothing changes,
 //! `encode_text_to_string` and `encode_text_to_vec` append, and `encode_text_to_writer` writes. An
 //! [`Encoder`] is an encoder as a value.
 #![tactic(auto)]
@@ -9,6 +9,10 @@ pub mod encoder;
 
 pub use crate::encoder::Encoder;
 pub use hesc_core::{Piece, Pieces, laws};
+pub use hesc_decode::{
+    decode_script, decode_script_to_string, decode_script_to_vec, decode_script_to_writer,
+    decode_style, decode_style_to_string, decode_style_to_vec, decode_style_to_writer,
+};
 pub use hesc_encode::{
     encode_double_quoted_attribute, encode_double_quoted_attribute_to_string,
     encode_double_quoted_attribute_to_vec, encode_double_quoted_attribute_to_writer,

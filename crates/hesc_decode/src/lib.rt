@@ -1,0 +1,13 @@
+//! The decoders, each in four forms: a text that borrows where nothing changes, appended to a
+//! string or a vector, or written.
+#![tactic(auto)]
+
+pub mod script;
+pub mod style;
+
+pub use crate::script::{
+    decode_script, decode_script_to_string, decode_script_to_vec, decode_script_to_writer,
+};
+pub use crate::style::{
+    decode_style, decode_style_to_string, decode_style_to_vec, decode_style_to_writer,
+};
