@@ -1,12 +1,19 @@
 //! The laws of the operations: each is a function that does nothing and whose contract is the law.
-ghost use Rattle.std.specs.Prelude.{◌≡◌, ◌≢◌, ◌++◌};
+ghost use Rattle.std.specs.Prelude.{◌≡◌, ◌≢◌, ◌↔◌, ◌++◌};
+ghost use Rattle.hesc_specs.specs.Bodies.{
+  EndsWithoutLessThan,
+  body_decoding,
+  body_encoding,
+};
 ghost use Rattle.hesc_specs.specs.Html.{encoding};
 ghost use Rattle.hesc_specs.specs.KeptControls.{with_kept_controls};
+ghost use Rattle.hesc_specs.specs.Openings.{HasNoEscapedOpening, HasNoOpening};
 ghost use Rattle.hesc_specs.specs.References.{decoded};
+ghost use Rattle.hesc_specs.specs.SameBody.{IsSameBody};
 ghost use Rattle.hesc_core.specs.Table.{rows_of};
 
 use crate::table::EntityTable;
-use hesc_specs::Class;
+use hesc_specs::{Class, Element};
 
 /// The encoding of joined texts is their encodings, joined.
 pub fn joined_texts(class: Class, a: &str, b: &str)
@@ -30,4 +37,45 @@ pub fn references_undo_encoders(class: Class, table: &EntityTable, text: &str, r
 pub fn references_undo_unquoted_encoder(table: &EntityTable, text: &str, rest: &str)
     ensures { decoded (rows_of table.now) (encoding Class.UnquotedAttribute text.now ++ rest.now)
         ≡ with_kept_controls text.now ++ decoded (rows_of table.now) rest.now }
+{}
+
+/// The encoding of a body has no opening and its decoding no escaped one, and each is the same body
+/// as the text.
+pub fn canonical_body(element: Element, text: &str)
+    ensures no_opening { HasNoOpening element (body_encoding element text.now) }
+    ensures no_escaped_opening { HasNoEscapedOpening element (body_decoding element text.now) }
+    ensures encoding_same { IsSameBody element (body_encoding element text.now) text.now }
+    ensures decoding_same { IsSameBody element (body_decoding element text.now) text.now }
+{}
+
+/// Encoding and decoding again, or one after the other, gives what the last of them gives alone.
+/// Decoding undoes encoding exactly where the text has no escaped opening.
+pub fn repeated_body(element: Element, text: &str)
+    ensures encode_twice { body_encoding element (body_encoding element text.now)
+        ≡ body_encoding element text.now }
+    ensures decode_twice { body_decoding element (body_decoding element text.now)
+        ≡ body_decoding element text.now }
+    ensures encode_decoding { body_encoding element (body_decoding element text.now)
+        ≡ body_encoding element text.now }
+    ensures decode_encoding { body_decoding element (body_encoding element text.now)
+        ≡ body_decoding element text.now }
+    ensures undone { (body_decoding element (body_encoding element text.now) ≡ text.now)
+        ↔ HasNoEscapedOpening element text.now }
+{}
+
+/// Two texts are the same body exactly if their encodings are equal, and exactly if their decodings
+/// are equal.
+pub fn same_bodies(element: Element, text: &str, other: &str)
+    ensures by_encoding { IsSameBody element text.now other.now
+        ↔ (body_encoding element text.now ≡ body_encoding element other.now) }
+    ensures by_decoding { IsSameBody element text.now other.now
+        ↔ (body_decoding element text.now ≡ body_decoding element other.now) }
+{}
+
+/// The encoding of joined bodies is their encodings, joined, where the first has no `<` so near its
+/// end that an opening could reach into the second.
+pub fn joined_bodies(element: Element, a: &str, b: &str)
+    requires { EndsWithoutLessThan element a.now }
+    ensures { body_encoding element (a.now ++ b.now)
+        ≡ body_encoding element a.now ++ body_encoding element b.now }
 {}

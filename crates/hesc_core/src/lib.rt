@@ -7,10 +7,11 @@
 
 pub mod engine;
 pub mod entities;
-mod find;
+pub mod find;
 pub mod forms;
 pub mod found;
 pub mod laws;
+pub mod openings;
 pub mod pieces;
 mod row_faults;
 pub mod rule;
@@ -30,4 +31,4 @@ pub use crate::sink::Sink;
 pub use crate::sinks::{CountOverflow, Counter, StringSink, VecSink, WriterSink};
 pub use crate::small_text::SmallText;
 pub use crate::table::EntityTable;
-pub use hesc_specs::{Class, TableFault};
+pub use hesc_specs::{Class, Element, TableFault};

@@ -4,6 +4,8 @@
 
 pub mod html_entities;
 pub mod html_entities_with;
+pub mod script;
+pub mod style;
 
 pub use crate::html_entities::{
     decode_html_entities, decode_html_entities_to_string, decode_html_entities_to_vec,
@@ -12,4 +14,10 @@ pub use crate::html_entities::{
 pub use crate::html_entities_with::{
     decode_html_entities_with, decode_html_entities_with_to_string,
     decode_html_entities_with_to_vec, decode_html_entities_with_to_writer,
+};
+pub use crate::script::{
+    decode_script, decode_script_to_string, decode_script_to_vec, decode_script_to_writer,
+};
+pub use crate::style::{
+    decode_style, decode_style_to_string, decode_style_to_vec, decode_style_to_writer,
 };

@@ -5,7 +5,9 @@
 pub mod double_quoted_attribute;
 pub mod quoted_attribute;
 pub mod safe;
+pub mod script;
 pub mod single_quoted_attribute;
+pub mod style;
 pub mod text;
 pub mod text_minimal;
 pub mod unquoted_attribute;
@@ -21,9 +23,15 @@ pub use crate::quoted_attribute::{
 pub use crate::safe::{
     encode_safe, encode_safe_to_string, encode_safe_to_vec, encode_safe_to_writer,
 };
+pub use crate::script::{
+    encode_script, encode_script_to_string, encode_script_to_vec, encode_script_to_writer,
+};
 pub use crate::single_quoted_attribute::{
     encode_single_quoted_attribute, encode_single_quoted_attribute_to_string,
     encode_single_quoted_attribute_to_vec, encode_single_quoted_attribute_to_writer,
+};
+pub use crate::style::{
+    encode_style, encode_style_to_string, encode_style_to_vec, encode_style_to_writer,
 };
 pub use crate::text::{
     encode_text, encode_text_to_string, encode_text_to_vec, encode_text_to_writer,

@@ -10,10 +10,10 @@ use Rattle.std.specs.List.{list_all, position_from}
 use Rattle.std.specs.Str.Parse.{digits_value}
 use Rattle.hesc_specs.specs.Ascii.{ampersand, semicolon, less_than, greater_than, double_quote, single_quote}
 use Rattle.hesc_specs.specs.Nul.{replacement_character}
+use Rattle.hesc_specs.specs.Words.{begins}
 use Rattle.hesc_places.specs.declared.grammar.Mode.TheVariants.{Plain}
 use Rattle.hesc_places.specs.declared.grammar.Step.{Step}
 use Rattle.hesc_places.specs.declared.grammar.Step.TheVariants.{Character, Nothing}
-use Rattle.hesc_places.specs.Words.{begins}
 
 -- U+00A0
 abbrev pub no_break_space : ℕ

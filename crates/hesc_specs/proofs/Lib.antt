@@ -1,11 +1,17 @@
 pub mod AppliedReferences
+pub mod BodyDecodingChanges
+pub mod BodyEncodingChanges
+pub mod BodySeam
+pub mod CanonicalBodies
 pub mod DifferentTexts
 pub mod HexDigits
 pub mod HtmlChanges
 pub mod HtmlImages
 pub mod JoinedTexts
 pub mod NextReference
+pub mod OpeningLemmas
 pub mod PartLemmas
 pub mod ReferencesUndone
+pub mod SameBodies
 pub mod SliceRanges
 pub mod Tables

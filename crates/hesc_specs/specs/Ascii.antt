@@ -46,6 +46,9 @@ greater_than = 62
 abbrev pub upper_x : ℕ
 upper_x = 88
 
+abbrev pub backslash : ℕ
+backslash = 92
+
 abbrev pub backtick : ℕ
 backtick = 96
 

@@ -1,4 +1,5 @@
 pub mod Ascii
+pub mod Words
 pub mod Classes
 pub mod Html
 pub mod Nul
@@ -11,3 +12,8 @@ pub mod TableFaults
 pub mod References
 pub mod ReferenceChanges
 pub mod KeptControls
+pub mod Elements
+pub mod Openings
+pub mod Bodies
+pub mod BodyChanges
+pub mod SameBody

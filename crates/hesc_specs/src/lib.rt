@@ -6,7 +6,9 @@
 #![tactic(auto)]
 
 mod classes;
+mod elements;
 mod table_fault;
 
 pub use crate::classes::Class;
+pub use crate::elements::Element;
 pub use crate::table_fault::TableFault;

@@ -13,16 +13,20 @@ pub use hesc_core::{EntityTable, NAMED_ENTITIES, Piece, Pieces, TableFault, laws
 pub use hesc_decode::{
     decode_html_entities, decode_html_entities_to_string, decode_html_entities_to_vec,
     decode_html_entities_to_writer, decode_html_entities_with, decode_html_entities_with_to_string,
-    decode_html_entities_with_to_vec, decode_html_entities_with_to_writer,
+    decode_html_entities_with_to_vec, decode_html_entities_with_to_writer, decode_script,
+    decode_script_to_string, decode_script_to_vec, decode_script_to_writer, decode_style,
+    decode_style_to_string, decode_style_to_vec, decode_style_to_writer,
 };
 pub use hesc_encode::{
     encode_double_quoted_attribute, encode_double_quoted_attribute_to_string,
     encode_double_quoted_attribute_to_vec, encode_double_quoted_attribute_to_writer,
     encode_quoted_attribute, encode_quoted_attribute_to_string, encode_quoted_attribute_to_vec,
     encode_quoted_attribute_to_writer, encode_safe, encode_safe_to_string, encode_safe_to_vec,
-    encode_safe_to_writer, encode_single_quoted_attribute,
+    encode_safe_to_writer, encode_script, encode_script_to_string, encode_script_to_vec,
+    encode_script_to_writer, encode_single_quoted_attribute,
     encode_single_quoted_attribute_to_string, encode_single_quoted_attribute_to_vec,
-    encode_single_quoted_attribute_to_writer, encode_text, encode_text_minimal,
+    encode_single_quoted_attribute_to_writer, encode_style, encode_style_to_string,
+    encode_style_to_vec, encode_style_to_writer, encode_text, encode_text_minimal,
     encode_text_minimal_to_string, encode_text_minimal_to_vec, encode_text_minimal_to_writer,
     encode_text_to_string, encode_text_to_vec, encode_text_to_writer, encode_unquoted_attribute,
     encode_unquoted_attribute_to_string, encode_unquoted_attribute_to_vec,

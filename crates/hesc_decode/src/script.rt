@@ -1,0 +1,89 @@
+//! `decode_script`: each escaped opening of a script's body loses its `\`. So `<\!--` becomes `<!--`,
+//! and `<\/script`, in any case where the name ends, becomes `</script`.
+ghost use Rattle.std.specs.Borrow.{sem};
+ghost use Rattle.hesc_specs.specs.Bodies.{body_decoding};
+ghost use Rattle.hesc_specs.specs.BodyChanges.{body_decoding_changes};
+ghost use Rattle.hesc_specs.specs.declared.elements.Element.TheVariants.{Script};
+ghost use Rattle.hesc_core.specs.Forms.{
+  AnswersPart,
+  AnswersText,
+  StringAppended,
+  VecAppended,
+  WritesText,
+  string_room,
+  vec_room,
+};
+
+use hesc_core::forms::{onto_string, onto_vec, to_cow, to_writer};
+use hesc_core::rules::DecodeScript;
+use std::alloc::{AllocError, Allocator};
+use std::borrow::CowStr;
+use std::io::{self, Write};
+
+/// `text` decoded. Where it has no escaped opening it is `text` itself, and takes no memory.
+pub fn decode_script<'t, A: Allocator>(alloc: A, text: &'t str) -> Result<CowStr<'t, A>, AllocError>
+    ensures { AnswersText text.now (body_decoding Script text.now)
+        (body_decoding_changes Script text.now 0) result }
+{
+    to_cow(alloc, &DecodeScript, text)
+}
+
+/// Appends `text` decoded to `output`, and answers the part that was added. On a refusal
+/// `output` is as it was.
+pub fn decode_script_to_string<'o, A: Allocator>(
+    text: &str,
+    output: &'o mut String<A>,
+) -> Result<&'o str, AllocError>
+    ensures part { AnswersPart (string_room output.old)
+        (body_decoding Script text.now) result }
+    ensures* appended { sem 𝓛 (StringAppended A.row A.Allocator output.entry
+        (body_decoding Script text.now) result) }
+{
+    decode_script_onto_string(output, text)
+}
+
+/// Appends `text` decoded to `output`, and answers the part that was added. On a refusal
+/// `output` is as it was.
+pub fn decode_script_to_vec<'o, A: Allocator>(
+    text: &str,
+    output: &'o mut Vec<u8, A>,
+) -> Result<&'o [u8], AllocError>
+    ensures part { AnswersPart (vec_room output.old)
+        (body_decoding Script text.now) result }
+    ensures* appended { sem 𝓛 (VecAppended A.row A.Allocator output.entry
+        (body_decoding Script text.now) result) }
+{
+    decode_script_onto_vec(output, text)
+}
+
+/// Writes `text` decoded to `output`, or a beginning of it and then the writer's fault.
+pub fn decode_script_to_writer<W: Write>(text: &str, output: &mut W) -> Result<(), io::Error>
+    ensures { WritesText (W.contents output.old) (W.contents output.new)
+        (body_decoding Script text.now) result }
+{
+    to_writer(&DecodeScript, text, output)
+}
+
+fn decode_script_onto_string<'o, A: Allocator>(
+    output: &'o mut String<A>,
+    text: &str,
+) -> Result<&'o str, AllocError>
+    ensures part { AnswersPart (string_room output.old)
+        (body_decoding Script text.now) result }
+    ensures* appended { sem 𝓛 (StringAppended A.row A.Allocator output.entry
+        (body_decoding Script text.now) result) }
+{
+    onto_string(output, &DecodeScript, text)
+}
+
+fn decode_script_onto_vec<'o, A: Allocator>(
+    output: &'o mut Vec<u8, A>,
+    text: &str,
+) -> Result<&'o [u8], AllocError>
+    ensures part { AnswersPart (vec_room output.old)
+        (body_decoding Script text.now) result }
+    ensures* appended { sem 𝓛 (VecAppended A.row A.Allocator output.entry
+        (body_decoding Script text.now) result) }
+{
+    onto_vec(output, &DecodeScript, text)
+}
