@@ -6,3 +6,4 @@ pub mod ReadBacks
 pub mod MarkedPlaces
 pub mod UnquotedPlaces
 pub mod PlaceLaw
+pub mod EnclosedTexts

@@ -6,3 +6,4 @@ pub mod Marks
 pub mod PlaceReadings
 pub mod Suits
 pub mod ReadBack
+pub mod Enclosed

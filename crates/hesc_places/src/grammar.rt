@@ -1,3 +1,5 @@
+//! One step of a place's grammar: what begins at a position, and the mode after it.
+
 /// How far a reading is.
 #[derive(Clone, Copy, Debug, PartialEq, Eq)]
 pub enum Mode {

@@ -2,14 +2,20 @@
 //!
 //! A place begins behind its opening mark. Its grammar, which comes from a public standard, says
 //! where it ends and what it holds. The law of places ties the two sides: what a suiting encoder
-//! wrote ends exactly at the closing mark, whatever follows, and is read as the text.
+//! wrote ends exactly at the closing mark, whatever follows, and is read as the text. [`enclose`]
+//! writes a text for a place, marks and all, or says why it cannot.
 #![tactic(auto)]
 
+mod enclosed;
+mod enclosing;
+mod fault;
 mod grammar;
 pub mod laws;
 mod marks;
 mod places;
 mod suiting;
 
+pub use crate::enclosing::{append_enclosed, enclose};
+pub use crate::fault::PlaceFault;
 pub use crate::places::{End, Place};
 pub use crate::suiting::suits;

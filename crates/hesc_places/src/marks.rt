@@ -1,3 +1,4 @@
+//! The marks between which each place stands.
 ghost use Rattle.std.specs.Prelude.{◌≡◌};
 ghost use Rattle.hesc_places.specs.Marks.{opening, closing};
 

@@ -1,3 +1,5 @@
+//! The places of a page.
+
 /// A place of a page where a text may stand.
 ///
 /// | place | opening mark | closing mark |

@@ -1,3 +1,4 @@
+//! Which encoder suits which place.
 ghost use Rattle.std.specs.Prelude.{◌≡◌};
 ghost use Rattle.hesc_places.specs.Suits.{suits};
 

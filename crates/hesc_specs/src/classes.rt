@@ -1,3 +1,4 @@
+//! The classes of bytes, one for each encoder that replaces single bytes or characters.
 /// A set of bytes: those at which the encoder of that name may change something.
 #[derive(Clone, Copy, Debug, PartialEq, Eq)]
 pub enum Class {

@@ -1,3 +1,4 @@
+//! An allocator that refuses a request, so that a test sees what a call does without memory.
 use std::alloc::{AllocError, Allocator};
 use std::cell::Cell;
 

@@ -1,3 +1,4 @@
+//! Streams that take and give little at a time, and fail at the call at which they are told to.
 ghost use Rattle.std.specs.Prelude.{◌≡◌, [], Some};
 
 use std::alloc::Global;

@@ -38,15 +38,15 @@ impl Counter {
 }
 
 impl Sink for Counter {
-    ghost use Rattle.hesc_core.specs.Sinks.{counted};
+    ghost use Rattle.hesc_core.specs.Sinks.{counted, counter_failures};
 
     type Fault = CountOverflow;
 
     ghost taken = { counted };
 
-    ghost failures = { λ sink. sink.log.failures };
+    ghost failures = { counter_failures };
 
-    ghost room = { λ sink. 2 ^ 64 - 1 - sink.count };
+    ghost room = { λ sink. 2 ^ 64 - 1 - length (counted sink) };
 
     ghost reference = { λ _. 0 };
 

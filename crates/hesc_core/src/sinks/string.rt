@@ -1,6 +1,6 @@
 //! The sink that appends to a string.
-ghost use Rattle.std.specs.Prelude.{◌≡◌, ◌-◌, [], ◌++◌, Some};
-ghost use Rattle.std.specs.String.{string_bytes, string_capacity, string_len};
+ghost use Rattle.std.specs.Prelude.{◌≡◌, [], ◌++◌, Some};
+ghost use Rattle.std.specs.String.{string_bytes};
 
 use crate::sink::Sink;
 use crate::sinks::log::Log;
@@ -44,15 +44,21 @@ impl<'a, A: Allocator> StringSink<'a, A> {
 }
 
 impl<A: Allocator> Sink for StringSink<'_, A> {
-    ghost use Rattle.hesc_core.specs.Sinks.{string_sink_output, string_sink_start, string_sink_taken};
+    ghost use Rattle.hesc_core.specs.Forms.{string_room};
+    ghost use Rattle.hesc_core.specs.Sinks.{
+      string_sink_failures,
+      string_sink_output,
+      string_sink_start,
+      string_sink_taken,
+    };
 
     type Fault = AllocError;
 
     ghost taken = { string_sink_taken };
 
-    ghost failures = { λ sink. sink.log.failures };
+    ghost failures = { string_sink_failures };
 
-    ghost room = { λ sink. string_capacity sink.output.now - string_len sink.output.now };
+    ghost room = { λ sink. string_room (string_sink_output sink).now };
 
     ghost reference = { λ sink. (string_sink_output sink).ghost_name };
 

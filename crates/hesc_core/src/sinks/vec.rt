@@ -1,6 +1,5 @@
 //! The sink that appends to a vector of bytes.
-ghost use Rattle.std.specs.Prelude.{◌≡◌, ◌-◌, [], ◌++◌, Some, vec_len};
-ghost use Rattle.std.specs.Vec.{vec_capacity};
+ghost use Rattle.std.specs.Prelude.{◌≡◌, [], ◌++◌, Some};
 
 use crate::sink::Sink;
 use crate::sinks::log::Log;
@@ -44,15 +43,21 @@ impl<'a, A: Allocator> VecSink<'a, A> {
 }
 
 impl<A: Allocator> Sink for VecSink<'_, A> {
-    ghost use Rattle.hesc_core.specs.Sinks.{vec_sink_output, vec_sink_start, vec_sink_taken};
+    ghost use Rattle.hesc_core.specs.Forms.{vec_room};
+    ghost use Rattle.hesc_core.specs.Sinks.{
+      vec_sink_failures,
+      vec_sink_output,
+      vec_sink_start,
+      vec_sink_taken,
+    };
 
     type Fault = AllocError;
 
     ghost taken = { vec_sink_taken };
 
-    ghost failures = { λ sink. sink.log.failures };
+    ghost failures = { vec_sink_failures };
 
-    ghost room = { λ sink. vec_capacity sink.output.now - vec_len sink.output.now };
+    ghost room = { λ sink. vec_room (vec_sink_output sink).now };
 
     ghost reference = { λ sink. (vec_sink_output sink).ghost_name };
 

@@ -47,13 +47,18 @@ impl<'a, W: Write> WriterSink<'a, W> {
 }
 
 impl<W: Write> Sink for WriterSink<'_, W> {
-    ghost use Rattle.hesc_core.specs.Sinks.{writer_sink_output, writer_sink_start, writer_sink_taken};
+    ghost use Rattle.hesc_core.specs.Sinks.{
+      writer_sink_failures,
+      writer_sink_output,
+      writer_sink_start,
+      writer_sink_taken,
+    };
 
     type Fault = io::Error;
 
     ghost taken = { writer_sink_taken };
 
-    ghost failures = { λ sink. sink.log.failures };
+    ghost failures = { writer_sink_failures };
 
     ghost room = { λ _. 0 };
 

@@ -1,0 +1,158 @@
+//! Texts between the marks of a place: what is appended, the faults, and refused memory.
+use crate::Refusing;
+use hesc_places::{End, Place, PlaceFault, append_enclosed, enclose, suits};
+use html_escape::Encoder;
+use std::alloc::Global;
+use std::process::Abort;
+use std::test::Fail;
+
+type Row = (Encoder, Place, &'static str, &'static str);
+
+const ENCLOSED: [Row; 12] = [
+    (Encoder::Text, Place::Text, "a<b", ">a&lt;b<"),
+    (Encoder::TextMinimal, Place::Text, "", "><"),
+    (Encoder::Safe, Place::Text, "</b>", ">&lt;&#x2F;b&gt;<"),
+    (
+        Encoder::DoubleQuotedAttribute,
+        Place::DoubleAttribute,
+        "it's \"1\"",
+        "\"it's &quot;1&quot;\"",
+    ),
+    (
+        Encoder::UnquotedAttribute,
+        Place::DoubleAttribute,
+        "\0é",
+        "\"&#x00;é\"",
+    ),
+    (
+        Encoder::SingleQuotedAttribute,
+        Place::SingleAttribute,
+        "it's \"1\"",
+        "'it&#x27;s \"1\"'",
+    ),
+    (
+        Encoder::QuotedAttribute,
+        Place::SingleAttribute,
+        "'\"'",
+        "'&#x27;&quot;&#x27;'",
+    ),
+    (
+        Encoder::UnquotedAttribute,
+        Place::UnquotedAttribute(End::Greater),
+        "a b",
+        "=a&#x20;b>",
+    ),
+    (
+        Encoder::UnquotedAttribute,
+        Place::UnquotedAttribute(End::Space),
+        "a>",
+        "=a&gt; ",
+    ),
+    (
+        Encoder::UnquotedAttribute,
+        Place::UnquotedAttribute(End::Tab),
+        "a",
+        "=a\t",
+    ),
+    (
+        Encoder::UnquotedAttribute,
+        Place::UnquotedAttribute(End::LineFeed),
+        "a",
+        "=a\n",
+    ),
+    (
+        Encoder::UnquotedAttribute,
+        Place::UnquotedAttribute(End::FormFeed),
+        "a",
+        "=a\u{c}",
+    ),
+];
+
+const FAULTS: [(Encoder, Place, &str, PlaceFault); 4] = [
+    (
+        Encoder::Text,
+        Place::DoubleAttribute,
+        "a",
+        PlaceFault::NotForPlace,
+    ),
+    (
+        Encoder::Safe,
+        Place::UnquotedAttribute(End::Space),
+        "a",
+        PlaceFault::NotForPlace,
+    ),
+    (
+        Encoder::Safe,
+        Place::UnquotedAttribute(End::Space),
+        "",
+        PlaceFault::NotForPlace,
+    ),
+    (
+        Encoder::UnquotedAttribute,
+        Place::UnquotedAttribute(End::Space),
+        "",
+        PlaceFault::EmptyUnquoted,
+    ),
+];
+
+#[test]
+fn the_text_stands_between_the_marks(rt: HostRuntime) -> Result<(), Fail> {
+    for (encoder, place, text, enclosed) in ENCLOSED {
+        assert!(rt; suits(encoder, place), "{encoder:?} in {place:?}");
+        let mut output = String::from_str(rt.alloc(), "x")?;
+        let added = enclose(encoder, place, text, &mut output);
+        assert_eq!(rt; added, Ok(enclosed), "{encoder:?} in {place:?}");
+        assert_eq!(rt;
+            output.strip_prefix("x"),
+            Some(enclosed),
+            "{encoder:?} in {place:?}"
+        );
+    }
+    Ok(())
+}
+
+#[test]
+fn a_fault_leaves_the_output(rt: HostRuntime) -> Result<(), Fail> {
+    for (encoder, place, text, fault) in FAULTS {
+        let heap = Refusing::new(rt.alloc(), 0);
+        let mut output = String::from_str(&heap, "x")?;
+        heap.refuse(1);
+        let answer = append_enclosed(&mut output, encoder, place, text);
+        assert_eq!(rt; answer, Err(fault), "{encoder:?} in {place:?}");
+        assert_eq!(rt; output.as_str(), "x", "{encoder:?} in {place:?}");
+        assert_eq!(rt; heap.asked(1), 0, "{encoder:?} in {place:?}");
+    }
+    Ok(())
+}
+
+#[test]
+fn a_refused_request_leaves_the_output(rt: HostRuntime) -> Result<(), Fail> {
+    for row in ENCLOSED {
+        for number in 1..=2u64 {
+            refuse(&rt, rt.alloc(), row, number)?;
+        }
+    }
+    Ok(())
+}
+
+// One request where there is no room.
+fn refuse(rt: &impl Abort, alloc: Global, row: Row, number: u64) -> Result<(), Fail> {
+    let (encoder, place, text, enclosed) = row;
+    let heap = Refusing::new(alloc, 0);
+    let mut output = String::with_capacity(&heap, 1)?;
+    output.push('x')?;
+    heap.refuse(number);
+    let is_ok = append_enclosed(&mut output, encoder, place, text) == Ok(());
+    let added = if is_ok { enclosed } else { "" };
+    assert_eq!(rt; is_ok, number != 1, "{encoder:?} in {place:?}");
+    assert_eq!(rt; heap.asked(number), 1, "{encoder:?} in {place:?}");
+    assert!(rt;
+        is_x_and(output.as_str(), added),
+        "{encoder:?} in {place:?}"
+    );
+    Ok(())
+}
+
+fn is_x_and(output: &str, added: &str) -> bool {
+    output.strip_prefix("x") == Some(added)
+}

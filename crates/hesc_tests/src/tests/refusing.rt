@@ -1,0 +1,31 @@
+//! The allocator that refuses.
+use crate::Refusing;
+use std::test::Fail;
+
+#[test]
+fn the_request_of_that_number_is_refused(rt: HostRuntime) {
+    for number in 0..4u64 {
+        let heap = Refusing::new(rt.alloc(), number);
+        for request in 1..=3u64 {
+            let bytes: Result<Vec<u8, &Refusing<_>>, _> = Vec::with_capacity(&heap, 8);
+            assert_eq!(rt; bytes.is_err(), request == number, "{request} of {number}");
+            assert_eq!(rt; heap.asked(number), request);
+        }
+    }
+}
+
+#[test]
+fn a_refused_growth_is_one_request(rt: HostRuntime) -> Result<(), Fail> {
+    let heap = Refusing::new(rt.alloc(), 0);
+    let mut bytes = Vec::new(&heap);
+    bytes.extend_from_slice(b"ab")?;
+    bytes.shrink_to_fit();
+    heap.refuse(1);
+    assert!(rt; bytes.push(b'c').is_err());
+    assert_eq!(rt; bytes.as_slice(), b"ab".as_slice());
+    assert_eq!(rt; heap.asked(1), 1);
+    bytes.push(b'c')?;
+    assert_eq!(rt; bytes.as_slice(), b"abc".as_slice());
+    assert_eq!(rt; heap.asked(1), 2);
+    Ok(())
+}

@@ -1,0 +1,91 @@
+//! The weak streams.
+use crate::{Trouble, WeakReader, WeakWriter, Weakness};
+use std::io::{self, ErrorKind, Read, Write};
+use std::test::Fail;
+
+type Answer = Result<usize, ErrorKind>;
+
+fn answer(counted: io::Result<usize>) -> Answer {
+    match counted {
+        Ok(count) => Ok(count),
+        Err(error) => Err(error.kind()),
+    }
+}
+
+const WRITER_ANSWERS: [(Trouble, Answer); 4] = [
+    (Trouble::Calm, Ok(2)),
+    (Trouble::Fails, Err(ErrorKind::Other)),
+    (Trouble::Interrupted, Err(ErrorKind::Interrupted)),
+    (Trouble::Idle, Ok(0)),
+];
+
+#[test]
+fn a_writer_has_its_trouble_at_one_call(rt: HostRuntime) {
+    for (trouble, want) in WRITER_ANSWERS {
+        let weakness = Weakness {
+            step: 2,
+            at: 2,
+            trouble,
+        };
+        let mut output = WeakWriter::new(rt.alloc(), weakness);
+        assert_eq!(rt; answer(output.write(b"abc")), Ok(2), "{trouble:?}");
+        assert_eq!(rt; answer(output.write(b"cde")), want, "{trouble:?}");
+        assert_eq!(rt; answer(output.write(b"f")), Ok(1), "{trouble:?}");
+        let taken = if want == Ok(2) {
+            b"abcdf".as_slice()
+        } else {
+            b"abf".as_slice()
+        };
+        assert_eq!(rt; output.taken.as_slice(), taken, "{trouble:?}");
+        assert_eq!(rt; output.calls, 3, "{trouble:?}");
+    }
+}
+
+const READER_ANSWERS: [(Trouble, Answer); 4] = [
+    (Trouble::Calm, Ok(2)),
+    (Trouble::Fails, Err(ErrorKind::Other)),
+    (Trouble::Interrupted, Err(ErrorKind::Interrupted)),
+    (Trouble::Idle, Ok(2)),
+];
+
+#[test]
+fn a_reader_has_its_trouble_at_one_call(rt: HostRuntime) {
+    for (trouble, want) in READER_ANSWERS {
+        let weakness = Weakness {
+            step: 2,
+            at: 2,
+            trouble,
+        };
+        let mut input = WeakReader::new(b"abcde", weakness);
+        let mut buffer = [0u8; 3];
+        assert_eq!(rt; answer(input.read(&mut buffer)), Ok(2), "{trouble:?}");
+        assert_eq!(rt; buffer, [b'a', b'b', 0], "{trouble:?}");
+        assert_eq!(rt; answer(input.read(&mut buffer)), want, "{trouble:?}");
+        let left = if want == Ok(2) {
+            b"e".as_slice()
+        } else {
+            b"cde".as_slice()
+        };
+        assert_eq!(rt; input.left, left, "{trouble:?}");
+        assert_eq!(rt; input.calls, 2, "{trouble:?}");
+    }
+}
+
+#[test]
+fn a_byte_a_call_is_enough(rt: HostRuntime) -> Result<(), Fail> {
+    let weakness = Weakness {
+        step: 1,
+        at: 0,
+        trouble: Trouble::Calm,
+    };
+    let mut output = WeakWriter::new(rt.alloc(), weakness);
+    output.write_all(b"abcde")?;
+    assert_eq!(rt; output.taken.as_slice(), b"abcde".as_slice());
+    assert_eq!(rt; output.calls, 5);
+    let mut input = WeakReader::new(b"abcde", weakness);
+    let mut bytes = Vec::new(rt.alloc());
+    assert_eq!(rt; input.read_to_end(&mut bytes)?, 5);
+    assert_eq!(rt; bytes.as_slice(), b"abcde".as_slice());
+    assert_eq!(rt; input.calls, 6);
+    Ok(())
+}

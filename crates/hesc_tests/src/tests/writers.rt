@@ -1,0 +1,117 @@
+//! The writer forms over a writer that takes one byte a call, and has its trouble at one call.
+use crate::tests::forms::encode_to_writer;
+use crate::tests::rows::{ENCODERS, Row, rows};
+use crate::{Trouble, WeakWriter, Weakness};
+use html_escape::{Encoder, encode_text_to_writer};
+use std::alloc::Global;
+use std::io::{self, ErrorKind};
+use std::process::Abort;
+
+// A trouble of the writer, and the kind of the fault that is then answered.
+const TROUBLES: [(Trouble, ErrorKind); 3] = [
+    (Trouble::Fails, ErrorKind::Other),
+    (Trouble::Interrupted, ErrorKind::Interrupted),
+    (Trouble::Idle, ErrorKind::WriteZero),
+];
+
+fn weakness(at: u64, trouble: Trouble) -> Weakness {
+    Weakness {
+        step: 1,
+        at,
+        trouble,
+    }
+}
+
+#[test]
+fn a_trouble_at_any_call_is_handed_on(rt: HostRuntime) {
+    for encoder in ENCODERS {
+        for row in rows(encoder) {
+            writes_all(&rt, rt.alloc(), encoder, *row);
+            for (trouble, kind) in TROUBLES {
+                for at in 1..=row.1.len() as u64 {
+                    hands_on(&rt, rt.alloc(), encoder, *row, weakness(at, trouble), kind);
+                }
+            }
+        }
+    }
+}
+
+// Each byte is one call.
+fn writes_all(rt: &impl Abort, alloc: Global, encoder: Encoder, row: Row) {
+    let (text, encoding, _) = row;
+    let mut output = WeakWriter::new(alloc, weakness(0, Trouble::Calm));
+    assert!(rt;
+        encode_to_writer(encoder, text, &mut output).is_ok(),
+        "{encoder:?} of {text:?}"
+    );
+    assert_eq!(rt;
+        output.taken.as_slice(),
+        encoding.as_bytes(),
+        "{encoder:?} of {text:?}"
+    );
+    assert_eq!(rt;
+        output.calls,
+        encoding.len() as u64,
+        "{encoder:?} of {text:?}"
+    );
+}
+
+fn has_kind(written: io::Result<()>, kind: ErrorKind) -> bool {
+    match written {
+        Ok(()) => false,
+        Err(fault) => fault.kind() == kind,
+    }
+}
+
+// The bytes before the troubled call have gone out, and there is no call after it.
+fn hands_on(
+    rt: &impl Abort,
+    alloc: Global,
+    encoder: Encoder,
+    row: Row,
+    weakness: Weakness,
+    kind: ErrorKind,
+) {
+    let (text, encoding, _) = row;
+    let mut output = WeakWriter::new(alloc, weakness);
+    let written = encode_to_writer(encoder, text, &mut output);
+    assert!(rt; has_kind(written, kind), "{encoder:?}, {weakness:?}");
+    assert!(rt;
+        encoding.as_bytes().starts_with(output.taken.as_slice()),
+        "{encoder:?}, {weakness:?}"
+    );
+    assert_eq!(rt;
+        output.taken.len() as u64 + 1,
+        weakness.at,
+        "{encoder:?}, {weakness:?}"
+    );
+    assert_eq!(rt; output.calls, weakness.at, "{encoder:?}, {weakness:?}");
+}
+
+// The call at which the writer fails, and what has then gone out of `a > b`.
+const GONE_OUT: [(u64, &str); 9] = [
+    (1, ""),
+    (2, "a"),
+    (3, "a "),
+    (4, "a &"),
+    (5, "a &g"),
+    (6, "a &gt"),
+    (7, "a &gt;"),
+    (8, "a &gt; "),
+    (9, "a &gt; b"),
+];
+
+#[test]
+fn a_failed_writer_has_a_beginning(rt: HostRuntime) {
+    for (at, gone_out) in GONE_OUT {
+        let mut output = WeakWriter::new(rt.alloc(), weakness(at, Trouble::Fails));
+        let is_ok = encode_text_to_writer("a > b", &mut output).is_ok();
+        assert_eq!(rt; is_ok, at == 9, "failing at {at}");
+        assert_eq!(rt;
+            output.taken.as_slice(),
+            gone_out.as_bytes(),
+            "failing at {at}"
+        );
+        assert_eq!(rt; output.calls, at.min(8), "failing at {at}");
+    }
+}
