@@ -1,12 +1,13 @@
 -- The changes of decoding, made, are the decoded text.
 use Rattle.std.proofs.Common.{◌≡◌, ℕ, ◌+◌, ◌≤◌, List, [], ◌∷◌, ◌++◌, Bool, true, false, ◌==◌, Option, Some, None, length, drop, refl, ap, ◌∙◌, append_assoc, arith}
 use Rattle.std.specs.Prelude.{slice_range}
+use Rattle.std.specs.Option.{option_and_then}
 use Rattle.std.proofs.lemmas.Bool.Decides.{nat_tests}
 use Rattle.std.proofs.lemmas.List.Folds.{drop_split}
 use Rattle.hesc_specs.specs.Ascii.{ampersand, semicolon}
 use Rattle.hesc_specs.specs.Changes.{applied}
 use Rattle.hesc_specs.specs.Entities.{Row}
-use Rattle.hesc_specs.specs.References.{body_of, with_byte, value_of_body, replaced_or_kept, decoded, decoded_from}
+use Rattle.hesc_specs.specs.References.{body_of, body_value, with_byte, reference_value, replaced_or_kept, decoded, decoded_from}
 use Rattle.hesc_specs.specs.ReferenceChanges.{reference_changes, reference_changes_of, with_reference}
 use Rattle.hesc_specs.proofs.SliceRanges.{slice_range-more, slice_range-nothing, drop-next}
 
@@ -27,7 +28,7 @@ module _ (rows : List Row) (source : List ℕ) where
 
   -- a `&`, by the value of what it begins
   ampersand_step : (from at : ℕ) (bytes : List ℕ) (body value : Option (List ℕ)) → from ≤ at → drop at source ≡ ampersand ∷ bytes
-      → Outside (at + 1) bytes → Inside (at + 1) bytes → body_of bytes ≡ body → value_of_body rows body ≡ value
+      → Outside (at + 1) bytes → Inside (at + 1) bytes → body_of bytes ≡ body → option_and_then (body_value rows) body ≡ value
       → applied source from (with_reference at body value (reference_changes_of rows (at + 1) bytes))
       ≡ slice_range source from at ++ replaced_or_kept value (decoded_from rows false bytes) (decoded_from rows true bytes)
   ampersand_step from at bytes None None ordered is outside inside is_body is_value = kept from at ampersand bytes ordered is outside
@@ -42,7 +43,7 @@ module _ (rows : List Row) (source : List ℕ) where
       → Outside (at + 1) bytes → Inside (at + 1) bytes → Outside at (b ∷ bytes)
   outside_step at b bytes true test is outside inside from ordered =
       let same : b ≡ ampersand = grind (arith, nat_tests, test) in
-      rw test (ampersand_step from at bytes (body_of bytes) (value_of_body rows (body_of bytes)) ordered (rw (← same) is) outside inside refl refl)
+      rw test (ampersand_step from at bytes (body_of bytes) (reference_value rows bytes) ordered (rw (← same) is) outside inside refl refl)
   outside_step at b bytes false test is outside inside from ordered = rw test (kept from at b bytes ordered is outside)
 
   -- a byte of a body that is not its end

@@ -7,7 +7,7 @@ use Rattle.std.proofs.Math.Seq.{drop-length}
 use Rattle.hesc_specs.specs.Ascii.{ampersand, semicolon}
 use Rattle.hesc_specs.specs.Entities.{Row}
 use Rattle.hesc_specs.specs.FirstPlace.{IsFirstPlace}
-use Rattle.hesc_specs.specs.References.{body_of, body_value, value_of_body, with_byte}
+use Rattle.hesc_specs.specs.References.{body_of, body_value, reference_value, with_byte}
 use Rattle.hesc_specs.specs.ReferenceChanges.{reference_changes, reference_changes_of, with_reference}
 
 -- the tests that a byte begins a reference, and that it ends a body
@@ -115,7 +115,7 @@ module _ (rows : List Row) where
       up_to_stop = skipped (start + 1) end first.ordered first.in_range (λ k low high. start_is_stop (slice_index source k) (first.before k low high))
 
       from_start : reference_changes rows source start
-          ≡ with_reference start (body_of (drop (start + 1) source)) (value_of_body rows (body_of (drop (start + 1) source))) (reference_changes rows source (start + 1))
+          ≡ with_reference start (body_of (drop (start + 1) source)) (reference_value rows (drop (start + 1) source)) (reference_changes rows source (start + 1))
       from_start = rw (drop_more source start 0 within, begins) refl
 
       -- no `&` or `;` comes any more

@@ -3,9 +3,9 @@ use Rattle.std.specs.Prelude.{ℕ, ◌+◌, List, [], ◌∷◌, drop, length, O
 use Rattle.hesc_specs.specs.Ascii.{ampersand}
 use Rattle.hesc_specs.specs.Changes.{Change}
 use Rattle.hesc_specs.specs.Entities.{Row}
-use Rattle.hesc_specs.specs.References.{body_of, value_of_body}
+use Rattle.hesc_specs.specs.References.{body_of, reference_value}
 
--- the change of a reference that begins at a place, if it has a body and a value, and the later changes
+-- the change of the reference of a body and a value that begins at a place, if there are both, and the later changes
 abbrev pub with_reference : ℕ → Option (List ℕ) → Option (List ℕ) → List Change → List Change
 with_reference at None value later = later
 with_reference at (Some body) None later = later
@@ -15,7 +15,7 @@ with_reference at (Some body) (Some value) later = record { start = at; end = at
 abbrev pub reference_changes_of : List Row → ℕ → List ℕ → List Change
 reference_changes_of rows at [] = []
 reference_changes_of rows at (b ∷ bytes) =
-    if b == ampersand then with_reference at (body_of bytes) (value_of_body rows (body_of bytes)) (reference_changes_of rows (at + 1) bytes)
+    if b == ampersand then with_reference at (body_of bytes) (reference_value rows bytes) (reference_changes_of rows (at + 1) bytes)
     else reference_changes_of rows (at + 1) bytes
 
 -- the changes of a source from a place on

@@ -5,6 +5,7 @@
 use Rattle.std.specs.Prelude.{ℕ, List, [], ◌∷◌, ◌++◌, Bool, true, false, ◌||◌, ◌&&◌, not, nat_le, nat_lt, ◌==◌, if◌then◌else◌, length, Option, Some, None, encode_utf8}
 use Rattle.std.specs.Char.{is_digit}
 use Rattle.std.specs.List.{list_all}
+use Rattle.std.specs.Option.{option_and_then}
 use Rattle.std.specs.Str.Parse.{digits_value}
 use Rattle.hesc_specs.specs.Ascii.{tab, line_feed, form_feed, carriage_return, space, number_sign, ampersand, semicolon, upper_x, lower_x}
 use Rattle.hesc_specs.specs.Entities.{Row, value_of}
@@ -57,13 +58,9 @@ number_or_name (Some n) name_value = numbered_value n
 abbrev pub body_value : List Row → List ℕ → Option (List ℕ)
 body_value rows body = number_or_name (number_of body) (value_of rows body)
 
-abbrev pub value_of_body : List Row → Option (List ℕ) → Option (List ℕ)
-value_of_body rows None = None
-value_of_body rows (Some body) = body_value rows body
-
 -- the value of the reference that a `&` before the bytes begins, if it has one
 abbrev pub reference_value : List Row → List ℕ → Option (List ℕ)
-reference_value rows bytes = value_of_body rows (body_of bytes)
+reference_value rows bytes = option_and_then (body_value rows) (body_of bytes)
 
 -- a value and what follows its reference, or where there is no value what follows the `&`, which is kept
 abbrev pub replaced_or_kept : Option (List ℕ) → List ℕ → List ℕ → List ℕ

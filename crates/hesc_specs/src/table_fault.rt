@@ -1,4 +1,4 @@
-//! The faults by which rows make no table of entities.
+//! The faults by which rows make no table.
 /// Why rows make no table of entities: the first fault of a list of rows. Rows are counted from 0.
 #[derive(Clone, Copy, Debug, PartialEq, Eq)]
 pub enum TableFault {

@@ -1,6 +1,7 @@
 //! Decoding gives what the Rust crate gives, and what the table names, in each of its forms; rows
 //! make a table or have their fault.
-use crate::Refusing;
+use crate::{Refusing, Trouble, WeakReader, WeakWriter, Weakness};
+use hesc_tool::run;
 use html_escape::*;
 use std::alloc::{AllocError, Allocator, Global};
 use std::borrow::CowStr;
@@ -204,5 +205,26 @@ fn decodes<A: Allocator>(alloc: A, text: &str, decoded: &str) -> bool {
     match decode_html_entities(alloc, text) {
         Ok(cow) => cow.as_str() == decoded,
         Err(AllocError) => false,
+    }
+}
+
+#[test]
+fn the_tool_decodes(rt: HostRuntime) {
+    let weakness = Weakness {
+        step: 1,
+        at: 0,
+        trouble: Trouble::Calm,
+    };
+    for (text, decoded, _) in ROWS {
+        let mut input = WeakReader::new(text.as_bytes(), weakness);
+        let mut output = WeakWriter::new(rt.alloc(), weakness);
+        let answer = run(
+            rt.alloc(),
+            &["decode_html_entities"],
+            &mut input,
+            &mut output,
+        );
+        assert_eq!(rt; answer, Ok(()), "{text:?}");
+        assert_eq!(rt; output.taken.as_slice(), decoded.as_bytes(), "{text:?}");
     }
 }
