@@ -1,5 +1,7 @@
 //! What no contract says: that the definitions give the values that other programs give, that calls
 //! succeed where memory is there, and how often memory is asked for.
+mod bodies;
+mod body_rows;
 mod encoders;
 mod forms;
 mod memory;
