@@ -17,3 +17,6 @@ pub mod Openings
 pub mod Bodies
 pub mod BodyChanges
 pub mod SameBody
+pub mod Strings
+pub mod StringTokens
+pub mod StringChanges

@@ -7,8 +7,10 @@
 
 mod classes;
 mod elements;
+mod quotes;
 mod table_fault;
 
 pub use crate::classes::Class;
 pub use crate::elements::Element;
+pub use crate::quotes::Quotes;
 pub use crate::table_fault::TableFault;
