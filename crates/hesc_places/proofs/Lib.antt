@@ -5,5 +5,6 @@ pub mod HtmlPieces
 pub mod ReadBacks
 pub mod MarkedPlaces
 pub mod UnquotedPlaces
+pub mod BodyPlaces
 pub mod PlaceLaw
 pub mod EnclosedTexts

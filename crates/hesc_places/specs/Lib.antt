@@ -2,6 +2,7 @@ pub mod Words
 pub mod Reading
 pub mod References
 pub mod HtmlReadings
+pub mod BodyReadings
 pub mod Marks
 pub mod PlaceReadings
 pub mod Suits
