@@ -8,3 +8,5 @@ pub mod UnquotedPlaces
 pub mod BodyPlaces
 pub mod PlaceLaw
 pub mod EnclosedTexts
+mod FirstSemicolon
+mod ReadingTurns
