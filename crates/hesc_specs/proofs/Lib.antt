@@ -14,4 +14,5 @@ pub mod PartLemmas
 pub mod ReferencesUndone
 pub mod SameBodies
 pub mod SliceRanges
+pub mod StringDecodingChanges
 pub mod Tables
