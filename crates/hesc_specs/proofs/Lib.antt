@@ -15,4 +15,5 @@ pub mod ReferencesUndone
 pub mod SameBodies
 pub mod SliceRanges
 pub mod StringDecodingChanges
+pub mod StringEscapeEnds
 pub mod Tables
