@@ -20,6 +20,7 @@ pub mod scan;
 pub mod sink;
 pub mod sinks;
 pub mod small_text;
+pub mod string_escapes;
 pub mod table;
 
 pub use crate::engine::run;
