@@ -9,6 +9,7 @@ pub mod HtmlChanges
 pub mod HtmlImages
 pub mod JoinedTexts
 pub mod NextReference
+pub mod NulCharacters
 pub mod OpeningLemmas
 pub mod PartLemmas
 pub mod ReferencesUndone
