@@ -5,6 +5,7 @@ pub mod BodySeam
 pub mod CanonicalBodies
 pub mod DifferentTexts
 pub mod HexDigits
+pub mod HighBytes
 pub mod HtmlChanges
 pub mod HtmlImages
 pub mod JoinedTexts
@@ -17,4 +18,7 @@ pub mod SameBodies
 pub mod SliceRanges
 pub mod StringDecodingChanges
 pub mod StringEscapeEnds
+pub mod StringNumbers
+pub mod StringsUndone
 pub mod Tables
+pub mod UnescapeChanges

@@ -1,41 +1,13 @@
--- A text with each NUL replaced, by bytes and by characters. All bytes of a character beyond ASCII are from 128 on.
-use Rattle.std.proofs.Common.{◌≡◌, ℕ, ◌≤◌, ◌<◌, Bool, true, false, ◌==◌, List, [], ◌∷◌, ◌++◌, if◌then◌else◌, refl, sym, ap, ap₂, ◌∙◌, append-nil, ne_eqb, arith, inl, inr}
+-- A text with each NUL replaced, by bytes and by characters.
+use Rattle.std.proofs.Common.{◌≡◌, ℕ, ◌==◌, List, [], ◌∷◌, ◌++◌, if◌then◌else◌, refl, ap, ap₂, ◌∙◌, append-nil, ne_eqb, arith, inl, inr}
 use Rattle.std.specs.List.{flat_map}
 use Rattle.std.specs.Str.{IsUtf8, chars}
 use Rattle.std.proofs.Math.Utf8.{encode, encodes}
 use Rattle.std.proofs.lemmas.Bool.{cases_eq, cases_lt}
-use Rattle.std.proofs.lemmas.Bool.Decides.{nat_tests}
 use Rattle.std.proofs.lemmas.Grind.{flat_map-append}
 use Rattle.std.proofs.lemmas.Str.{encode_ascii, encodes-chars}
 use Rattle.hesc_specs.specs.Nul.{nul, nul_image, replacement_character}
-
--- all are from 128 on
-abbrev pub AreHigh : List ℕ → Type 0
-AreHigh [] = Unit {0}
-AreHigh (b ∷ bytes) = (128 ≤ b) × AreHigh bytes
-
-two-high : (c : ℕ) → 128 ≤ c → c < 2048 → AreHigh (encode c)
-unfolding encode
-two-high c low high = grind (arith, nat_tests)
-
-three-high : (c : ℕ) → 2048 ≤ c → c < 65536 → AreHigh (encode c)
-unfolding encode
-three-high c low high = grind (arith, nat_tests)
-
-four-high : (c : ℕ) → 65536 ≤ c → AreHigh (encode c)
-unfolding encode
-four-high c low = grind (arith, nat_tests)
-
-pub encode-high : (c : ℕ) → 128 ≤ c → AreHigh (encode c)
-encode-high c low =
-    elim (cases_lt c 2048) [
-      | inl two ↦ two-high c low two
-      | inr more ↦
-          elim (cases_lt c 65536) [
-            | inl three ↦ three-high c (omega arith) three
-            | inr four ↦ four-high c (omega arith)
-          ]
-    ]
+use Rattle.hesc_specs.proofs.HighBytes.{AreHigh, encode-high}
 
 -- a character, and U+FFFD in place of NUL
 abbrev pub nul_character : ℕ → List ℕ
