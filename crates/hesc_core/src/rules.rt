@@ -10,4 +10,4 @@ pub use crate::rules::bodies::{
 };
 pub use crate::rules::escape::{Escape, next_escape};
 pub use crate::rules::references::{References, next_references};
-pub use crate::rules::unescape::next_string_unescape;
+pub use crate::rules::unescape::{Unescape, next_string_unescape, next_unescape};
