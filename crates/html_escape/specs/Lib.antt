@@ -1,1 +1,3 @@
 pub mod Encoders
+pub mod Decoders
+pub mod Operations

@@ -2,13 +2,18 @@
 //!
 //! Each operation has four forms: `encode_text` answers a text that borrows where nothing changes,
 //! `encode_text_to_string` and `encode_text_to_vec` append, and `encode_text_to_writer` writes. An
-//! [`Encoder`] is an encoder as a value. References are decoded by the built-in table of names, or
-//! by an [`EntityTable`] that is handed in.
+//! [`Operation`] is an [`Encoder`] or a [`Decoder`] as a value, and [`pieces`] hands out what it makes
+//! of a text piece by piece. References are decoded by the built-in table of names, or by an
+//! [`EntityTable`] that is handed in.
 #![tactic(auto)]
 
+pub mod decoder;
 pub mod encoder;
+pub mod operation;
 
+pub use crate::decoder::Decoder;
 pub use crate::encoder::Encoder;
+pub use crate::operation::{Operation, pieces};
 pub use hesc_core::{EntityTable, NAMED_ENTITIES, Piece, Pieces, TableFault, laws};
 pub use hesc_decode::{
     decode_html_entities, decode_html_entities_to_string, decode_html_entities_to_vec,

@@ -1,0 +1,51 @@
+//! The decoders by name.
+ghost use Rattle.std.specs.Prelude.{◌≡◌, [], IfNone, IfSome};
+ghost use Rattle.std.specs.Str.{IsCharBoundary};
+ghost use Rattle.hesc_core.specs.Next.{IsNext};
+ghost use Rattle.html_escape.specs.Decoders.{decoder_changes};
+
+use hesc_core::rules::{next_body_unescape, next_references, next_unescape};
+use hesc_core::{Class, Element, EntityTable, Found};
+
+/// A decoder by its name.
+#[derive(Clone, Copy, Debug, PartialEq, Eq)]
+pub enum Decoder {
+    /// Replaces each reference that has a value by the built-in table.
+    HtmlEntities,
+    /// Drops the `\` of each escaped opening of a script's body.
+    Script,
+    /// Drops the `\` of each escaped opening of a style's body.
+    Style,
+    /// Replaces the escapes of a script string, `\'` among them.
+    ScriptSingleQuoted,
+    /// Replaces the escapes of a script string, `\"` among them.
+    ScriptDoubleQuoted,
+    /// Replaces the escapes of a script string, both `\'` and `\"` among them.
+    ScriptQuoted,
+    /// Replaces the escapes of a style string, `\'` among them.
+    StyleSingleQuoted,
+    /// Replaces the escapes of a style string, `\"` among them.
+    StyleDoubleQuoted,
+    /// Replaces the escapes of a style string, both `\'` and `\"` among them.
+    StyleQuoted,
+}
+
+/// The first change of the decoder at or after `from`, a character boundary, where a string
+/// decoder's reading begins.
+pub fn next_decoded(decoder: Decoder, text: &str, from: usize) -> Option<Found<'static>>
+    requires { IsCharBoundary text.now from }
+    ensures none { IfNone result (decoder_changes decoder text.now from ≡ []) }
+    ensures found { IfSome result (IsNext text.now from (decoder_changes decoder text.now)) }
+{
+    match decoder {
+        Decoder::HtmlEntities => next_references(&EntityTable::built_in(), text, from),
+        Decoder::Script => next_body_unescape(Element::Script, text, from),
+        Decoder::Style => next_body_unescape(Element::Style, text, from),
+        Decoder::ScriptSingleQuoted => next_unescape(Class::ScriptSingleQuoted, text, from),
+        Decoder::ScriptDoubleQuoted => next_unescape(Class::ScriptDoubleQuoted, text, from),
+        Decoder::ScriptQuoted => next_unescape(Class::ScriptQuoted, text, from),
+        Decoder::StyleSingleQuoted => next_unescape(Class::StyleSingleQuoted, text, from),
+        Decoder::StyleDoubleQuoted => next_unescape(Class::StyleDoubleQuoted, text, from),
+        Decoder::StyleQuoted => next_unescape(Class::StyleQuoted, text, from),
+    }
+}

@@ -1,0 +1,48 @@
+//! An operation as a value, and its pieces.
+ghost use Rattle.std.specs.Prelude.{◌≡◌, ◌≤◌, ◌*◌, ◌+◌, length};
+ghost use Rattle.hesc_specs.specs.Parts.{joined, parts};
+ghost use Rattle.hesc_core.specs.Pieces.{parts_left};
+ghost use Rattle.html_escape.specs.Operations.{
+  applied-operation_changes,
+  operation_changes,
+  operation_text,
+};
+
+use crate::decoder::{Decoder, next_decoded};
+use crate::encoder::{Encoder, next_encoded};
+use hesc_core::{Found, Pieces, Rule};
+
+/// An operation: an encoder or a decoder. References are decoded by the built-in table.
+#[derive(Clone, Copy, Debug, PartialEq, Eq)]
+pub enum Operation {
+    Encode(Encoder),
+    Decode(Decoder),
+}
+
+impl Rule for Operation {
+    ghost changes_from = { operation_changes };
+
+    ghost made = { operation_text };
+
+    fn next(&self, text: &str, from: usize) -> Option<Found<'_>> {
+        match *self {
+            Operation::Encode(encoder) => next_encoded(encoder, text, from),
+            Operation::Decode(decoder) => next_decoded(decoder, text, from),
+        }
+    }
+
+    ghost makes = { applied-operation_changes };
+}
+
+/// The pieces of what the operation makes of `text`, in order and none of them empty: the stretches
+/// of `text` around the changes, as slices, and the changes' replacements. No memory is taken.
+pub fn pieces<'t>(operation: &'t Operation, text: &'t str) -> Pieces<'t, Operation>
+    ensures pieces { parts_left result
+        ≡ parts text.now 0 (operation_changes operation.now text.now 0) }
+    ensures joined { joined (parts text.now 0 (operation_changes operation.now text.now 0))
+        ≡ operation_text operation.now text.now }
+    ensures few { length (parts text.now 0 (operation_changes operation.now text.now 0))
+        ≤ 2 * length (operation_changes operation.now text.now 0) + 1 }
+{
+    Pieces::new(operation, text)
+}
