@@ -1,10 +1,8 @@
 //! What no contract says: that the definitions give the values that other programs give, that calls
 //! succeed where memory is there, and how often memory is asked for.
-mod bodies;
-mod body_rows;
-mod encoders;
-mod forms;
+mod answers;
 mod memory;
+mod operations;
 mod parts;
 mod pieces;
 mod places;

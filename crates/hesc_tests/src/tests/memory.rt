@@ -1,8 +1,8 @@
 //! Refused memory: the answer is Memory and the output is as it was, or the answer is right.
 use crate::Refusing;
-use crate::tests::forms::{encode, encode_to_string, encode_to_vec};
-use crate::tests::rows::{ENCODERS, Held, Row, rows};
-use html_escape::Encoder;
+use crate::tests::operations::{OPERATIONS, make, make_to_string, make_to_vec};
+use crate::tests::rows::{Held, Row, rows};
+use html_escape::Operation;
 use std::alloc::{AllocError, Allocator, Global};
 use std::process::Abort;
 use std::test::Fail;
@@ -12,126 +12,119 @@ const REFUSED_REQUESTS: u64 = 2;
 
 #[test]
 fn every_request_is_refused_in_turn(rt: HostRuntime) -> Result<(), Fail> {
-    for encoder in ENCODERS {
-        for row in rows(encoder) {
+    for operation in OPERATIONS {
+        for row in rows(operation) {
             for number in 1..=REFUSED_REQUESTS {
-                refuse_cow(&rt, rt.alloc(), encoder, *row, number);
-                refuse_string(&rt, rt.alloc(), encoder, *row, number)?;
-                refuse_vec(&rt, rt.alloc(), encoder, *row, number)?;
+                let is_right = survives_cow(rt.alloc(), operation, *row, number)
+                    && survives_strings(rt.alloc(), operation, *row, number)?
+                    && survives_vecs(rt.alloc(), operation, *row, number)?;
+                assert!(rt; is_right, "{operation:?} of {:?}", row.0);
             }
         }
     }
     Ok(())
 }
 
-fn refuse_cow(rt: &impl Abort, alloc: Global, encoder: Encoder, row: Row, number: u64) {
-    let (text, encoding, held) = row;
+// The `Cow` form asks once where something changes, and else not at all.
+fn survives_cow(alloc: Global, operation: Operation, row: Row, number: u64) -> bool {
+    let (text, made, held) = row;
     let heap = Refusing::new(alloc, number);
-    let is_ok = gives_cow(rt, &heap, encoder, text, encoding);
-    let requests = if matches!(held, Held::Borrowed) { 0 } else { 1 };
-    assert_eq!(rt; heap.asked(number), requests, "{encoder:?} of {text:?}");
-    assert_eq!(rt; is_ok, requests < number, "{encoder:?} of {text:?}");
+    let is_ok = gives_cow(&heap, operation, text, made);
+    let requests = if held == Held::Borrowed { 0 } else { 1 };
+    heap.asked(number) == requests && is_ok == (requests < number)
 }
 
 // Whether the call answers, and then rightly.
-fn gives_cow<A: Allocator>(
-    rt: &impl Abort,
-    alloc: A,
-    encoder: Encoder,
-    text: &str,
-    encoding: &str,
-) -> bool {
-    match encode(encoder, alloc, text) {
-        Ok(cow) => {
-            assert_eq!(rt; cow.as_str(), encoding, "{encoder:?} of {text:?}");
-            true
-        }
+fn gives_cow<A: Allocator>(alloc: A, operation: Operation, text: &str, made: &str) -> bool {
+    match make(operation, alloc, text) {
+        Ok(cow) => cow.as_str() == made,
         Err(AllocError) => false,
     }
 }
 
-// The room of an output beyond what it holds, and how often memory is asked for an encoding.
-fn rooms(encoding: &str) -> [(usize, u64); 2] {
-    let requests = if encoding.is_empty() { 0 } else { 1 };
-    [(0, requests), (encoding.len(), 0)]
+// How often memory is asked for what is added, where there is so much room.
+fn requests(made: &str, room: usize) -> u64 {
+    if room < made.len() { 1 } else { 0 }
 }
 
-fn is_same(added: &[u8], encoding: &str) -> bool {
-    added == encoding.as_bytes()
+// The string form without room for what it adds, and with enough of it.
+fn survives_strings(
+    alloc: Global,
+    operation: Operation,
+    row: Row,
+    number: u64,
+) -> Result<bool, AllocError> {
+    let without = survives_string(alloc, operation, row, 0, number)?;
+    let within = survives_string(alloc, operation, row, row.1.len(), number)?;
+    Ok(without && within)
+}
+
+fn survives_string(
+    alloc: Global,
+    operation: Operation,
+    row: Row,
+    room: usize,
+    number: u64,
+) -> Result<bool, AllocError> {
+    let (text, made, _) = row;
+    let heap = Refusing::new(alloc, 0);
+    let mut output = String::with_capacity(&heap, room.saturating_add(1))?;
+    output.push('x')?;
+    heap.refuse(number);
+    let is_ok = match make_to_string(operation, text, &mut output) {
+        Ok(added) => is_same(added.as_bytes(), made),
+        Err(AllocError) => false,
+    };
+    let added = if is_ok { made } else { "" };
+    let requests = requests(made, room);
+    Ok(
+        is_ok == (requests < number)
+            && heap.asked(number) == requests
+            && is_x_and(output.as_str().as_bytes(), added),
+    )
+}
+
+// The vector form likewise.
+fn survives_vecs(
+    alloc: Global,
+    operation: Operation,
+    row: Row,
+    number: u64,
+) -> Result<bool, AllocError> {
+    let without = survives_vec(alloc, operation, row, 0, number)?;
+    let within = survives_vec(alloc, operation, row, row.1.len(), number)?;
+    Ok(without && within)
+}
+
+fn survives_vec(
+    alloc: Global,
+    operation: Operation,
+    row: Row,
+    room: usize,
+    number: u64,
+) -> Result<bool, AllocError> {
+    let (text, made, _) = row;
+    let heap = Refusing::new(alloc, 0);
+    let mut output = Vec::with_capacity(&heap, room.saturating_add(1))?;
+    output.push(b'x')?;
+    heap.refuse(number);
+    let is_ok = match make_to_vec(operation, text, &mut output) {
+        Ok(added) => is_same(added, made),
+        Err(AllocError) => false,
+    };
+    let added = if is_ok { made } else { "" };
+    let requests = requests(made, room);
+    Ok(
+        is_ok == (requests < number)
+            && heap.asked(number) == requests
+            && is_x_and(output.as_slice(), added),
+    )
+}
+
+fn is_same(added: &[u8], made: &str) -> bool {
+    added == made.as_bytes()
 }
 
 fn is_x_and(output: &[u8], added: &str) -> bool {
     output.strip_prefix(b"x") == Some(added.as_bytes())
-}
-
-fn refuse_string(
-    rt: &impl Abort,
-    alloc: Global,
-    encoder: Encoder,
-    row: Row,
-    number: u64,
-) -> Result<(), Fail> {
-    let (text, encoding, _) = row;
-    for (room, requests) in rooms(encoding) {
-        let heap = Refusing::new(alloc, 0);
-        let mut output = String::with_capacity(&heap, room.saturating_add(1))?;
-        output.push('x')?;
-        heap.refuse(number);
-        let is_ok = match encode_to_string(encoder, text, &mut output) {
-            Ok(added) => is_same(added.as_bytes(), encoding),
-            Err(AllocError) => false,
-        };
-        let added = if is_ok { encoding } else { "" };
-        assert_eq!(rt;
-            is_ok,
-            requests < number,
-            "{encoder:?} of {text:?} into {room}"
-        );
-        assert_eq!(rt;
-            heap.asked(number),
-            requests,
-            "{encoder:?} of {text:?} into {room}"
-        );
-        assert!(rt;
-            is_x_and(output.as_str().as_bytes(), added),
-            "{encoder:?} of {text:?} into {room}"
-        );
-    }
-    Ok(())
-}
-
-fn refuse_vec(
-    rt: &impl Abort,
-    alloc: Global,
-    encoder: Encoder,
-    row: Row,
-    number: u64,
-) -> Result<(), Fail> {
-    let (text, encoding, _) = row;
-    for (room, requests) in rooms(encoding) {
-        let heap = Refusing::new(alloc, 0);
-        let mut output = Vec::with_capacity(&heap, room.saturating_add(1))?;
-        output.push(b'x')?;
-        heap.refuse(number);
-        let is_ok = match encode_to_vec(encoder, text, &mut output) {
-            Ok(added) => is_same(added, encoding),
-            Err(AllocError) => false,
-        };
-        let added = if is_ok { encoding } else { "" };
-        assert_eq!(rt;
-            is_ok,
-            requests < number,
-            "{encoder:?} of {text:?} into {room}"
-        );
-        assert_eq!(rt;
-            heap.asked(number),
-            requests,
-            "{encoder:?} of {text:?} into {room}"
-        );
-        assert!(rt;
-            is_x_and(output.as_slice(), added),
-            "{encoder:?} of {text:?} into {room}"
-        );
-    }
-    Ok(())
 }

@@ -1,5 +1,5 @@
-//! The pieces of an encoding.
-use html_escape::{Encoder, Piece, Pieces};
+//! The pieces of what an operation makes of a text.
+use html_escape::{Decoder, Encoder, Operation, Piece, pieces};
 use std::process::Abort;
 
 /// A piece that is kept, with its place in the source, or a new text.
@@ -21,18 +21,29 @@ const ALL_KEPT: [Part; 1] = [Kept(0, ">>>a")];
 
 const ALL_BUT_THE_END: [Part; 4] = [New("&amp;"), New("&amp;"), New("&amp;"), Kept(3, "a")];
 
-const PIECES: [(Encoder, &str, &[Part]); 5] = [
-    (Encoder::Text, "", &NONE),
-    (Encoder::Text, "a > b", &AROUND),
-    (Encoder::Text, "<&", &SIDE_BY_SIDE),
-    (Encoder::TextMinimal, ">>>a", &ALL_KEPT),
-    (Encoder::TextMinimal, "&&&a", &ALL_BUT_THE_END),
+const PUT_IN: [Part; 3] = [Kept(0, "<"), New("\\"), Kept(1, "/script")];
+
+const LEFT_OUT: [Part; 2] = [Kept(0, "<"), Kept(2, "/script")];
+
+const PIECES: [(Operation, &str, &[Part]); 8] = [
+    (Operation::Encode(Encoder::Text), "", &NONE),
+    (Operation::Decode(Decoder::ScriptQuoted), "", &NONE),
+    (Operation::Encode(Encoder::Text), "a > b", &AROUND),
+    (Operation::Encode(Encoder::Text), "<&", &SIDE_BY_SIDE),
+    (Operation::Encode(Encoder::TextMinimal), ">>>a", &ALL_KEPT),
+    (
+        Operation::Encode(Encoder::TextMinimal),
+        "&&&a",
+        &ALL_BUT_THE_END,
+    ),
+    (Operation::Encode(Encoder::Script), "</script", &PUT_IN),
+    (Operation::Decode(Decoder::Script), "<\\/script", &LEFT_OUT),
 ];
 
 #[test]
 fn pieces_are_the_stretches_and_the_references(rt: HostRuntime) {
-    for (encoder, text, parts) in PIECES {
-        let mut pieces = Pieces::new(&encoder, text);
+    for (operation, text, parts) in PIECES {
+        let mut pieces = pieces(&operation, text);
         for part in parts {
             assert!(rt; is_part(pieces.next(), *part), "{part:?} of {text:?}");
         }

@@ -1,8 +1,8 @@
 //! The writer forms over a writer that takes one byte a call, and has its trouble at one call.
-use crate::tests::forms::encode_to_writer;
-use crate::tests::rows::{ENCODERS, Row, rows};
+use crate::tests::operations::{OPERATIONS, make_to_writer};
+use crate::tests::rows::{Row, rows};
 use crate::{Trouble, WeakWriter, Weakness};
-use html_escape::{Encoder, encode_text_to_writer};
+use html_escape::{Operation, encode_text_to_writer};
 use std::alloc::Global;
 use std::io::{self, ErrorKind};
 use std::process::Abort;
@@ -24,12 +24,18 @@ fn weakness(at: u64, trouble: Trouble) -> Weakness {
 
 #[test]
 fn a_trouble_at_any_call_is_handed_on(rt: HostRuntime) {
-    for encoder in ENCODERS {
-        for row in rows(encoder) {
-            writes_all(&rt, rt.alloc(), encoder, *row);
+    for operation in OPERATIONS {
+        for row in rows(operation) {
+            assert!(rt;
+                writes_all(rt.alloc(), operation, *row),
+                "{operation:?} of {:?}",
+                row.0
+            );
             for (trouble, kind) in TROUBLES {
                 for at in 1..=row.1.len() as u64 {
-                    hands_on(&rt, rt.alloc(), encoder, *row, weakness(at, trouble), kind);
+                    let weakness = weakness(at, trouble);
+                    let is_right = hands_on(rt.alloc(), operation, *row, weakness, kind);
+                    assert!(rt; is_right, "{operation:?} of {:?}, {weakness:?}", row.0);
                 }
             }
         }
@@ -37,23 +43,29 @@ fn a_trouble_at_any_call_is_handed_on(rt: HostRuntime) {
 }
 
 // Each byte is one call.
-fn writes_all(rt: &impl Abort, alloc: Global, encoder: Encoder, row: Row) {
-    let (text, encoding, _) = row;
+fn writes_all(alloc: Global, operation: Operation, row: Row) -> bool {
+    let (text, made, _) = row;
     let mut output = WeakWriter::new(alloc, weakness(0, Trouble::Calm));
-    assert!(rt;
-        encode_to_writer(encoder, text, &mut output).is_ok(),
-        "{encoder:?} of {text:?}"
-    );
-    assert_eq!(rt;
-        output.taken.as_slice(),
-        encoding.as_bytes(),
-        "{encoder:?} of {text:?}"
-    );
-    assert_eq!(rt;
-        output.calls,
-        encoding.len() as u64,
-        "{encoder:?} of {text:?}"
-    );
+    make_to_writer(operation, text, &mut output).is_ok()
+        && output.taken.as_slice() == made.as_bytes()
+        && output.calls == made.len() as u64
+}
+
+// The bytes before the troubled call have gone out, and there is no call after it.
+fn hands_on(
+    alloc: Global,
+    operation: Operation,
+    row: Row,
+    weakness: Weakness,
+    kind: ErrorKind,
+) -> bool {
+    let (text, made, _) = row;
+    let mut output = WeakWriter::new(alloc, weakness);
+    let written = make_to_writer(operation, text, &mut output);
+    has_kind(written, kind)
+        && made.as_bytes().starts_with(output.taken.as_slice())
+        && output.taken.len() as u64 + 1 == weakness.at
+        && output.calls == weakness.at
 }
 
 fn has_kind(written: io::Result<()>, kind: ErrorKind) -> bool {
@@ -61,31 +73,6 @@ fn has_kind(written: io::Result<()>, kind: ErrorKind) -> bool {
         Ok(()) => false,
         Err(fault) => fault.kind() == kind,
     }
-}
-
-// The bytes before the troubled call have gone out, and there is no call after it.
-fn hands_on(
-    rt: &impl Abort,
-    alloc: Global,
-    encoder: Encoder,
-    row: Row,
-    weakness: Weakness,
-    kind: ErrorKind,
-) {
-    let (text, encoding, _) = row;
-    let mut output = WeakWriter::new(alloc, weakness);
-    let written = encode_to_writer(encoder, text, &mut output);
-    assert!(rt; has_kind(written, kind), "{encoder:?}, {weakness:?}");
-    assert!(rt;
-        encoding.as_bytes().starts_with(output.taken.as_slice()),
-        "{encoder:?}, {weakness:?}"
-    );
-    assert_eq!(rt;
-        output.taken.len() as u64 + 1,
-        weakness.at,
-        "{encoder:?}, {weakness:?}"
-    );
-    assert_eq!(rt; output.calls, weakness.at, "{encoder:?}, {weakness:?}");
 }
 
 // The call at which the writer fails, and what has then gone out of `a > b`.
