@@ -3,7 +3,9 @@ pub mod BodyDecodingChanges
 pub mod BodyEncodingChanges
 pub mod BodySeam
 pub mod CanonicalBodies
+pub mod CharacterBytes
 pub mod DifferentTexts
+pub mod EscapeChanges
 pub mod HexDigits
 pub mod HtmlChanges
 pub mod HtmlImages
@@ -14,4 +16,5 @@ pub mod PartLemmas
 pub mod ReferencesUndone
 pub mod SameBodies
 pub mod SliceRanges
+pub mod StringEncodingChanges
 pub mod Tables

@@ -30,9 +30,20 @@ string_class StyleQuoted = Some (Style, Both)
 abbrev pub IsHtml : Class → Type 0
 IsHtml class = string_class class ≡ None
 
+-- the element of a string encoder's class
+abbrev pub element_in : Option (Element × Quotes) → Option Element
+element_in None = None
+element_in (Some string) = Some string.0
+
+abbrev pub element_of : Class → Option Element
+element_of class = element_in (string_class class)
+
 -- the first byte of U+2028 and U+2029, which end a line of a script
+abbrev pub separator_lead : ℕ
+separator_lead = 0xE2
+
 abbrev pub begins_separator : Element → ℕ → Bool
-begins_separator Script b = b == 0xE2
+begins_separator Script b = b == separator_lead
 begins_separator Style b = false
 
 -- the bytes of a string encoder's class: the first bytes of the characters that it replaces
