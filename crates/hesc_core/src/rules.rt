@@ -1,8 +1,11 @@
 //! The rules of the operations.
 pub mod bodies;
 pub mod escape;
+mod hex_digits;
+pub mod html_escape;
 mod reference_values;
 pub mod references;
+pub mod string_escape;
 
 pub use crate::rules::bodies::{
     DecodeScript, DecodeStyle, EncodeScript, EncodeStyle, next_body_escape, next_body_unescape,
