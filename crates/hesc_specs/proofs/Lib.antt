@@ -4,6 +4,7 @@ pub mod BodyEncodingChanges
 pub mod BodySeam
 pub mod CanonicalBodies
 pub mod CharacterBytes
+pub mod DifferentStrings
 pub mod DifferentTexts
 pub mod EscapeChanges
 pub mod HexDigits
@@ -12,6 +13,7 @@ pub mod HtmlImages
 pub mod JoinedTexts
 pub mod NextReference
 pub mod OpeningLemmas
+pub mod NulCharacters
 pub mod PartLemmas
 pub mod ReferencesUndone
 pub mod SameBodies

@@ -158,15 +158,17 @@ module _ {element : Element} {quotes : Quotes} {source : List ℕ} {from at : �
 
   of_line : element ≡ Script → first.character ≡ line_separator → (slice_index source at ≡ separator_lead) × IsSeparator
   of_line script is =
-      let spelt : encode first.character ≡ separator_lead ∷ 0x80 ∷ 0xA8 ∷ [] = ap encode is ∙ encode-line_separator in
-      (first_byte separator_lead (separator_lead ∷ 0x80 ∷ 0xA8 ∷ []) spelt refl,
-      (script, (rw (byte_at 2 0xA8 (separator_lead ∷ 0x80 ∷ 0xA8 ∷ []) spelt refl) is, ap (λ bytes. at + length bytes) spelt)))
+      let spelt : encode first.character ≡ separator_lead ∷ 0x80 ∷ 0xA8 ∷ [] = ap encode is ∙ encode-line_separator in (
+        first_byte separator_lead (separator_lead ∷ 0x80 ∷ 0xA8 ∷ []) spelt refl,
+        (script, (rw (byte_at 2 0xA8 (separator_lead ∷ 0x80 ∷ 0xA8 ∷ []) spelt refl) is, ap (λ bytes. at + length bytes) spelt)),
+      )
 
   of_paragraph : element ≡ Script → first.character ≡ paragraph_separator → (slice_index source at ≡ separator_lead) × IsSeparator
   of_paragraph script is =
-      let spelt : encode first.character ≡ separator_lead ∷ 0x80 ∷ 0xA9 ∷ [] = ap encode is ∙ encode-paragraph_separator in
-      (first_byte separator_lead (separator_lead ∷ 0x80 ∷ 0xA9 ∷ []) spelt refl,
-      (script, (rw (byte_at 2 0xA9 (separator_lead ∷ 0x80 ∷ 0xA9 ∷ []) spelt refl) is, ap (λ bytes. at + length bytes) spelt)))
+      let spelt : encode first.character ≡ separator_lead ∷ 0x80 ∷ 0xA9 ∷ [] = ap encode is ∙ encode-paragraph_separator in (
+        first_byte separator_lead (separator_lead ∷ 0x80 ∷ 0xA9 ∷ []) spelt refl,
+        (script, (rw (byte_at 2 0xA9 (separator_lead ∷ 0x80 ∷ 0xA9 ∷ []) spelt refl) is, ap (λ bytes. at + length bytes) spelt)),
+      )
 
   of_ascii : first.character < 128 → slice_index source at ≡ first.character
   of_ascii small = first_byte first.character (first.character ∷ []) (encode_ascii first.character small) refl

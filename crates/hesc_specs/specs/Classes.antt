@@ -1,5 +1,5 @@
 -- Which bytes are in a class: those at which the encoder of its name may change something.
-use Rattle.std.specs.Prelude.{◌≡◌, ℕ, Bool, false, ◌||◌, ◌&&◌, not, ◌==◌, nat_lt, Option, Some, None}
+use Rattle.std.specs.Prelude.{◌≡◌, ℕ, Bool, true, false, ◌||◌, ◌&&◌, not, ◌==◌, nat_lt, Option, Some, None}
 use Rattle.std.specs.Char.{is_ascii_alphanumeric}
 use Rattle.hesc_specs.specs.Ascii.{ampersand, less_than, greater_than, double_quote, single_quote, slash, backslash}
 use Rattle.hesc_specs.specs.Strings.{is_quote}
@@ -37,6 +37,15 @@ element_in (Some string) = Some string.0
 
 abbrev pub element_of : Class → Option Element
 element_of class = element_in (string_class class)
+
+-- the class is of the strings of a style, whose encoders write U+FFFD for NUL
+abbrev pub is_style : Option Element → Bool
+is_style None = false
+is_style (Some Script) = false
+is_style (Some Style) = true
+
+abbrev pub is_of_style : Class → Bool
+is_of_style class = is_style (element_of class)
 
 -- the first byte of U+2028 and U+2029, which end a line of a script
 abbrev pub separator_lead : ℕ
