@@ -15,6 +15,7 @@ pub mod NextReference
 pub mod OpeningLemmas
 pub mod NulCharacters
 pub mod PartLemmas
+pub mod PlainStrings
 pub mod ReferencesUndone
 pub mod SameBodies
 pub mod SliceRanges
