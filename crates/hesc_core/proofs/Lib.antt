@@ -1,4 +1,5 @@
 pub mod Capped
+mod EscapeSearch
 mod FoundBytes
 mod Halving
 pub mod HandsOn
@@ -6,4 +7,5 @@ pub mod HandsOnTable
 mod OpeningSearch
 mod Progress
 mod Seam
+mod StringEscapes
 mod Told

@@ -21,7 +21,7 @@ pub mod sink;
 pub mod sinks;
 pub mod small_text;
 mod string_classes;
-pub mod string_escapes;
+pub mod string_tokens;
 pub mod table;
 
 pub use crate::engine::run;

@@ -3,7 +3,10 @@ pub mod BodyDecodingChanges
 pub mod BodyEncodingChanges
 pub mod BodySeam
 pub mod CanonicalBodies
+pub mod CharacterBytes
+pub mod DifferentStrings
 pub mod DifferentTexts
+pub mod EscapeChanges
 pub mod HexDigits
 pub mod HighBytes
 pub mod HtmlChanges
@@ -13,10 +16,12 @@ pub mod NextReference
 pub mod NulCharacters
 pub mod OpeningLemmas
 pub mod PartLemmas
+pub mod PlainStrings
 pub mod ReferencesUndone
 pub mod SameBodies
 pub mod SliceRanges
 pub mod StringDecodingChanges
+pub mod StringEncodingChanges
 pub mod StringEscapeEnds
 pub mod StringNumbers
 pub mod StringsUndone

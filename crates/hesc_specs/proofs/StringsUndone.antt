@@ -1,5 +1,5 @@
 -- A string decoder that knows an encoder's quote marks undoes it, whatever follows.
-use Rattle.std.proofs.Common.{◌≡◌, ◌≢◌, ℕ, ◌/◌, ◌%◌, ◌≤◌, ◌<◌, true, false, ◌||◌, ◌==◌, List, [], ◌∷◌, ◌++◌, codes, nat_lt, refl, sym, ap, ◌∙◌, append_assoc, ne_eqb, arith, inl, inr}
+use Rattle.std.proofs.Common.{◌≡◌, ◌≢◌, ℕ, ◌/◌, ◌%◌, ◌≤◌, ◌<◌, true, false, ◌||◌, ◌==◌, List, [], ◌∷◌, ◌++◌, codes, map, nat_lt, refl, sym, ap, ◌∙◌, append_assoc, ne_eqb, arith, inl, inr}
 use Rattle.std.specs.Prelude.{IsTrue}
 use Rattle.std.specs.List.{flat_map}
 use Rattle.std.specs.Str.{IsUtf8, chars}
@@ -17,7 +17,7 @@ use Rattle.hesc_specs.specs.declared.elements.Element.TheVariants.{Script, Style
 use Rattle.hesc_specs.specs.declared.quotes.Quotes.{Quotes}
 use Rattle.hesc_specs.specs.declared.quotes.Quotes.TheVariants.{Single, Double, Both}
 use Rattle.hesc_specs.proofs.HighBytes.{AreHigh, encode-high}
-use Rattle.hesc_specs.proofs.NulCharacters.{nul_character, nul-characters}
+use Rattle.hesc_specs.proofs.NulCharacters.{nul_character, nul-chars}
 use Rattle.hesc_specs.proofs.StringNumbers.{digits-value, digits-pair, digit-no_mark, digit-no_less}
 
 -- a decoder knows each quote mark that the encoder escapes
@@ -46,7 +46,7 @@ known-mark element decoder encoder c reads mark escaped =
 -- what the decoder of an element gives back for a character
 abbrev pub character_back : Element → ℕ → List ℕ
 character_back Script c = encode c
-character_back Style c = nul_character c
+character_back Style c = encode (nul_character c)
 
 -- neither `\` nor `<`
 abbrev pub ArePlain : List ℕ → Type 0
@@ -143,7 +143,7 @@ module _ (decoder encoder : Quotes) (reads : IsTrue (knows decoder encoder)) whe
             ])
       ]
 
-  gives-style_escape : (c : ℕ) → is_escaped Style encoder c ≡ true → Gives Style decoder (string_escape Style c) (nul_character c)
+  gives-style_escape : (c : ℕ) → is_escaped Style encoder c ≡ true → Gives Style decoder (string_escape Style c) (encode (nul_character c))
   gives-style_escape c escaped =
       elim (cases_eq c 0) [
         | inl is ↦ rw is (gives-plain Style decoder (encode replacement_character) (encode-plain replacement_character (omega arith) (omega arith)))
@@ -172,9 +172,13 @@ encode-each : (characters : List ℕ) → flat_map encode characters ≡ encodes
 encode-each [] = refl
 encode-each (c ∷ characters) = ap (λ rest. encode c ++ rest) (encode-each characters)
 
+encode-nul : (characters : List ℕ) → flat_map (λ c. encode (nul_character c)) characters ≡ encodes (map nul_character characters)
+encode-nul [] = refl
+encode-nul (c ∷ characters) = ap (λ rest. encode (nul_character c) ++ rest) (encode-nul characters)
+
 text_back : (element : Element) (text : List ℕ) → IsUtf8 text → flat_map (character_back element) (chars text) ≡ string_value element text
 text_back Script text utf8 = encode-each (chars text) ∙ encodes-chars text utf8
-text_back Style text utf8 = sym (nul-characters text utf8)
+text_back Style text utf8 = encode-nul (chars text) ∙ sym (nul-chars text utf8)
 
 -- a decoder that knows the encoder's quote marks gives back its text, and then decodes what follows
 pub string_decoding-encoding : (element : Element) (decoder encoder : Quotes) (text rest : List ℕ) → IsTrue (knows decoder encoder) → IsUtf8 text

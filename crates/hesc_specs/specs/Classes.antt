@@ -1,5 +1,5 @@
 -- Which bytes are in a class: those at which the encoder of its name may change something.
-use Rattle.std.specs.Prelude.{◌≡◌, ℕ, Bool, false, ◌||◌, ◌&&◌, not, ◌==◌, nat_lt, Option, Some, None}
+use Rattle.std.specs.Prelude.{◌≡◌, ℕ, Bool, true, false, ◌||◌, ◌&&◌, not, ◌==◌, nat_lt, Option, Some, None}
 use Rattle.std.specs.Char.{is_ascii_alphanumeric}
 use Rattle.hesc_specs.specs.Ascii.{ampersand, less_than, greater_than, double_quote, single_quote, slash, backslash}
 use Rattle.hesc_specs.specs.Strings.{is_quote}
@@ -30,9 +30,29 @@ string_class StyleQuoted = Some (Style, Both)
 abbrev pub IsHtml : Class → Type 0
 IsHtml class = string_class class ≡ None
 
+-- the element of a string encoder's class
+abbrev pub element_in : Option (Element × Quotes) → Option Element
+element_in None = None
+element_in (Some string) = Some string.0
+
+abbrev pub element_of : Class → Option Element
+element_of class = element_in (string_class class)
+
+-- the class is of the strings of a style, whose encoders write U+FFFD for NUL
+abbrev pub is_style : Option Element → Bool
+is_style None = false
+is_style (Some Script) = false
+is_style (Some Style) = true
+
+abbrev pub is_of_style : Class → Bool
+is_of_style class = is_style (element_of class)
+
 -- the first byte of U+2028 and U+2029, which end a line of a script
+abbrev pub separator_lead : ℕ
+separator_lead = 0xE2
+
 abbrev pub begins_separator : Element → ℕ → Bool
-begins_separator Script b = b == 0xE2
+begins_separator Script b = b == separator_lead
 begins_separator Style b = false
 
 -- the bytes of a string encoder's class: the first bytes of the characters that it replaces

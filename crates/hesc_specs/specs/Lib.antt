@@ -5,6 +5,7 @@ pub mod Nul
 pub mod Elements
 pub mod Strings
 pub mod Classes
+pub mod EscapedPlaces
 pub mod Html
 pub mod Changes
 pub mod Parts

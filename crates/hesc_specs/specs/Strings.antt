@@ -1,5 +1,5 @@
 -- The string maps: what each string encoder writes for a character, and so for a text.
-use Rattle.std.specs.Prelude.{ℕ, ◌/◌, ◌%◌, Bool, true, false, ◌&&◌, ◌||◌, List, [], ◌∷◌, nat_lt, ◌==◌, if◌then◌else◌, codes, chars, encode_utf8}
+use Rattle.std.specs.Prelude.{◌≢◌, ℕ, ◌≤◌, ◌/◌, ◌%◌, Bool, true, false, ◌&&◌, ◌||◌, List, [], ◌∷◌, All, nat_lt, ◌==◌, if◌then◌else◌, codes, chars, encode_utf8}
 use Rattle.std.specs.List.{flat_map}
 use Rattle.hesc_specs.specs.Ascii.{space, double_quote, single_quote, less_than, backslash, lower_x}
 use Rattle.hesc_specs.specs.HexDigits.{hex_digit}
@@ -68,3 +68,7 @@ string_encoding element quotes text = flat_map (string_image element quotes) (ch
 abbrev pub string_value : Element → List ℕ → List ℕ
 string_value Script text = text
 string_value Style text = nul text
+
+-- no byte is `<` or a C0 control
+abbrev pub IsPlain : List ℕ → Type 0
+IsPlain bytes = All (λ b. (32 ≤ b) × (b ≢ less_than)) bytes

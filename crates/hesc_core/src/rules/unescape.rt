@@ -13,7 +13,7 @@ use crate::found::{Found, Replacement};
 use crate::rule::Rule;
 use crate::small_text::SmallText;
 use crate::string_classes::string_class;
-use crate::string_escapes::{escape, is_behind_less};
+use crate::string_tokens::{escape, is_behind_less};
 use hesc_specs::{Class, Element, Quotes};
 
 /// The decoder of a class. That of an HTML encoder's class changes nothing.

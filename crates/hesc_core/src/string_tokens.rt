@@ -1,4 +1,4 @@
-//! The escapes of an encoded string: what a `\` and the bytes behind it stand for.
+//! The escapes among the tokens of an encoded string: what a `\` and the bytes behind it stand for.
 ghost use Rattle.std.specs.Prelude.{◌≡◌, ◌≤◌, ◌<◌, IsTrue, length};
 ghost use Rattle.hesc_specs.specs.Elements.{element_name};
 ghost use Rattle.hesc_specs.specs.Strings.{is_quote as among};
