@@ -31,4 +31,4 @@ pub use crate::sink::Sink;
 pub use crate::sinks::{CountOverflow, Counter, StringSink, VecSink, WriterSink};
 pub use crate::small_text::SmallText;
 pub use crate::table::EntityTable;
-pub use hesc_specs::{Class, Element, TableFault};
+pub use hesc_specs::{Class, Element, Quotes, TableFault};
