@@ -5,5 +5,10 @@ pub mod HtmlPieces
 pub mod ReadBacks
 pub mod MarkedPlaces
 pub mod UnquotedPlaces
+pub mod KeptCharacters
+pub mod HexEscapes
+pub mod EscapedMarks
+pub mod ScriptStringPlaces
+pub mod StyleStringPlaces
 pub mod PlaceLaw
 pub mod EnclosedTexts

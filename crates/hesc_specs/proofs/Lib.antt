@@ -3,12 +3,14 @@ pub mod BodyDecodingChanges
 pub mod BodyEncodingChanges
 pub mod BodySeam
 pub mod CanonicalBodies
+pub mod CharacterBytes
 pub mod DifferentTexts
 pub mod HexDigits
 pub mod HtmlChanges
 pub mod HtmlImages
 pub mod JoinedTexts
 pub mod NextReference
+pub mod NulCharacters
 pub mod OpeningLemmas
 pub mod PartLemmas
 pub mod ReferencesUndone
