@@ -1,4 +1,7 @@
 //! One step of a place's grammar: what begins at a position, and the mode after it.
+mod hex;
+mod script_strings;
+mod style_strings;
 
 /// How far a reading is.
 #[derive(Clone, Copy, Debug, PartialEq, Eq)]
