@@ -7,3 +7,4 @@ pub mod NamedRows
 pub mod Numbers
 pub mod Rows
 pub mod Table
+pub mod Interim

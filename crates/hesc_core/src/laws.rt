@@ -5,6 +5,7 @@ ghost use Rattle.hesc_specs.specs.Bodies.{
   body_decoding,
   body_encoding,
 };
+ghost use Rattle.hesc_specs.specs.Classes.{IsHtml};
 ghost use Rattle.hesc_specs.specs.Html.{encoding};
 ghost use Rattle.hesc_specs.specs.KeptControls.{with_kept_controls};
 ghost use Rattle.hesc_specs.specs.Openings.{HasNoEscapedOpening, HasNoOpening};
@@ -20,14 +21,16 @@ pub fn joined_texts(class: Class, a: &str, b: &str)
     ensures { encoding class (a.now ++ b.now) ≡ encoding class a.now ++ encoding class b.now }
 {}
 
-/// Different texts have different encodings.
+/// Different texts have different encodings by an HTML encoder.
 pub fn different_texts(class: Class, a: &str, b: &str)
+    requires { IsHtml class }
     ensures { encoding class a.now ≡ encoding class b.now → a.now ≡ b.now }
 {}
 
 /// Decoding by any table undoes the HTML encoders other than the unquoted one, whatever follows.
 pub fn references_undo_encoders(class: Class, table: &EntityTable, text: &str, rest: &str)
-    requires { class ≢ Class.UnquotedAttribute }
+    requires html { IsHtml class }
+    requires other { class ≢ Class.UnquotedAttribute }
     ensures { decoded (rows_of table.now) (encoding class text.now ++ rest.now)
         ≡ text.now ++ decoded (rows_of table.now) rest.now }
 {}

@@ -30,5 +30,11 @@ fn is_in(class: Class, byte: u8) -> bool
         Class::QuotedAttribute => matches!(byte, b'&' | b'<' | b'>' | b'"' | b'\''),
         Class::Safe => matches!(byte, b'&' | b'<' | b'>' | b'"' | b'\'' | b'/'),
         Class::UnquotedAttribute => byte.is_ascii() && !byte.is_ascii_alphanumeric(),
+        Class::ScriptSingleQuoted => matches!(byte, 0..=31 | b'\\' | b'<' | b'\'' | 0xE2),
+        Class::ScriptDoubleQuoted => matches!(byte, 0..=31 | b'\\' | b'<' | b'"' | 0xE2),
+        Class::ScriptQuoted => matches!(byte, 0..=31 | b'\\' | b'<' | b'\'' | b'"' | 0xE2),
+        Class::StyleSingleQuoted => matches!(byte, 0..=31 | b'\\' | b'<' | b'\''),
+        Class::StyleDoubleQuoted => matches!(byte, 0..=31 | b'\\' | b'<' | b'"'),
+        Class::StyleQuoted => matches!(byte, 0..=31 | b'\\' | b'<' | b'\'' | b'"'),
     }
 }

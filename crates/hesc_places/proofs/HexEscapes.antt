@@ -3,7 +3,7 @@ use Rattle.std.proofs.Common.{ℕ, ◌≡◌, ◌<◌, ◌/◌, ◌%◌, true, L
 use Rattle.std.specs.Char.{is_digit}
 use Rattle.std.specs.Str.Parse.{digits_value}
 use Rattle.std.proofs.lemmas.Bool.{lt-ltb}
-use Rattle.hesc_specs.specs.Html.{hex_digit}
+use Rattle.hesc_specs.specs.HexDigits.{hex_digit}
 use Rattle.hesc_specs.proofs.HexDigits.{digit_value-hex_digit}
 
 pub is_digit-hex_digit : (d : ℕ) → d < 16 → is_digit (hex_digit d) 16 ≡ true

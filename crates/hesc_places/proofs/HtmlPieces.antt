@@ -4,7 +4,7 @@ use Rattle.std.proofs.Common.{ℕ, ◌≡◌, ◌<◌, true, false, List, [], �
 use Rattle.std.proofs.lemmas.Bool.{cases_Bool}
 use Rattle.std.proofs.lemmas.Str.{encode_ascii}
 use Rattle.hesc_specs.specs.Ascii.{ampersand, semicolon}
-use Rattle.hesc_specs.specs.Classes.{in_class}
+use Rattle.hesc_specs.specs.Classes.{in_class, IsHtml}
 use Rattle.hesc_specs.specs.Html.{encoding, image, reference_to}
 use Rattle.hesc_specs.specs.Nul.{nul_image}
 use Rattle.hesc_specs.specs.declared.classes.Class.{Class}
@@ -18,8 +18,9 @@ use Rattle.hesc_places.proofs.Takes.{Takes, takes_byte, takes_character, takes_e
 use Rattle.hesc_places.proofs.ReferenceBodies.{reference-body}
 use Rattle.hesc_places.proofs.ReferenceImages.{IsRead, reference_to_is_read, body_to, character_to}
 
--- the grammar reads a reference at `&`, and each byte that is not in the class as itself
+-- the class is an HTML encoder's, and the grammar reads a reference at `&`, and each byte that is not in the class as itself
 pub record ReadsImages (step : Mode → List ℕ → Step) (class : Class) : Type 0 where
+  pub html : IsHtml class
   pub references : (mode : Mode) (bytes : List ℕ) → step mode (ampersand ∷ bytes) ≡ reference bytes
   pub others : (mode : Mode) (b : ℕ) (bytes : List ℕ) →
       in_class class b ≡ false → step mode (b ∷ bytes) ≡ Byte 0 b Plain
@@ -56,7 +57,7 @@ pub takes_image : {step : Mode → List ℕ → Step} {class : Class} → ReadsI
 takes_image {class = class} reads mode b =
     ⊎_elim
     (λ (replaced : in_class class b ≡ true).
-    rw replaced (takes_reference reads mode b (in_class_is_ascii class b replaced)))
+    rw replaced (takes_reference reads mode b (in_class_is_ascii class b reads.html replaced)))
     (λ (kept : in_class class b ≡ false). rw kept (takes_byte (λ rest. reads.others mode b rest kept)))
     (cases_Bool (in_class class b))
 

@@ -2,12 +2,16 @@
 use Rattle.std.proofs.Common.{ℕ, ◌≡◌, ◌≢◌, ◌≤◌, ◌<◌, ◌+◌, ◌/◌, List, [], ◌∷◌, encode_utf8, ⊎_elim, arith}
 use Rattle.std.proofs.lemmas.Bool.{cases_lt}
 use Rattle.std.proofs.lemmas.Str.{encode_ascii}
-use Rattle.hesc_specs.proofs.CharacterBytes.{next_byte, encode_utf8-two, encode_utf8-three, encode_utf8-four}
+use Rattle.hesc_specs.proofs.CharacterBytes.{encode_two, encode_three, encode_four}
 use Rattle.hesc_places.specs.declared.grammar.Mode.{Mode}
 use Rattle.hesc_places.specs.declared.grammar.Mode.TheVariants.{Plain}
 use Rattle.hesc_places.specs.declared.grammar.Step.{Step}
 use Rattle.hesc_places.specs.declared.grammar.Step.TheVariants.{Byte}
 use Rattle.hesc_places.proofs.Takes.{Takes, takes_byte, takes_byte_before}
+
+-- six bits as a byte of a character behind its first
+abbrev pub next_byte : ℕ → ℕ
+next_byte bits = 128 + bits % 64
 
 -- a byte from 128 on is read as itself, whatever follows, but E2 hex only where this character's bytes follow
 pub record KeepsHigh (step : Mode → List ℕ → Step) (c : ℕ) : Type 0 where
@@ -22,18 +26,18 @@ module _ {step : Mode → List ℕ → Step} (c : ℕ) (keeps : KeepsHigh step c
 
   takes_two_bytes : 128 ≤ c → c < 2048 → Takes step Plain (encode_utf8 c) (encode_utf8 c) Plain
   takes_two_bytes low high =
-      rw (encode_utf8-two c low high)
+      rw (encode_two c low high)
       (takes_byte_before (λ rest. keeps.others (192 + c / 64) (omega arith) (omega arith) (next_byte c ∷ rest)) (takes_next c))
 
   takes_three_bytes : 2048 ≤ c → c < 65536 → Takes step Plain (encode_utf8 c) (encode_utf8 c) Plain
   takes_three_bytes low high =
-      rw (encode_utf8-three c low high)
+      rw (encode_three c low high)
       (takes_byte_before keeps.first_of_three
       (takes_byte_before (λ rest. keeps.others (next_byte (c / 64)) (omega arith) (omega arith) (next_byte c ∷ rest)) (takes_next c)))
 
   takes_four_bytes : 65536 ≤ c → Takes step Plain (encode_utf8 c) (encode_utf8 c) Plain
   takes_four_bytes low =
-      rw (encode_utf8-four c low)
+      rw (encode_four c low)
       (takes_byte_before (λ rest. keeps.others (240 + c / 262144) (omega arith) (omega arith) (next_byte (c / 4096) ∷ next_byte (c / 64) ∷ next_byte c ∷ rest))
       (takes_byte_before (λ rest. keeps.others (next_byte (c / 4096)) (omega arith) (omega arith) (next_byte (c / 64) ∷ next_byte c ∷ rest))
       (takes_byte_before (λ rest. keeps.others (next_byte (c / 64)) (omega arith) (omega arith) (next_byte c ∷ rest)) (takes_next c))))

@@ -1,7 +1,7 @@
 -- Text and quoted values: the encoding of a class that has the mark is read up to the mark.
 use Rattle.std.proofs.Common.{ℕ, ◌≡◌, true, false, List, [], ◌∷◌, ◌++◌, ◌==◌, Some, length, flat_map, refl, eq-eqb, ne_eqb}
 use Rattle.hesc_specs.specs.Ascii.{ampersand}
-use Rattle.hesc_specs.specs.Classes.{in_class}
+use Rattle.hesc_specs.specs.Classes.{in_class, IsHtml}
 use Rattle.hesc_specs.specs.Html.{encoding}
 use Rattle.hesc_specs.specs.Nul.{nul}
 use Rattle.hesc_specs.specs.declared.classes.Class.{Class}
@@ -13,18 +13,19 @@ use Rattle.hesc_places.proofs.Takes.{takes_to_end}
 use Rattle.hesc_places.proofs.HtmlPieces.{ReadsImages, read_image, takes_encoding}
 use Rattle.hesc_places.proofs.ReadBacks.{read_back-text, read_back-nul}
 
--- the class has the mark, which is no `&`
+-- the class is an HTML encoder's and has the mark, which is no `&`
 abbrev pub HasMark : Class → ℕ → Type 0
-HasMark class mark = (in_class class mark ≡ true) × ((ampersand == mark) ≡ false)
+HasMark class mark = IsHtml class × ((in_class class mark ≡ true) × ((ampersand == mark) ≡ false))
 
 marked_reads : (class : Class) (mark : ℕ) → HasMark class mark → ReadsImages (marked_step mark) class
 unfolding marked_step
 marked_reads class mark has = record {
-  references = λ mode bytes. rw has.1 refl;
+  html = has.0;
+  references = λ mode bytes. rw has.1.1 refl;
   others = λ mode b bytes kept.
       rw (
-        ne_eqb b mark (kept_is_other class b mark kept has.0),
-        ne_eqb b ampersand (kept_is_other class b ampersand kept (in_class-ampersand class)),
+        ne_eqb b mark (kept_is_other class b mark kept has.1.0),
+        ne_eqb b ampersand (kept_is_other class b ampersand kept (in_class-ampersand class has.0)),
       ) refl;
 }
 

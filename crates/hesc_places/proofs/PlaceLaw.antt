@@ -24,35 +24,35 @@ IsReadBack encoder place text rest =
 pub is_read_back : (encoder : Encoder) (place : Place) → suits encoder place ≡ true →
     (text rest : List ℕ) → MayHold place text → IsReadBack encoder place text rest
 is_read_back encoder.TextMinimal Text suit text rest full =
-    marked_text class.TextMinimal less_than (refl, refl) refl text rest
+    marked_text class.TextMinimal less_than (refl, (refl, refl)) refl text rest
 is_read_back encoder.Text Text suit text rest full =
-    marked_text class.Text less_than (refl, refl) refl text rest
+    marked_text class.Text less_than (refl, (refl, refl)) refl text rest
 is_read_back encoder.DoubleQuotedAttribute Text suit text rest full =
-    marked_text class.DoubleQuotedAttribute less_than (refl, refl) refl text rest
+    marked_text class.DoubleQuotedAttribute less_than (refl, (refl, refl)) refl text rest
 is_read_back encoder.SingleQuotedAttribute Text suit text rest full =
-    marked_text class.SingleQuotedAttribute less_than (refl, refl) refl text rest
+    marked_text class.SingleQuotedAttribute less_than (refl, (refl, refl)) refl text rest
 is_read_back encoder.QuotedAttribute Text suit text rest full =
-    marked_text class.QuotedAttribute less_than (refl, refl) refl text rest
+    marked_text class.QuotedAttribute less_than (refl, (refl, refl)) refl text rest
 is_read_back encoder.Safe Text suit text rest full =
-    marked_text class.Safe less_than (refl, refl) refl text rest
+    marked_text class.Safe less_than (refl, (refl, refl)) refl text rest
 is_read_back encoder.UnquotedAttribute Text suit text rest full =
-    marked_nul class.UnquotedAttribute less_than (refl, refl) refl text rest
+    marked_nul class.UnquotedAttribute less_than (refl, (refl, refl)) refl text rest
 is_read_back encoder.DoubleQuotedAttribute DoubleAttribute suit text rest full =
-    marked_text class.DoubleQuotedAttribute double_quote (refl, refl) refl text rest
+    marked_text class.DoubleQuotedAttribute double_quote (refl, (refl, refl)) refl text rest
 is_read_back encoder.QuotedAttribute DoubleAttribute suit text rest full =
-    marked_text class.QuotedAttribute double_quote (refl, refl) refl text rest
+    marked_text class.QuotedAttribute double_quote (refl, (refl, refl)) refl text rest
 is_read_back encoder.Safe DoubleAttribute suit text rest full =
-    marked_text class.Safe double_quote (refl, refl) refl text rest
+    marked_text class.Safe double_quote (refl, (refl, refl)) refl text rest
 is_read_back encoder.UnquotedAttribute DoubleAttribute suit text rest full =
-    marked_nul class.UnquotedAttribute double_quote (refl, refl) refl text rest
+    marked_nul class.UnquotedAttribute double_quote (refl, (refl, refl)) refl text rest
 is_read_back encoder.SingleQuotedAttribute SingleAttribute suit text rest full =
-    marked_text class.SingleQuotedAttribute single_quote (refl, refl) refl text rest
+    marked_text class.SingleQuotedAttribute single_quote (refl, (refl, refl)) refl text rest
 is_read_back encoder.QuotedAttribute SingleAttribute suit text rest full =
-    marked_text class.QuotedAttribute single_quote (refl, refl) refl text rest
+    marked_text class.QuotedAttribute single_quote (refl, (refl, refl)) refl text rest
 is_read_back encoder.Safe SingleAttribute suit text rest full =
-    marked_text class.Safe single_quote (refl, refl) refl text rest
+    marked_text class.Safe single_quote (refl, (refl, refl)) refl text rest
 is_read_back encoder.UnquotedAttribute SingleAttribute suit text rest full =
-    marked_nul class.UnquotedAttribute single_quote (refl, refl) refl text rest
+    marked_nul class.UnquotedAttribute single_quote (refl, (refl, refl)) refl text rest
 is_read_back encoder.UnquotedAttribute (UnquotedAttribute end) suit text rest full =
     unquoted_nul end text rest full
 is_read_back other elsewhere suit text rest full = cc

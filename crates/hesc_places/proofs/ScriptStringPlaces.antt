@@ -7,7 +7,6 @@ use Rattle.std.proofs.lemmas.Str.{encodes-chars}
 use Rattle.hesc_specs.specs.Ascii.{backslash, line_feed, carriage_return, lower_x}
 use Rattle.hesc_specs.specs.Strings.{is_escaped, is_mark, is_quote, line_separator, paragraph_separator, string_encoding, string_escape, string_image}
 use Rattle.hesc_specs.specs.Words.{begins}
-use Rattle.hesc_specs.proofs.CharacterBytes.{next_byte}
 use Rattle.hesc_specs.specs.declared.elements.Element.TheVariants.{Script}
 use Rattle.hesc_specs.specs.declared.quotes.Quotes.{Quotes}
 use Rattle.hesc_places.specs.declared.grammar.Mode.TheVariants.{Plain}
@@ -15,7 +14,7 @@ use Rattle.hesc_places.specs.declared.grammar.Step.TheVariants.{Byte, Character}
 use Rattle.hesc_places.specs.Reading.{reading_after}
 use Rattle.hesc_places.specs.ScriptStrings.{script_escape, script_string_step}
 use Rattle.hesc_places.proofs.Takes.{Takes, takes_character, takes_each, takes_to_end}
-use Rattle.hesc_places.proofs.KeptCharacters.{KeepsHigh, takes_kept}
+use Rattle.hesc_places.proofs.KeptCharacters.{KeepsHigh, next_byte, takes_kept}
 use Rattle.hesc_places.proofs.HexEscapes.{is_digit-hex_digit, digits_value-two_digits, two_digits}
 use Rattle.hesc_places.proofs.EscapedMarks.{mark_is_no_backslash, mark_is_ascii, kept_is_no_mark}
 

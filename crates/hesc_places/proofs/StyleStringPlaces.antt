@@ -6,7 +6,6 @@ use Rattle.std.proofs.lemmas.Str.{encode_ascii}
 use Rattle.hesc_specs.specs.Ascii.{space, backslash, line_feed, form_feed, carriage_return}
 use Rattle.hesc_specs.specs.Nul.{nul, replacement_character}
 use Rattle.hesc_specs.specs.Strings.{is_escaped, is_mark, is_quote, string_encoding, string_escape, string_image}
-use Rattle.hesc_specs.proofs.CharacterBytes.{next_byte}
 use Rattle.hesc_specs.proofs.NulCharacters.{nul_character, nul-text}
 use Rattle.hesc_specs.specs.declared.elements.Element.TheVariants.{Style}
 use Rattle.hesc_specs.specs.declared.quotes.Quotes.{Quotes}
@@ -15,7 +14,7 @@ use Rattle.hesc_places.specs.declared.grammar.Step.TheVariants.{Byte, Character}
 use Rattle.hesc_places.specs.Reading.{reading_after}
 use Rattle.hesc_places.specs.StyleStrings.{style_escape, style_string_step}
 use Rattle.hesc_places.proofs.Takes.{Takes, takes_character, takes_each, takes_to_end, takes_two}
-use Rattle.hesc_places.proofs.KeptCharacters.{KeepsHigh, takes_kept, takes_high}
+use Rattle.hesc_places.proofs.KeptCharacters.{KeepsHigh, next_byte, takes_kept, takes_high}
 use Rattle.hesc_places.proofs.HexEscapes.{is_digit-hex_digit, digits_value-two_digits, two_digits}
 use Rattle.hesc_places.proofs.EscapedMarks.{mark_is_no_backslash, mark_is_ascii, kept_is_no_mark}
 

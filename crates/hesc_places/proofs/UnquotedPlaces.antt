@@ -24,6 +24,7 @@ differs b kept c replaced = ne_eqb b c (kept_is_other UnquotedAttribute b c kept
 unquoted_reads : (end : ℕ) → ReadsImages (unquoted_step end) UnquotedAttribute
 unfolding unquoted_step
 unquoted_reads end = record {
+  html = refl;
   references = λ mode bytes. refl;
   others = λ mode b bytes kept.
       rw (

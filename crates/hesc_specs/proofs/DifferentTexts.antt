@@ -5,8 +5,9 @@ use Rattle.std.proofs.lemmas.Bool.Decides.{nat_tests}
 use Rattle.std.proofs.lemmas.List.{append_cancel_left}
 use Rattle.std.specs.Char.{digit_value}
 use Rattle.hesc_specs.specs.Ascii.{ampersand, less_than, greater_than, double_quote}
-use Rattle.hesc_specs.specs.Classes.{in_class}
-use Rattle.hesc_specs.specs.Html.{encoding, image, reference_to, hex_digit, hex_reference}
+use Rattle.hesc_specs.specs.Classes.{in_class, IsHtml}
+use Rattle.hesc_specs.specs.HexDigits.{hex_digit}
+use Rattle.hesc_specs.specs.Html.{encoding, image, reference_to, hex_reference}
 use Rattle.hesc_specs.specs.declared.classes.Class.{Class}
 use Rattle.hesc_specs.proofs.HexDigits.{digit_value-hex_digit}
 use Rattle.hesc_specs.proofs.HtmlImages.{in_class-ampersand, in_class_is_ascii, kept_is_other}
@@ -42,30 +43,30 @@ front_byte-reference_to : (b : ℕ) (rest : List ℕ) → b < 128 → front_byte
 unfolding front_byte referred_byte hex_number
 front_byte-reference_to b rest small = grind (arith, nat_tests, front_byte-hex_reference b rest small)
 
-front_byte-image : (class : Class) (b : ℕ) (rest : List ℕ) → front_byte (image class b ++ rest) ≡ Some b
+front_byte-image : (class : Class) (b : ℕ) (rest : List ℕ) → IsHtml class → front_byte (image class b ++ rest) ≡ Some b
 unfolding front_byte
-front_byte-image class b rest =
+front_byte-image class b rest html =
     ⊎_elim
     (λ (replaced : in_class class b ≡ true).
-    rw replaced (front_byte-reference_to b rest (in_class_is_ascii class b replaced)))
+    rw replaced (front_byte-reference_to b rest (in_class_is_ascii class b html replaced)))
     (λ (kept : in_class class b ≡ false).
-    rw (kept, ne_eqb b ampersand (kept_is_other class b ampersand kept (in_class-ampersand class))) refl)
+    rw (kept, ne_eqb b ampersand (kept_is_other class b ampersand kept (in_class-ampersand class html))) refl)
     (cases_Bool (in_class class b))
 
--- equal encodings are of equal texts
-pub encoding-injective : (class : Class) (a b : List ℕ) → encoding class a ≡ encoding class b → a ≡ b
+-- equal encodings by an HTML encoder are of equal texts
+pub encoding-injective : (class : Class) (a b : List ℕ) → IsHtml class → encoding class a ≡ encoding class b → a ≡ b
 unfolding front_byte
-encoding-injective class [] [] same = refl
-encoding-injective class [] (c ∷ b) same =
-    let clash : None ≡ Some c = ap front_byte same ∙ front_byte-image class c (encoding class b) in cc
-encoding-injective class (c ∷ a) [] same =
-    let clash : Some c ≡ None = sym (front_byte-image class c (encoding class a)) ∙ ap front_byte same in cc
-encoding-injective class (c ∷ a) (d ∷ b) same =
+encoding-injective class [] [] html same = refl
+encoding-injective class [] (c ∷ b) html same =
+    let clash : None ≡ Some c = ap front_byte same ∙ front_byte-image class c (encoding class b) html in cc
+encoding-injective class (c ∷ a) [] html same =
+    let clash : Some c ≡ None = sym (front_byte-image class c (encoding class a) html) ∙ ap front_byte same in cc
+encoding-injective class (c ∷ a) (d ∷ b) html same =
     let fronts : Some c ≡ Some d =
-    sym (front_byte-image class c (encoding class a)) ∙
-    (ap front_byte same ∙ front_byte-image class d (encoding class b)) in
+    sym (front_byte-image class c (encoding class a) html) ∙
+    (ap front_byte same ∙ front_byte-image class d (encoding class b) html) in
     let front : c ≡ d = cc in
     let rests : encoding class a ≡ encoding class b =
     append_cancel_left (image class c) (encoding class a) (encoding class b)
     (same ∙ ap (λ e. image class e ++ encoding class b) (sym front)) in
-    ap₂ (λ e text. e ∷ text) front (encoding-injective class a b rests)
+    ap₂ (λ e text. e ∷ text) front (encoding-injective class a b html rests)

@@ -5,6 +5,7 @@ pub mod BodySeam
 pub mod CanonicalBodies
 pub mod CharacterBytes
 pub mod DifferentTexts
+pub mod EscapeChanges
 pub mod HexDigits
 pub mod HtmlChanges
 pub mod HtmlImages
@@ -16,4 +17,5 @@ pub mod PartLemmas
 pub mod ReferencesUndone
 pub mod SameBodies
 pub mod SliceRanges
+pub mod StringEncodingChanges
 pub mod Tables

@@ -1,10 +1,10 @@
 -- The NUL of a text by its characters: to replace the characters is to replace the bytes.
-use Rattle.std.proofs.Common.{ℕ, ◌≡◌, ◌≢◌, ◌≤◌, ◌<◌, ◌+◌, ◌/◌, List, [], ◌∷◌, ◌++◌, ◌==◌, if◌then◌else◌, IsUtf8, chars, encode_utf8, encode_utf8_all, flat_map, refl, sym, ap, ap₂, ◌∙◌, ⊎_elim, arith, ne_eqb, append-nil}
+use Rattle.std.proofs.Common.{ℕ, ◌≡◌, ◌≢◌, ◌≤◌, ◌<◌, ◌+◌, ◌/◌, ◌%◌, List, [], ◌∷◌, ◌++◌, ◌==◌, if◌then◌else◌, IsUtf8, chars, encode_utf8, encode_utf8_all, flat_map, refl, sym, ap, ap₂, ◌∙◌, ⊎_elim, arith, ne_eqb, append-nil}
 use Rattle.std.proofs.lemmas.Bool.{cases_eq, cases_lt}
 use Rattle.std.proofs.lemmas.Grind.{flat_map-append}
 use Rattle.std.proofs.lemmas.Str.{encode_ascii, encodes-chars}
 use Rattle.hesc_specs.specs.Nul.{nul, nul_image, replacement_character}
-use Rattle.hesc_specs.proofs.CharacterBytes.{next_byte, encode_utf8-two, encode_utf8-three, encode_utf8-four}
+use Rattle.hesc_specs.proofs.CharacterBytes.{encode_two, encode_three, encode_four}
 
 -- the bytes of a character, but of U+FFFD for NUL
 abbrev pub nul_character : ℕ → List ℕ
@@ -18,23 +18,23 @@ nul-beyond_ascii : (c : ℕ) → 128 ≤ c → nul (encode_utf8 c) ≡ encode_ut
 nul-beyond_ascii c low =
     ⊎_elim
     (λ (two : c < 2048).
-    rw (encode_utf8-two c low two, high_is_kept (192 + c / 64) (omega arith), high_is_kept (next_byte c) (omega arith)) refl)
+    rw (encode_two c low two, high_is_kept (192 + c / 64) (omega arith), high_is_kept (128 + c % 64) (omega arith)) refl)
     (λ (more : 2048 ≤ c).
     ⊎_elim
     (λ (three : c < 65536).
     rw (
-      encode_utf8-three c more three,
+      encode_three c more three,
       high_is_kept (224 + c / 4096) (omega arith),
-      high_is_kept (next_byte (c / 64)) (omega arith),
-      high_is_kept (next_byte c) (omega arith),
+      high_is_kept (128 + c / 64 % 64) (omega arith),
+      high_is_kept (128 + c % 64) (omega arith),
     ) refl)
     (λ (four : 65536 ≤ c).
     rw (
-      encode_utf8-four c four,
+      encode_four c four,
       high_is_kept (240 + c / 262144) (omega arith),
-      high_is_kept (next_byte (c / 4096)) (omega arith),
-      high_is_kept (next_byte (c / 64)) (omega arith),
-      high_is_kept (next_byte c) (omega arith),
+      high_is_kept (128 + c / 4096 % 64) (omega arith),
+      high_is_kept (128 + c / 64 % 64) (omega arith),
+      high_is_kept (128 + c % 64) (omega arith),
     ) refl)
     (cases_lt c 65536))
     (cases_lt c 2048)

@@ -5,14 +5,15 @@ use Rattle.std.proofs.lemmas.Bool.{cases_Bool, cases_eq}
 use Rattle.std.proofs.lemmas.Bool.Decides.{nat_tests}
 use Rattle.std.proofs.lemmas.Str.{encode_ascii}
 use Rattle.hesc_specs.specs.Ascii.{ampersand, semicolon, less_than, greater_than, double_quote}
-use Rattle.hesc_specs.specs.Classes.{in_class}
+use Rattle.hesc_specs.specs.Classes.{in_class, IsHtml}
 use Rattle.hesc_specs.specs.Entities.{Row, row_at, value_of, common_rows}
-use Rattle.hesc_specs.specs.Html.{encoding, image, reference_to, hex_digit, hex_reference}
+use Rattle.hesc_specs.specs.HexDigits.{hex_digit}
+use Rattle.hesc_specs.specs.Html.{encoding, image, reference_to, hex_reference}
 use Rattle.hesc_specs.specs.KeptControls.{kept_control_image, with_kept_controls}
 use Rattle.hesc_specs.specs.References.{decoded, is_kept_control, is_scalar_value, numbered_value, numeral}
 use Rattle.hesc_specs.specs.TableFaults.{is_table}
 use Rattle.hesc_specs.specs.declared.classes.Class.{Class}
-use Rattle.hesc_specs.specs.declared.classes.Class.TheVariants.{TextMinimal, Text, DoubleQuotedAttribute, SingleQuotedAttribute, QuotedAttribute, Safe, UnquotedAttribute}
+use Rattle.hesc_specs.specs.declared.classes.Class.TheVariants.{TextMinimal, Text, DoubleQuotedAttribute, SingleQuotedAttribute, QuotedAttribute, Safe, UnquotedAttribute, ScriptSingleQuoted, ScriptDoubleQuoted, ScriptQuoted, StyleSingleQuoted, StyleDoubleQuoted, StyleQuoted}
 use Rattle.hesc_specs.proofs.HexDigits.{digit_value-hex_digit}
 use Rattle.hesc_specs.proofs.HtmlImages.{image-replaced, image-kept, in_class-ampersand, in_class_is_ascii, kept_is_other}
 use Rattle.hesc_specs.proofs.Tables.{common_value}
@@ -46,15 +47,21 @@ numbered_value-ascii b small free =
     let scalar : is_scalar_value b ≡ true = grind (arith, nat_tests, small) in
     rw (scalar, free) (ap Some (encode_ascii b small))
 
--- a byte of a class is no kept control, but for the class that has them all
-in_class_is_free : (class : Class) (b : ℕ) → class ≢ UnquotedAttribute → in_class class b ≡ true → is_kept_control b ≡ false
-in_class_is_free TextMinimal b other replaced = grind (arith, nat_tests)
-in_class_is_free Text b other replaced = grind (arith, nat_tests)
-in_class_is_free DoubleQuotedAttribute b other replaced = grind (arith, nat_tests)
-in_class_is_free SingleQuotedAttribute b other replaced = grind (arith, nat_tests)
-in_class_is_free QuotedAttribute b other replaced = grind (arith, nat_tests)
-in_class_is_free Safe b other replaced = grind (arith, nat_tests)
-in_class_is_free UnquotedAttribute b other replaced = absurd (other refl)
+-- a byte of an HTML class is no kept control, but for the class that has them all
+in_class_is_free : (class : Class) (b : ℕ) → IsHtml class → class ≢ UnquotedAttribute → in_class class b ≡ true → is_kept_control b ≡ false
+in_class_is_free TextMinimal b html other replaced = grind (arith, nat_tests)
+in_class_is_free Text b html other replaced = grind (arith, nat_tests)
+in_class_is_free DoubleQuotedAttribute b html other replaced = grind (arith, nat_tests)
+in_class_is_free SingleQuotedAttribute b html other replaced = grind (arith, nat_tests)
+in_class_is_free QuotedAttribute b html other replaced = grind (arith, nat_tests)
+in_class_is_free Safe b html other replaced = grind (arith, nat_tests)
+in_class_is_free UnquotedAttribute b html other replaced = absurd (other refl)
+in_class_is_free ScriptSingleQuoted b html other replaced = cc
+in_class_is_free ScriptDoubleQuoted b html other replaced = cc
+in_class_is_free ScriptQuoted b html other replaced = cc
+in_class_is_free StyleSingleQuoted b html other replaced = cc
+in_class_is_free StyleDoubleQuoted b html other replaced = cc
+in_class_is_free StyleQuoted b html other replaced = cc
 
 unquoted_kept_is_free : (b : ℕ) → in_class UnquotedAttribute b ≡ false → is_kept_control b ≡ false
 unquoted_kept_is_free b kept = grind (arith, nat_tests)
@@ -116,33 +123,33 @@ module _ (rows : List Row) where
         rw (ne_eqb b ampersand not_ampersand, ne_eqb b less_than not_less, ne_eqb b greater_than not_greater, ne_eqb b double_quote not_quote) (hex_reference_gives b small rest))
         (cases_eq b double_quote)) (cases_eq b greater_than)) (cases_eq b less_than)) (cases_eq b ampersand)
 
-    replaced_gives : (class : Class) (b : ℕ) → in_class class b ≡ true → Gives (image class b) (kept_control_image b)
-    replaced_gives class b replaced rest = rw (image-replaced class b replaced) (reference_to_gives b (in_class_is_ascii class b replaced) rest)
+    replaced_gives : (class : Class) (b : ℕ) → IsHtml class → in_class class b ≡ true → Gives (image class b) (kept_control_image b)
+    replaced_gives class b html replaced rest = rw (image-replaced class b replaced) (reference_to_gives b (in_class_is_ascii class b html replaced) rest)
 
-    kept_gives : (class : Class) (b : ℕ) → in_class class b ≡ false → Gives (image class b) (b ∷ [])
-    kept_gives class b kept rest =
-        rw (image-kept class b kept) (byte_gives b (ne_eqb b ampersand (kept_is_other class b ampersand kept (in_class-ampersand class))) rest)
+    kept_gives : (class : Class) (b : ℕ) → IsHtml class → in_class class b ≡ false → Gives (image class b) (b ∷ [])
+    kept_gives class b html kept rest =
+        rw (image-kept class b kept) (byte_gives b (ne_eqb b ampersand (kept_is_other class b ampersand kept (in_class-ampersand class html))) rest)
 
-    image_gives : (class : Class) (b : ℕ) → class ≢ UnquotedAttribute → Gives (image class b) (b ∷ [])
-    image_gives class b other =
+    image_gives : (class : Class) (b : ℕ) → IsHtml class → class ≢ UnquotedAttribute → Gives (image class b) (b ∷ [])
+    image_gives class b html other =
         ⊎_elim
-        (λ (replaced : in_class class b ≡ true). rw (in_class_is_free class b other replaced) at (replaced_gives class b replaced))
-        (λ (kept : in_class class b ≡ false). kept_gives class b kept)
+        (λ (replaced : in_class class b ≡ true). rw (in_class_is_free class b html other replaced) at (replaced_gives class b html replaced))
+        (λ (kept : in_class class b ≡ false). kept_gives class b html kept)
         (cases_Bool (in_class class b))
 
     unquoted_image_gives : (b : ℕ) → Gives (image UnquotedAttribute b) (kept_control_image b)
     unquoted_image_gives b =
         ⊎_elim
-        (λ (replaced : in_class UnquotedAttribute b ≡ true). replaced_gives UnquotedAttribute b replaced)
-        (λ (kept : in_class UnquotedAttribute b ≡ false). rw (unquoted_kept_is_free b kept) (kept_gives UnquotedAttribute b kept))
+        (λ (replaced : in_class UnquotedAttribute b ≡ true). replaced_gives UnquotedAttribute b refl replaced)
+        (λ (kept : in_class UnquotedAttribute b ≡ false). rw (unquoted_kept_is_free b kept) (kept_gives UnquotedAttribute b refl kept))
         (cases_Bool (in_class UnquotedAttribute b))
 
-    -- decoding undoes the encoders of the six classes, whatever follows
-    pub decoded-encoding : (class : Class) (text rest : List ℕ) → class ≢ UnquotedAttribute → decoded rows (encoding class text ++ rest) ≡ text ++ decoded rows rest
-    decoded-encoding class [] rest other = refl
-    decoded-encoding class (b ∷ text) rest other =
+    -- decoding undoes the other HTML encoders, whatever follows
+    pub decoded-encoding : (class : Class) (text rest : List ℕ) → IsHtml class → class ≢ UnquotedAttribute → decoded rows (encoding class text ++ rest) ≡ text ++ decoded rows rest
+    decoded-encoding class [] rest html other = refl
+    decoded-encoding class (b ∷ text) rest html other =
         ap (λ written. decoded rows written) (append_assoc (image class b) (encoding class text) rest)
-        ∙ (image_gives class b other (encoding class text ++ rest) ∙ ap (λ later. b ∷ later) (decoded-encoding class text rest other))
+        ∙ (image_gives class b html other (encoding class text ++ rest) ∙ ap (λ later. b ∷ later) (decoded-encoding class text rest html other))
 
     -- and that of the unquoted encoder, but for the kept controls
     pub decoded-unquoted_encoding : (text rest : List ℕ) → decoded rows (encoding UnquotedAttribute text ++ rest) ≡ with_kept_controls text ++ decoded rows rest

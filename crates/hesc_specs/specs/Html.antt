@@ -1,13 +1,10 @@
 -- The HTML maps: what each HTML encoder writes for a byte, and so for a text.
-use Rattle.std.specs.Prelude.{ℕ, ◌+◌, ◌/◌, ◌%◌, List, [], ◌∷◌, ◌++◌, nat_lt, ◌==◌, if◌then◌else◌, codes}
+use Rattle.std.specs.Prelude.{ℕ, ◌/◌, ◌%◌, List, [], ◌∷◌, ◌++◌, ◌==◌, if◌then◌else◌, codes}
 use Rattle.std.specs.List.{flat_map}
 use Rattle.hesc_specs.specs.Ascii.{ampersand, less_than, greater_than, double_quote, semicolon}
 use Rattle.hesc_specs.specs.Classes.{in_class}
+use Rattle.hesc_specs.specs.HexDigits.{hex_digit}
 use Rattle.hesc_specs.specs.declared.classes.Class.{Class}
-
--- a digit 0 to 15, as a digit or an upper-case letter
-abbrev pub hex_digit : ℕ → ℕ
-hex_digit d = if nat_lt d 10 then 48 + d else 55 + d
 
 -- the reference to a byte by its number, in two hex digits
 abbrev pub hex_reference : ℕ → List ℕ

@@ -1,8 +1,12 @@
 pub mod Ascii
 pub mod Words
-pub mod Classes
-pub mod Html
+pub mod HexDigits
 pub mod Nul
+pub mod Elements
+pub mod Strings
+pub mod Classes
+pub mod EscapedPlaces
+pub mod Html
 pub mod Changes
 pub mod Parts
 pub mod FirstPlace
@@ -12,11 +16,10 @@ pub mod TableFaults
 pub mod References
 pub mod ReferenceChanges
 pub mod KeptControls
-pub mod Elements
 pub mod Openings
 pub mod Bodies
 pub mod BodyChanges
 pub mod SameBody
-pub mod Strings
 pub mod StringTokens
 pub mod StringChanges
+pub mod Escaped

@@ -2,7 +2,7 @@
 use Rattle.std.specs.Prelude.{ℕ, ◌/◌, ◌%◌, Bool, true, false, ◌&&◌, ◌||◌, List, [], ◌∷◌, nat_lt, ◌==◌, if◌then◌else◌, codes, chars, encode_utf8}
 use Rattle.std.specs.List.{flat_map}
 use Rattle.hesc_specs.specs.Ascii.{space, double_quote, single_quote, less_than, backslash, lower_x}
-use Rattle.hesc_specs.specs.Html.{hex_digit}
+use Rattle.hesc_specs.specs.HexDigits.{hex_digit}
 use Rattle.hesc_specs.specs.Nul.{nul, replacement_character}
 use Rattle.hesc_specs.specs.declared.elements.Element.{Element}
 use Rattle.hesc_specs.specs.declared.elements.Element.TheVariants.{Script, Style}

@@ -16,4 +16,16 @@ pub enum Class {
     Safe,
     /// The bytes 0 to 127 that are no ASCII letter or digit.
     UnquotedAttribute,
+    /// The bytes 0 to 31, `\`, `<`, `'`, and E2 hex, with which U+2028 and U+2029 begin.
+    ScriptSingleQuoted,
+    /// The bytes 0 to 31, `\`, `<`, `"`, and E2 hex.
+    ScriptDoubleQuoted,
+    /// The bytes 0 to 31, `\`, `<`, `'`, `"`, and E2 hex.
+    ScriptQuoted,
+    /// The bytes 0 to 31, `\`, `<` and `'`.
+    StyleSingleQuoted,
+    /// The bytes 0 to 31, `\`, `<` and `"`.
+    StyleDoubleQuoted,
+    /// The bytes 0 to 31, `\`, `<`, `'` and `"`.
+    StyleQuoted,
 }

@@ -2,8 +2,11 @@
 ghost use Rattle.std.specs.Prelude.{◌≡◌, ◌<◌, ◌+◌, ◌∷◌, [], IfNone, IfSome};
 ghost use Rattle.std.specs.Str.{IsCharBoundary};
 ghost use Rattle.hesc_specs.specs.Changes.{html_changes};
-ghost use Rattle.hesc_specs.specs.Html.{encoding, hex_digit, reference_to};
-ghost use Rattle.hesc_specs.proofs.HtmlChanges.{applied-html_changes};
+ghost use Rattle.hesc_specs.specs.Classes.{IsHtml, string_class};
+ghost use Rattle.hesc_specs.specs.Escaped.{by_class};
+ghost use Rattle.hesc_specs.specs.HexDigits.{hex_digit};
+ghost use Rattle.hesc_specs.specs.Html.{encoding, reference_to};
+ghost use Rattle.hesc_core.specs.Interim.{applied-class};
 ghost use Rattle.hesc_core.specs.Next.{IsNext};
 ghost use Rattle.hesc_core.specs.Text.{replacement_bytes};
 
@@ -18,20 +21,31 @@ use hesc_specs::Class;
 pub struct Escape(pub Class);
 
 impl Rule for Escape {
-    ghost changes_from = { λ rule. html_changes rule.0 };
+    ghost changes_from = { λ rule. by_class (string_class rule.0)
+        (html_changes rule.0) (λ element quotes source from. []) };
 
-    ghost made = { λ rule. encoding rule.0 };
+    ghost made = { λ rule. by_class (string_class rule.0)
+        (encoding rule.0) (λ element quotes source. source) };
 
     fn next(&self, text: &str, from: usize) -> Option<Found<'_>> {
-        next_escape(self.0, text, from)
+        match self.0 {
+            Class::ScriptSingleQuoted
+            | Class::ScriptDoubleQuoted
+            | Class::ScriptQuoted
+            | Class::StyleSingleQuoted
+            | Class::StyleDoubleQuoted
+            | Class::StyleQuoted => None,
+            class => next_escape(class, text, from),
+        }
     }
 
-    ghost makes = { λ rule source _. applied-html_changes rule.0 source };
+    ghost makes = { λ rule source _. applied-class rule.0 source };
 }
 
 /// The first byte of the class at or after `from`, a character boundary, and its reference.
 pub fn next_escape(class: Class, text: &str, from: usize) -> Option<Found<'static>>
-    requires { IsCharBoundary text.now from }
+    requires boundary { IsCharBoundary text.now from }
+    requires html { IsHtml class }
     ensures none { IfNone result (html_changes class text.now from ≡ []) }
     ensures found { IfSome result (IsNext text.now from (html_changes class text.now)) }
 {

@@ -15,7 +15,7 @@ pub returns-clause-found : goal.returns-clause-found
 returns-clause-found c =
     let first : IsFirstPlace (in_class c.args.class) c.args.text.now c.args.from c.first_in-start.result = rw c.as_bytes-bytes.ensures.value at c.first_in-start.ensures in
     let within : c.first_in-start.result < length c.args.text.now = omega (arith, c.as_bytes-bytes.ensures.len, first.in_range) in
-    let ascii : slice_index c.args.text.now c.first_in-start.result < 128 = in_class_is_ascii c.args.class (slice_index c.args.text.now c.first_in-start.result) (first.found within) in
+    let ascii : slice_index c.args.text.now c.first_in-start.result < 128 = in_class_is_ascii c.args.class (slice_index c.args.text.now c.first_in-start.result) c.requires.html (first.found within) in
     record {
       after = first.ordered;
       ordered = omega arith;
