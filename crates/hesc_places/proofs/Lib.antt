@@ -10,5 +10,6 @@ pub mod HexEscapes
 pub mod EscapedMarks
 pub mod ScriptStringPlaces
 pub mod StyleStringPlaces
+pub mod BodyPlaces
 pub mod PlaceLaw
 pub mod EnclosedTexts

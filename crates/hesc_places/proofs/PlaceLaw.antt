@@ -2,15 +2,17 @@
 use Rattle.std.proofs.Common.{ℕ, ◌≡◌, true, List, ◌++◌, Some, length, refl}
 use Rattle.hesc_specs.specs.Ascii.{double_quote, single_quote, less_than}
 use Rattle.hesc_specs.specs.declared.classes.Class.TheVariants as class
+use Rattle.hesc_specs.specs.declared.elements.Element.TheVariants as element
 use Rattle.html_escape.specs.declared.encoder.Encoder.{Encoder}
 use Rattle.html_escape.specs.declared.encoder.Encoder.TheVariants as encoder
 use Rattle.html_escape.specs.Encoders.{encoded}
 use Rattle.hesc_places.specs.declared.places.Place.{Place}
-use Rattle.hesc_places.specs.declared.places.Place.TheVariants.{Text, DoubleAttribute, SingleAttribute, UnquotedAttribute}
+use Rattle.hesc_places.specs.declared.places.Place.TheVariants.{Text, DoubleAttribute, SingleAttribute, UnquotedAttribute, ScriptBody, StyleBody}
 use Rattle.hesc_places.specs.Marks.{closing}
 use Rattle.hesc_places.specs.PlaceReadings.{reading}
 use Rattle.hesc_places.specs.Suits.{suits, MayHold}
 use Rattle.hesc_places.specs.ReadBack.{read_back}
+use Rattle.hesc_places.proofs.BodyPlaces.{read_before_tag}
 use Rattle.hesc_places.proofs.MarkedPlaces.{marked_text, marked_nul}
 use Rattle.hesc_places.proofs.UnquotedPlaces.{unquoted_nul}
 
@@ -55,4 +57,6 @@ is_read_back encoder.UnquotedAttribute SingleAttribute suit text rest full =
     marked_nul class.UnquotedAttribute single_quote (refl, (refl, refl)) refl text rest
 is_read_back encoder.UnquotedAttribute (UnquotedAttribute end) suit text rest full =
     unquoted_nul end text rest full
+is_read_back encoder.Script ScriptBody suit text rest full = read_before_tag element.Script text (closing ScriptBody ++ rest) refl
+is_read_back encoder.Style StyleBody suit text rest full = read_before_tag element.Style text (closing StyleBody ++ rest) refl
 is_read_back other elsewhere suit text rest full = cc

@@ -4,6 +4,7 @@ pub mod References
 pub mod HtmlReadings
 pub mod ScriptStrings
 pub mod StyleStrings
+pub mod BodyReadings
 pub mod Marks
 pub mod PlaceReadings
 pub mod Suits

@@ -1,10 +1,10 @@
 -- The opening and closing marks of the places.
-use Rattle.std.specs.Prelude.{ℕ, List, [], ◌∷◌}
+use Rattle.std.specs.Prelude.{ℕ, List, [], ◌∷◌, codes}
 use Rattle.hesc_specs.specs.Ascii.{tab, line_feed, form_feed, space, double_quote, single_quote, less_than, equals_sign, greater_than}
 use Rattle.hesc_places.specs.declared.places.End.{End}
 use Rattle.hesc_places.specs.declared.places.End.TheVariants.{Tab, LineFeed, FormFeed, Space, Greater}
 use Rattle.hesc_places.specs.declared.places.Place.{Place}
-use Rattle.hesc_places.specs.declared.places.Place.TheVariants.{Text, DoubleAttribute, SingleAttribute, UnquotedAttribute}
+use Rattle.hesc_places.specs.declared.places.Place.TheVariants.{Text, DoubleAttribute, SingleAttribute, UnquotedAttribute, ScriptBody, StyleBody}
 
 -- the byte of an ending
 abbrev pub end_byte : End → ℕ
@@ -20,6 +20,8 @@ opening Text = greater_than ∷ []
 opening DoubleAttribute = double_quote ∷ []
 opening SingleAttribute = single_quote ∷ []
 opening (UnquotedAttribute end) = equals_sign ∷ []
+opening ScriptBody = codes "<script>"
+opening StyleBody = codes "<style>"
 
 -- the mark at which a place ends
 abbrev pub closing : Place → List ℕ
@@ -27,3 +29,5 @@ closing Text = less_than ∷ []
 closing DoubleAttribute = double_quote ∷ []
 closing SingleAttribute = single_quote ∷ []
 closing (UnquotedAttribute end) = end_byte end ∷ []
+closing ScriptBody = codes "</script>"
+closing StyleBody = codes "</style>"

@@ -1,11 +1,14 @@
 -- The grammar of each place, and its reading.
 use Rattle.std.specs.Prelude.{ℕ, List, Option}
 use Rattle.hesc_specs.specs.Ascii.{double_quote, single_quote, less_than}
+use Rattle.hesc_specs.specs.declared.elements.Element.{Element}
+use Rattle.hesc_specs.specs.declared.elements.Element.TheVariants.{Script, Style}
 use Rattle.hesc_places.specs.declared.grammar.Mode.{Mode}
 use Rattle.hesc_places.specs.declared.grammar.Mode.TheVariants.{Empty, Plain}
 use Rattle.hesc_places.specs.declared.grammar.Step.{Step}
 use Rattle.hesc_places.specs.declared.places.Place.{Place}
-use Rattle.hesc_places.specs.declared.places.Place.TheVariants.{Text, DoubleAttribute, SingleAttribute, UnquotedAttribute}
+use Rattle.hesc_places.specs.declared.places.Place.TheVariants.{Text, DoubleAttribute, SingleAttribute, UnquotedAttribute, ScriptBody, StyleBody}
+use Rattle.hesc_places.specs.BodyReadings.{script_body_step, style_body_step}
 use Rattle.hesc_places.specs.HtmlReadings.{marked_step, unquoted_step}
 use Rattle.hesc_places.specs.Marks.{end_byte}
 use Rattle.hesc_places.specs.Reading.{reading_after}
@@ -16,6 +19,8 @@ step_of Text = marked_step less_than
 step_of DoubleAttribute = marked_step double_quote
 step_of SingleAttribute = marked_step single_quote
 step_of (UnquotedAttribute end) = unquoted_step (end_byte end)
+step_of ScriptBody = script_body_step
+step_of StyleBody = style_body_step
 
 -- the mode at the opening mark: an unquoted value has at least one item
 abbrev pub first_mode : Place → Mode
@@ -23,7 +28,14 @@ first_mode Text = Plain
 first_mode DoubleAttribute = Plain
 first_mode SingleAttribute = Plain
 first_mode (UnquotedAttribute end) = Empty
+first_mode ScriptBody = Plain
+first_mode StyleBody = Plain
 
 -- the reading of the bytes behind a place's opening mark: a value and an end, if there is one
 abbrev pub reading : Place → List ℕ → Option (List ℕ × ℕ)
 reading place bytes = reading_after (step_of place) 0 (first_mode place) bytes
+
+-- the place of an element's body
+abbrev pub body_of : Element → Place
+body_of Script = ScriptBody
+body_of Style = StyleBody

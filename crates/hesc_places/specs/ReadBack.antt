@@ -1,10 +1,14 @@
 -- What is read where an encoder wrote a text.
 use Rattle.std.specs.Prelude.{ℕ, List}
+use Rattle.hesc_specs.specs.Bodies.{body_encoding}
 use Rattle.hesc_specs.specs.Nul.{nul}
+use Rattle.hesc_specs.specs.declared.elements.Element.TheVariants as element
 use Rattle.html_escape.specs.declared.encoder.Encoder.{Encoder}
-use Rattle.html_escape.specs.declared.encoder.Encoder.TheVariants.{UnquotedAttribute}
+use Rattle.html_escape.specs.declared.encoder.Encoder.TheVariants.{UnquotedAttribute, Script, Style}
 
--- the text, with U+FFFD for NUL where the encoder refers to NUL by its number
+-- the text, with U+FFFD for NUL where the encoder refers to NUL by its number; of a body its encoding, which is the same body
 abbrev pub read_back : Encoder → List ℕ → List ℕ
 read_back UnquotedAttribute text = nul text
+read_back Script text = body_encoding element.Script text
+read_back Style text = body_encoding element.Style text
 read_back other text = text

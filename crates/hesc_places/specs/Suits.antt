@@ -14,6 +14,7 @@ is_html encoder.SingleQuotedAttribute = true
 is_html encoder.QuotedAttribute = true
 is_html encoder.Safe = true
 is_html encoder.UnquotedAttribute = true
+is_html other = false
 
 -- what the encoder writes can stand in the place
 abbrev pub suits : Encoder → Place → Bool
@@ -27,6 +28,8 @@ suits encoder.QuotedAttribute place.SingleAttribute = true
 suits encoder.Safe place.SingleAttribute = true
 suits encoder.UnquotedAttribute place.SingleAttribute = true
 suits encoder.UnquotedAttribute (place.UnquotedAttribute end) = true
+suits encoder.Script place.ScriptBody = true
+suits encoder.Style place.StyleBody = true
 suits other elsewhere = false
 
 -- the place may hold the text: an unquoted value is not empty

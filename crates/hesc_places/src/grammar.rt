@@ -8,8 +8,12 @@ mod style_strings;
 pub enum Mode {
     /// No item has been read, and at least one must be.
     Empty,
-    /// Any item or the end may follow.
+    /// Any item or the end may follow; in a script's body no comment is open.
     Plain,
+    /// In a script's body: a comment is open.
+    Escaped,
+    /// In a script's body: a comment is open, and a script within it.
+    DoubleEscaped,
 }
 
 /// What begins at a position of a place: its end, an item, or nothing that its grammar knows.

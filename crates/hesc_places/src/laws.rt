@@ -1,19 +1,31 @@
 //! The laws of places: each is a function that does nothing and whose contract is the law.
 ghost use Rattle.std.specs.Prelude.{◌≡◌, ◌++◌, length, IsTrue, Some};
+ghost use Rattle.hesc_specs.specs.Bodies.{body_encoding};
 ghost use Rattle.html_escape.specs.Encoders.{encoded};
 ghost use Rattle.hesc_places.specs.Marks.{closing};
-ghost use Rattle.hesc_places.specs.PlaceReadings.{reading};
+ghost use Rattle.hesc_places.specs.PlaceReadings.{body_of, reading};
 ghost use Rattle.hesc_places.specs.Suits.{suits, MayHold};
 ghost use Rattle.hesc_places.specs.ReadBack.{read_back};
+ghost use Rattle.hesc_places.specs.Words.{is_end_tag};
 
 use crate::places::Place;
+use hesc_core::Element;
 use html_escape::Encoder;
 
 /// Where an encoder suits a place, what it writes for a text ends exactly at the closing mark,
-/// whatever follows, and is read as the text (with U+FFFD for NUL where `read_back` says so).
+/// whatever follows, and is read as the text (with U+FFFD for NUL where `read_back` says so, and a
+/// body as its encoding).
 pub fn place_law(encoder: Encoder, place: Place, text: &str, rest: &[u8])
     requires suits { IsTrue (suits encoder place) }
     requires may_hold { MayHold place text.now }
     ensures { reading place (encoded encoder text.now ++ (closing place ++ rest.now))
         ≡ Some (read_back encoder text.now, length (encoded encoder text.now)) }
+{}
+
+/// An encoded body ends exactly at any end tag of its element that follows it, in any ASCII case and
+/// whatever ends the tag's name, and whatever follows that.
+pub fn end_tag_law(element: Element, text: &str, tag: &[u8])
+    requires { IsTrue (is_end_tag element tag.now) }
+    ensures { reading (body_of element) (body_encoding element text.now ++ tag.now)
+        ≡ Some (body_encoding element text.now, length (body_encoding element text.now)) }
 {}

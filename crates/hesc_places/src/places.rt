@@ -8,6 +8,8 @@
 /// | `DoubleAttribute` | `"` | `"` |
 /// | `SingleAttribute` | `'` | `'` |
 /// | `UnquotedAttribute` | `=` | its ending |
+/// | `ScriptBody` | `<script>` | `</script>` |
+/// | `StyleBody` | `<style>` | `</style>` |
 #[derive(Clone, Copy, Debug, PartialEq, Eq)]
 pub enum Place {
     /// The text between two tags.
@@ -18,6 +20,10 @@ pub enum Place {
     SingleAttribute,
     /// An attribute's value without quotes, and what stands right after it. It may not be empty.
     UnquotedAttribute(End),
+    /// The body of a script.
+    ScriptBody,
+    /// The body of a style.
+    StyleBody,
 }
 
 /// What ends an attribute's value without quotes: white space, or the `>` of the tag.

@@ -13,11 +13,22 @@ use html_escape::Encoder;
 /// | `DoubleAttribute` | `DoubleQuotedAttribute`, `QuotedAttribute`, `Safe`, `UnquotedAttribute` |
 /// | `SingleAttribute` | `SingleQuotedAttribute`, `QuotedAttribute`, `Safe`, `UnquotedAttribute` |
 /// | `UnquotedAttribute` | `UnquotedAttribute`, with a text that is not empty |
+/// | `ScriptBody` | `Script` |
+/// | `StyleBody` | `Style` |
 pub fn suits(encoder: Encoder, place: Place) -> bool
     ensures { result ≡ suits encoder place }
 {
     match place {
-        Place::Text => true,
+        Place::Text => matches!(
+            encoder,
+            Encoder::TextMinimal
+                | Encoder::Text
+                | Encoder::DoubleQuotedAttribute
+                | Encoder::SingleQuotedAttribute
+                | Encoder::QuotedAttribute
+                | Encoder::Safe
+                | Encoder::UnquotedAttribute
+        ),
         Place::DoubleAttribute => matches!(
             encoder,
             Encoder::DoubleQuotedAttribute
@@ -33,5 +44,7 @@ pub fn suits(encoder: Encoder, place: Place) -> bool
                 | Encoder::UnquotedAttribute
         ),
         Place::UnquotedAttribute(_) => matches!(encoder, Encoder::UnquotedAttribute),
+        Place::ScriptBody => matches!(encoder, Encoder::Script),
+        Place::StyleBody => matches!(encoder, Encoder::Style),
     }
 }

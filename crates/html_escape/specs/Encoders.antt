@@ -1,31 +1,49 @@
 -- What each encoder writes for a text, and where it changes it.
 use Rattle.std.specs.Prelude.{◌≡◌, ℕ, List}
+use Rattle.std.specs.Str.{IsUtf8}
+use Rattle.hesc_specs.specs.Bodies.{body_encoding}
+use Rattle.hesc_specs.specs.BodyChanges.{body_encoding_changes}
 use Rattle.hesc_specs.specs.Changes.{Change, applied, html_changes}
 use Rattle.hesc_specs.specs.Html.{encoding}
-use Rattle.hesc_specs.specs.declared.classes.Class.{Class}
 use Rattle.hesc_specs.specs.declared.classes.Class.TheVariants as class
+use Rattle.hesc_specs.specs.declared.elements.Element.TheVariants as element
+use Rattle.hesc_specs.proofs.BodyEncodingChanges.{applied-body_encoding_changes}
 use Rattle.hesc_specs.proofs.HtmlChanges.{applied-html_changes}
 use Rattle.html_escape.specs.declared.encoder.Encoder.{Encoder}
-use Rattle.html_escape.specs.declared.encoder.Encoder.TheVariants.{TextMinimal, Text, DoubleQuotedAttribute, SingleQuotedAttribute, QuotedAttribute, Safe, UnquotedAttribute}
-
--- the bytes at which an encoder may change something
-abbrev pub class_of : Encoder → Class
-class_of TextMinimal = class.TextMinimal
-class_of Text = class.Text
-class_of DoubleQuotedAttribute = class.DoubleQuotedAttribute
-class_of SingleQuotedAttribute = class.SingleQuotedAttribute
-class_of QuotedAttribute = class.QuotedAttribute
-class_of Safe = class.Safe
-class_of UnquotedAttribute = class.UnquotedAttribute
+use Rattle.html_escape.specs.declared.encoder.Encoder.TheVariants.{TextMinimal, Text, DoubleQuotedAttribute, SingleQuotedAttribute, QuotedAttribute, Safe, UnquotedAttribute, Script, Style}
 
 -- what an encoder writes for a text
 abbrev pub encoded : Encoder → List ℕ → List ℕ
-encoded encoder text = encoding (class_of encoder) text
+encoded TextMinimal = encoding class.TextMinimal
+encoded Text = encoding class.Text
+encoded DoubleQuotedAttribute = encoding class.DoubleQuotedAttribute
+encoded SingleQuotedAttribute = encoding class.SingleQuotedAttribute
+encoded QuotedAttribute = encoding class.QuotedAttribute
+encoded Safe = encoding class.Safe
+encoded UnquotedAttribute = encoding class.UnquotedAttribute
+encoded Script = body_encoding element.Script
+encoded Style = body_encoding element.Style
 
 -- an encoder's changes of a source from a place on
 abbrev pub encoder_changes : Encoder → List ℕ → ℕ → List Change
-encoder_changes encoder source from = html_changes (class_of encoder) source from
+encoder_changes TextMinimal = html_changes class.TextMinimal
+encoder_changes Text = html_changes class.Text
+encoder_changes DoubleQuotedAttribute = html_changes class.DoubleQuotedAttribute
+encoder_changes SingleQuotedAttribute = html_changes class.SingleQuotedAttribute
+encoder_changes QuotedAttribute = html_changes class.QuotedAttribute
+encoder_changes Safe = html_changes class.Safe
+encoder_changes UnquotedAttribute = html_changes class.UnquotedAttribute
+encoder_changes Script = body_encoding_changes element.Script
+encoder_changes Style = body_encoding_changes element.Style
 
 -- an encoder's changes, made, are what it writes
-pub applied-encoder_changes : (encoder : Encoder) (source : List ℕ) → applied source 0 (encoder_changes encoder source 0) ≡ encoded encoder source
-applied-encoder_changes encoder source = applied-html_changes (class_of encoder) source
+pub applied-encoder_changes : (encoder : Encoder) (source : List ℕ) → IsUtf8 source → applied source 0 (encoder_changes encoder source 0) ≡ encoded encoder source
+applied-encoder_changes TextMinimal source utf8 = applied-html_changes class.TextMinimal source
+applied-encoder_changes Text source utf8 = applied-html_changes class.Text source
+applied-encoder_changes DoubleQuotedAttribute source utf8 = applied-html_changes class.DoubleQuotedAttribute source
+applied-encoder_changes SingleQuotedAttribute source utf8 = applied-html_changes class.SingleQuotedAttribute source
+applied-encoder_changes QuotedAttribute source utf8 = applied-html_changes class.QuotedAttribute source
+applied-encoder_changes Safe source utf8 = applied-html_changes class.Safe source
+applied-encoder_changes UnquotedAttribute source utf8 = applied-html_changes class.UnquotedAttribute source
+applied-encoder_changes Script source utf8 = applied-body_encoding_changes element.Script source
+applied-encoder_changes Style source utf8 = applied-body_encoding_changes element.Style source

@@ -8,8 +8,8 @@ ghost use Rattle.html_escape.specs.Encoders.{
   encoder_changes,
 };
 
-use hesc_core::rules::next_escape;
-use hesc_core::{Class, Found, Rule};
+use hesc_core::rules::{next_body_escape, next_escape};
+use hesc_core::{Class, Element, Found, Rule};
 
 /// An encoder by its name.
 #[derive(Clone, Copy, Debug, PartialEq, Eq)]
@@ -28,6 +28,10 @@ pub enum Encoder {
     Safe,
     /// Replaces all of ASCII but letters and digits.
     UnquotedAttribute,
+    /// Puts a `\` into each opening of a script's body.
+    Script,
+    /// Puts a `\` into each opening of a style's body.
+    Style,
 }
 
 impl Rule for Encoder {
@@ -39,7 +43,7 @@ impl Rule for Encoder {
         next_encoded(*self, text, from)
     }
 
-    ghost makes = { λ encoder source _. applied-encoder_changes encoder source };
+    ghost makes = { applied-encoder_changes };
 }
 
 /// The first change of the encoder at or after `from`, a character boundary.
@@ -56,5 +60,7 @@ pub fn next_encoded(encoder: Encoder, text: &str, from: usize) -> Option<Found<'
         Encoder::QuotedAttribute => next_escape(Class::QuotedAttribute, text, from),
         Encoder::Safe => next_escape(Class::Safe, text, from),
         Encoder::UnquotedAttribute => next_escape(Class::UnquotedAttribute, text, from),
+        Encoder::Script => next_body_escape(Element::Script, text, from),
+        Encoder::Style => next_body_escape(Element::Style, text, from),
     }
 }
