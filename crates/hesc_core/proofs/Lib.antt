@@ -1,4 +1,4 @@
-mod Capped
+pub mod Capped
 mod FoundBytes
 mod Halving
 pub mod HandsOn

@@ -1,5 +1,5 @@
 //! The laws of the operations: each is a function that does nothing and whose contract is the law.
-ghost use Rattle.std.specs.Prelude.{◌≡◌, ◌≢◌, ◌↔◌, ◌++◌};
+ghost use Rattle.std.specs.Prelude.{◌≡◌, ◌≢◌, ◌↔◌, ◌++◌, IsTrue};
 ghost use Rattle.hesc_specs.specs.Bodies.{
   EndsWithoutLessThan,
   body_decoding,
@@ -11,10 +11,12 @@ ghost use Rattle.hesc_specs.specs.KeptControls.{with_kept_controls};
 ghost use Rattle.hesc_specs.specs.Openings.{HasNoEscapedOpening, HasNoOpening};
 ghost use Rattle.hesc_specs.specs.References.{decoded};
 ghost use Rattle.hesc_specs.specs.SameBody.{IsSameBody};
+ghost use Rattle.hesc_specs.specs.Strings.{string_encoding, string_value};
+ghost use Rattle.hesc_specs.specs.StringTokens.{knows, string_decoding};
 ghost use Rattle.hesc_core.specs.Table.{rows_of};
 
 use crate::table::EntityTable;
-use hesc_specs::{Class, Element};
+use hesc_specs::{Class, Element, Quotes};
 
 /// The encoding of joined texts is their encodings, joined.
 pub fn joined_texts(class: Class, a: &str, b: &str)
@@ -40,6 +42,20 @@ pub fn references_undo_encoders(class: Class, table: &EntityTable, text: &str, r
 pub fn references_undo_unquoted_encoder(table: &EntityTable, text: &str, rest: &str)
     ensures { decoded (rows_of table.now) (encoding Class.UnquotedAttribute text.now ++ rest.now)
         ≡ with_kept_controls text.now ++ decoded (rows_of table.now) rest.now }
+{}
+
+/// A string decoder that knows the quote marks of an encoder undoes it, whatever follows. Of a
+/// style the text comes back with each NUL replaced by U+FFFD.
+pub fn string_decoders_undo_encoders(
+    element: Element,
+    encoder: Quotes,
+    decoder: Quotes,
+    text: &str,
+    rest: &[u8],
+)
+    requires { IsTrue (knows decoder encoder) }
+    ensures { string_decoding element decoder (string_encoding element encoder text.now ++ rest.now)
+        ≡ string_value element text.now ++ string_decoding element decoder rest.now }
 {}
 
 /// The encoding of a body has no opening and its decoding no escaped one, and each is the same body

@@ -20,6 +20,8 @@ pub mod scan;
 pub mod sink;
 pub mod sinks;
 pub mod small_text;
+mod string_classes;
+pub mod string_escapes;
 pub mod table;
 
 pub use crate::engine::run;
@@ -31,4 +33,4 @@ pub use crate::sink::Sink;
 pub use crate::sinks::{CountOverflow, Counter, StringSink, VecSink, WriterSink};
 pub use crate::small_text::SmallText;
 pub use crate::table::EntityTable;
-pub use hesc_specs::{Class, Element, TableFault};
+pub use hesc_specs::{Class, Element, Quotes, TableFault};

@@ -66,7 +66,7 @@ fn completes_opening(element: Element, rest: &[u8]) -> bool
     }
 }
 
-fn is_named(element: Element, tag: &[u8]) -> bool
+pub(crate) fn is_named(element: Element, tag: &[u8]) -> bool
     ensures { result ≡ begins_in_any_case (element_name element) ends tag.now }
 {
     let name = name_of(element);
@@ -88,7 +88,7 @@ fn ends_name(rest: &[u8]) -> bool
     }
 }
 
-fn name_of(element: Element) -> &'static [u8]
+pub(crate) fn name_of(element: Element) -> &'static [u8]
     ensures { result.now ≡ element_name element }
 {
     match element {

@@ -13,3 +13,5 @@ pub mod StyleStringPlaces
 pub mod BodyPlaces
 pub mod PlaceLaw
 pub mod EnclosedTexts
+mod FirstSemicolon
+mod ReadingTurns

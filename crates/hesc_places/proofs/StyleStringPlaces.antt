@@ -6,7 +6,7 @@ use Rattle.std.proofs.lemmas.Str.{encode_ascii}
 use Rattle.hesc_specs.specs.Ascii.{space, backslash, line_feed, form_feed, carriage_return}
 use Rattle.hesc_specs.specs.Nul.{nul, replacement_character}
 use Rattle.hesc_specs.specs.Strings.{is_escaped, is_mark, is_quote, string_encoding, string_escape, string_image}
-use Rattle.hesc_specs.proofs.NulCharacters.{nul_character, nul-text}
+use Rattle.hesc_specs.proofs.NulCharacters.{nul_character, nul-characters}
 use Rattle.hesc_specs.specs.declared.elements.Element.TheVariants.{Style}
 use Rattle.hesc_specs.specs.declared.quotes.Quotes.{Quotes}
 use Rattle.hesc_places.specs.declared.grammar.Mode.TheVariants.{Plain}
@@ -137,5 +137,5 @@ pub style_string_reading : (quotes : Quotes) (mark : ℕ) → is_quote quotes ma
 style_string_reading quotes mark escapes text rest utf8 =
     rw (
       takes_to_end (mark ∷ rest) (takes_each (takes_style_image quotes mark escapes) (chars text)) (style_closes mark rest),
-      nul-text text utf8,
+      nul-characters text utf8,
     ) refl

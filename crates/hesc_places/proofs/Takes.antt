@@ -5,11 +5,11 @@ use Rattle.hesc_places.specs.declared.grammar.Step.{Step}
 use Rattle.hesc_places.specs.declared.grammar.Step.TheVariants.{Byte, Character}
 use Rattle.hesc_places.specs.Reading.{after, reading_after}
 
-after-nothing : (reading : Option (List ℕ × ℕ)) → after [] 0 reading ≡ reading
+pub after-nothing : (reading : Option (List ℕ × ℕ)) → after [] 0 reading ≡ reading
 after-nothing None = refl
 after-nothing (Some r) = rw (zero-add r.1) refl
 
-after-after : (v w : List ℕ) (m n : ℕ) (reading : Option (List ℕ × ℕ)) →
+pub after-after : (v w : List ℕ) (m n : ℕ) (reading : Option (List ℕ × ℕ)) →
     after v m (after w n reading) ≡ after (v ++ w) (m + n) reading
 after-after v w m n None = refl
 after-after v w m n (Some r) = rw (append_assoc v w r.0, add_assoc m n r.1) refl

@@ -39,3 +39,7 @@ reading place bytes = reading_after (step_of place) 0 (first_mode place) bytes
 abbrev pub body_of : Element → Place
 body_of Script = ScriptBody
 body_of Style = StyleBody
+
+-- where a reading ends
+abbrev pub end_of : List ℕ × ℕ → ℕ
+end_of found = found.1

@@ -1,7 +1,18 @@
 //! One step of a place's grammar: what begins at a position, and the mode after it.
+mod bodies;
 mod hex;
+mod html;
+mod references;
 mod script_strings;
 mod style_strings;
+
+ghost use Rattle.std.specs.Prelude.{◌≡◌};
+ghost use Rattle.hesc_places.specs.PlaceReadings.{first_mode, step_of};
+
+use crate::grammar::bodies::{script_body_step, style_body_step};
+use crate::grammar::html::{marked_step, unquoted_step};
+use crate::marks::end_byte;
+use crate::places::Place;
 
 /// How far a reading is.
 #[derive(Clone, Copy, Debug, PartialEq, Eq)]
@@ -29,4 +40,28 @@ pub enum Step {
     Character(usize, char, Mode),
     /// There is no reading.
     Nothing,
+}
+
+/// What begins at a position of a place.
+pub fn step_of(place: Place, mode: Mode, bytes: &[u8]) -> Step
+    ensures { result ≡ step_of place mode bytes.now }
+{
+    match place {
+        Place::Text => marked_step(b'<', mode, bytes),
+        Place::DoubleAttribute => marked_step(b'"', mode, bytes),
+        Place::SingleAttribute => marked_step(b'\'', mode, bytes),
+        Place::UnquotedAttribute(end) => unquoted_step(end_byte(end), mode, bytes),
+        Place::ScriptBody => script_body_step(mode, bytes),
+        Place::StyleBody => style_body_step(mode, bytes),
+    }
+}
+
+/// The mode at the opening mark.
+pub fn first_mode(place: Place) -> Mode
+    ensures { result ≡ first_mode place }
+{
+    match place {
+        Place::UnquotedAttribute(_) => Mode::Empty,
+        _ => Mode::Plain,
+    }
 }

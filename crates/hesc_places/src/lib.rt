@@ -13,9 +13,11 @@ mod grammar;
 pub mod laws;
 mod marks;
 mod places;
+mod readers;
 mod suiting;
 
 pub use crate::enclosing::{append_enclosed, enclose};
 pub use crate::fault::PlaceFault;
 pub use crate::places::{End, Place};
+pub use crate::readers::{Reading, end_of_place, read_place};
 pub use crate::suiting::suits;

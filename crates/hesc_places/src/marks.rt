@@ -1,6 +1,6 @@
 //! The marks between which each place stands.
 ghost use Rattle.std.specs.Prelude.{◌≡◌};
-ghost use Rattle.hesc_places.specs.Marks.{opening, closing};
+ghost use Rattle.hesc_places.specs.Marks.{closing, end_byte, opening};
 
 use crate::places::{End, Place};
 
@@ -33,5 +33,18 @@ pub(crate) fn closing(place: Place) -> &'static str
         Place::UnquotedAttribute(End::Greater) => ">",
         Place::ScriptBody => "</script>",
         Place::StyleBody => "</style>",
+    }
+}
+
+/// The byte of an ending.
+pub(crate) fn end_byte(end: End) -> u8
+    ensures { result ≡ end_byte end }
+{
+    match end {
+        End::Tab => b'\t',
+        End::LineFeed => b'\n',
+        End::FormFeed => b'\x0c',
+        End::Space => b' ',
+        End::Greater => b'>',
     }
 }

@@ -19,7 +19,7 @@ use Rattle.hesc_specs.proofs.OpeningLemmas.{escaped-parts}
 abbrev is_dropped : Element → List ℕ → ℕ → Bool
 is_dropped element source place = is_escaped_opening element (byte_before source place ∷ drop place source)
 
-byte_before-more : (source : List ℕ) (at : ℕ) → byte_before source (at + 1) ≡ slice_index source at
+pub byte_before-more : (source : List ℕ) (at : ℕ) → byte_before source (at + 1) ≡ slice_index source at
 byte_before-more source at = let there : at + 1 ≡ suc at = omega arith in rw there refl
 
 -- one byte further, where none is dropped

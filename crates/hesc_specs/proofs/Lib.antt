@@ -7,6 +7,7 @@ pub mod CharacterBytes
 pub mod DifferentTexts
 pub mod EscapeChanges
 pub mod HexDigits
+pub mod HighBytes
 pub mod HtmlChanges
 pub mod HtmlImages
 pub mod JoinedTexts
@@ -17,5 +18,10 @@ pub mod PartLemmas
 pub mod ReferencesUndone
 pub mod SameBodies
 pub mod SliceRanges
+pub mod StringDecodingChanges
 pub mod StringEncodingChanges
+pub mod StringEscapeEnds
+pub mod StringNumbers
+pub mod StringsUndone
 pub mod Tables
+pub mod UnescapeChanges

@@ -18,6 +18,8 @@ pub fn encode<'t, A: Allocator>(
         Encoder::QuotedAttribute => encode_quoted_attribute(alloc, text),
         Encoder::Safe => encode_safe(alloc, text),
         Encoder::UnquotedAttribute => encode_unquoted_attribute(alloc, text),
+        Encoder::Script => encode_script(alloc, text),
+        Encoder::Style => encode_style(alloc, text),
     }
 }
 
@@ -35,6 +37,8 @@ pub fn encode_to_string<'o, A: Allocator>(
         Encoder::QuotedAttribute => encode_quoted_attribute_to_string(text, output),
         Encoder::Safe => encode_safe_to_string(text, output),
         Encoder::UnquotedAttribute => encode_unquoted_attribute_to_string(text, output),
+        Encoder::Script => encode_script_to_string(text, output),
+        Encoder::Style => encode_style_to_string(text, output),
     }
 }
 
@@ -52,6 +56,8 @@ pub fn encode_to_vec<'o, A: Allocator>(
         Encoder::QuotedAttribute => encode_quoted_attribute_to_vec(text, output),
         Encoder::Safe => encode_safe_to_vec(text, output),
         Encoder::UnquotedAttribute => encode_unquoted_attribute_to_vec(text, output),
+        Encoder::Script => encode_script_to_vec(text, output),
+        Encoder::Style => encode_style_to_vec(text, output),
     }
 }
 
@@ -65,5 +71,7 @@ pub fn encode_to_writer<W: Write>(encoder: Encoder, text: &str, output: &mut W) 
         Encoder::QuotedAttribute => encode_quoted_attribute_to_writer(text, output),
         Encoder::Safe => encode_safe_to_writer(text, output),
         Encoder::UnquotedAttribute => encode_unquoted_attribute_to_writer(text, output),
+        Encoder::Script => encode_script_to_writer(text, output),
+        Encoder::Style => encode_style_to_writer(text, output),
     }
 }

@@ -1,4 +1,5 @@
 //! Texts and their encodings: worked by hand, or as the Rust crate answers them.
+use crate::tests::body_rows::{ENCODED_SCRIPTS, ENCODED_STYLES};
 use html_escape::Encoder;
 
 /// How the `Cow` form holds its text.
@@ -13,7 +14,7 @@ use Held::{Borrowed, Owned};
 /// A text, its encoding, and how the `Cow` form holds it.
 pub type Row = (&'static str, &'static str, Held);
 
-pub const ENCODERS: [Encoder; 7] = [
+pub const ENCODERS: [Encoder; 9] = [
     Encoder::TextMinimal,
     Encoder::Text,
     Encoder::DoubleQuotedAttribute,
@@ -21,6 +22,8 @@ pub const ENCODERS: [Encoder; 7] = [
     Encoder::QuotedAttribute,
     Encoder::Safe,
     Encoder::UnquotedAttribute,
+    Encoder::Script,
+    Encoder::Style,
 ];
 
 /// The rows of an encoder.
@@ -33,6 +36,8 @@ pub fn rows(encoder: Encoder) -> &'static [Row] {
         Encoder::QuotedAttribute => &QUOTED_ATTRIBUTE,
         Encoder::Safe => &SAFE,
         Encoder::UnquotedAttribute => &UNQUOTED_ATTRIBUTE,
+        Encoder::Script => &ENCODED_SCRIPTS,
+        Encoder::Style => &ENCODED_STYLES,
     }
 }
 

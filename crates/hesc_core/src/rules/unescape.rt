@@ -1,0 +1,81 @@
+//! Unescaping by a class: in an encoded string each escape becomes the character that it stands
+//! for.
+ghost use Rattle.std.specs.Prelude.{◌≡◌, [], IfNone, IfSome, encode_utf8};
+ghost use Rattle.std.specs.Str.{IsCharBoundary};
+ghost use Rattle.hesc_specs.specs.Escaped.{unescape_changes, unescaped};
+ghost use Rattle.hesc_specs.specs.StringChanges.{string_decoding_changes};
+ghost use Rattle.hesc_specs.proofs.UnescapeChanges.{applied-unescape_changes};
+ghost use Rattle.hesc_core.specs.Next.{IsNext};
+ghost use Rattle.hesc_core.specs.Text.{replacement_bytes};
+
+use crate::find::first_byte;
+use crate::found::{Found, Replacement};
+use crate::rule::Rule;
+use crate::small_text::SmallText;
+use crate::string_classes::string_class;
+use crate::string_escapes::{escape, is_behind_less};
+use hesc_specs::{Class, Element, Quotes};
+
+/// The decoder of a class. That of an HTML encoder's class changes nothing.
+#[derive(Clone, Copy)]
+pub struct Unescape(pub Class);
+
+impl Rule for Unescape {
+    ghost changes_from = { λ rule. unescape_changes rule.0 };
+
+    ghost made = { λ rule. unescaped rule.0 };
+
+    fn next(&self, text: &str, from: usize) -> Option<Found<'_>> {
+        next_unescape(self.0, text, from)
+    }
+
+    ghost makes = { λ rule source _. applied-unescape_changes rule.0 source };
+}
+
+/// The first escape at or after `from`, a character boundary, where the reading begins, and its
+/// character. In an HTML encoder's class there is none.
+pub fn next_unescape(class: Class, text: &str, from: usize) -> Option<Found<'static>>
+    requires { IsCharBoundary text.now from }
+    ensures none { IfNone result (unescape_changes class text.now from ≡ []) }
+    ensures found { IfSome result (IsNext text.now from (unescape_changes class text.now)) }
+{
+    match string_class(class) {
+        Some((element, quotes)) => next_string_unescape(element, quotes, text, from),
+        None => None,
+    }
+}
+
+/// The first escape of an encoded string at or after `from`, a character boundary, where the
+/// reading begins, and its character.
+pub fn next_string_unescape(
+    element: Element,
+    quotes: Quotes,
+    text: &str,
+    from: usize,
+) -> Option<Found<'static>>
+    requires { IsCharBoundary text.now from }
+    ensures none { IfNone result (string_decoding_changes element quotes text.now from ≡ []) }
+    ensures found { IfSome result (IsNext text.now from
+        (string_decoding_changes element quotes text.now)) }
+{
+    let bytes = text.as_bytes();
+    let mut start = first_byte(b'\\', bytes, from);
+    'seeking: while start < bytes.len() {
+        let behind_less = is_behind_less(bytes, start);
+        if let Some((more, character)) = escape(element, quotes, behind_less, &bytes[start + 1..]) {
+            return Some(Found {
+                start,
+                end: start + 1 + more,
+                replacement: replacement(character),
+            });
+        }
+        start = first_byte(b'\\', bytes, start + 1);
+    }
+    None
+}
+
+fn replacement(character: char) -> Replacement<'static>
+    ensures { replacement_bytes result ≡ encode_utf8 character }
+{
+    Replacement::Small(SmallText::new(character.encode_utf8(&mut [0; 4])))
+}

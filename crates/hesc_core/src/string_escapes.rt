@@ -1,0 +1,151 @@
+//! The escapes of an encoded string: what a `\` and the bytes behind it stand for.
+ghost use Rattle.std.specs.Prelude.{◌≡◌, ◌≤◌, ◌<◌, IsTrue, length};
+ghost use Rattle.hesc_specs.specs.Elements.{element_name};
+ghost use Rattle.hesc_specs.specs.Strings.{is_quote as among};
+ghost use Rattle.hesc_specs.specs.StringChanges.{is_behind_less as behind};
+ghost use Rattle.hesc_specs.specs.StringTokens.{
+  ends_name_within,
+  escape as escape_of,
+  is_pair as writes_pair,
+  is_upper_hex as is_digit,
+  mark_escape as mark,
+  number_escape as number,
+  opening_escape as opening,
+  pair_value as pair,
+  separator_escape as separator,
+  upper_hex_value as value_of,
+};
+ghost use Rattle.hesc_specs.specs.Words.{begins_in_any_case};
+
+use crate::openings::{is_named, name_of};
+use hesc_specs::{Element, Quotes};
+
+/// The escape that a `\` before these bytes begins, if any: how many bytes it has behind the `\`,
+/// and the character that it stands for. `behind_less` tells that a `<` stands right before the
+/// `\`.
+pub fn escape(
+    element: Element,
+    quotes: Quotes,
+    behind_less: bool,
+    bytes: &[u8],
+) -> Option<(usize, char)>
+    ensures { result ≡ escape_of element quotes behind_less bytes.now }
+{
+    if let Some(found) = mark_escape(quotes, bytes) {
+        return Some(found);
+    }
+    if let Some(found) = number_escape(element, bytes) {
+        return Some(found);
+    }
+    if let Some(found) = separator_escape(element, bytes) {
+        return Some(found);
+    }
+    if behind_less {
+        opening_escape(element, bytes)
+    } else {
+        None
+    }
+}
+
+/// Whether the byte right before the place is `<`.
+pub fn is_behind_less(bytes: &[u8], place: usize) -> bool
+    requires { place ≤ length bytes.now }
+    ensures { result ≡ behind bytes.now place }
+{
+    place > 0 && bytes[place - 1] == b'<'
+}
+
+fn mark_escape(quotes: Quotes, bytes: &[u8]) -> Option<(usize, char)>
+    ensures { result ≡ mark quotes bytes.now }
+{
+    match bytes {
+        [byte, ..] if *byte == b'\\' || is_quote(quotes, *byte) => Some((1, char::from(*byte))),
+        _ => None,
+    }
+}
+
+fn is_quote(quotes: Quotes, byte: u8) -> bool
+    ensures { result ≡ among quotes byte }
+{
+    match quotes {
+        Quotes::Single => byte == b'\'',
+        Quotes::Double => byte == b'"',
+        Quotes::Both => byte == b'\'' || byte == b'"',
+    }
+}
+
+fn number_escape(element: Element, bytes: &[u8]) -> Option<(usize, char)>
+    ensures { result ≡ number element bytes.now }
+{
+    match (element, bytes) {
+        (Element::Script, [b'x', high, low, ..]) if is_pair(0, *high, *low) => {
+            Some((3, char::from(pair_value(*high, *low))))
+        }
+        (Element::Style, [high, low, b' ', ..]) if is_pair(1, *high, *low) => {
+            Some((3, char::from(pair_value(*high, *low))))
+        }
+        _ => None,
+    }
+}
+
+fn is_pair(least: u8, high: u8, low: u8) -> bool
+    ensures { result ≡ writes_pair least high low }
+{
+    if !is_upper_hex(high) || !is_upper_hex(low) {
+        return false;
+    }
+    let value = pair_value(high, low);
+    least <= value && value < 32 || value == b'<'
+}
+
+fn pair_value(high: u8, low: u8) -> u8
+    requires high { IsTrue (is_digit high) }
+    requires low { IsTrue (is_digit low) }
+    ensures { result ≡ pair high low }
+{
+    upper_hex_value(high) * 16 + upper_hex_value(low)
+}
+
+fn is_upper_hex(byte: u8) -> bool
+    ensures { result ≡ is_digit byte }
+{
+    matches!(byte, b'0'..=b'9' | b'A'..=b'F')
+}
+
+fn upper_hex_value(byte: u8) -> u8
+    requires { IsTrue (is_digit byte) }
+    ensures value { result ≡ value_of byte }
+    ensures small { result < 16 }
+{
+    if byte < b'A' {
+        byte - b'0'
+    } else {
+        byte - b'A' + 10
+    }
+}
+
+fn separator_escape(element: Element, bytes: &[u8]) -> Option<(usize, char)>
+    ensures { result ≡ separator element bytes.now }
+{
+    match (element, bytes) {
+        (Element::Script, [b'u', b'2', b'0', b'2', b'8', ..]) => Some((5, '\u{2028}')),
+        (Element::Script, [b'u', b'2', b'0', b'2', b'9', ..]) => Some((5, '\u{2029}')),
+        _ => None,
+    }
+}
+
+fn opening_escape(element: Element, bytes: &[u8]) -> Option<(usize, char)>
+    ensures { result ≡ opening element bytes.now }
+{
+    match bytes {
+        [b'!', b'-', b'-', ..] => Some((1, '!')),
+        [b'/', tag @ ..] if is_named_within(element, tag) => Some((1, '/')),
+        _ => None,
+    }
+}
+
+fn is_named_within(element: Element, tag: &[u8]) -> bool
+    ensures { result ≡ begins_in_any_case (element_name element) ends_name_within tag.now }
+{
+    is_named(element, tag) && tag.len() > name_of(element).len()
+}

@@ -1,0 +1,33 @@
+-- The bytes of a character that is not ASCII.
+use Rattle.std.proofs.Common.{ℕ, ◌≤◌, ◌<◌, List, [], ◌∷◌, arith, inl, inr}
+use Rattle.std.proofs.Math.Utf8.{encode}
+use Rattle.std.proofs.lemmas.Bool.{cases_lt}
+use Rattle.std.proofs.lemmas.Bool.Decides.{nat_tests}
+
+-- all are from 128 on
+abbrev pub AreHigh : List ℕ → Type 0
+AreHigh [] = Unit {0}
+AreHigh (b ∷ bytes) = (128 ≤ b) × AreHigh bytes
+
+two-high : (c : ℕ) → 128 ≤ c → c < 2048 → AreHigh (encode c)
+unfolding encode
+two-high c low high = grind (arith, nat_tests)
+
+three-high : (c : ℕ) → 2048 ≤ c → c < 65536 → AreHigh (encode c)
+unfolding encode
+three-high c low high = grind (arith, nat_tests)
+
+four-high : (c : ℕ) → 65536 ≤ c → AreHigh (encode c)
+unfolding encode
+four-high c low = grind (arith, nat_tests)
+
+pub encode-high : (c : ℕ) → 128 ≤ c → AreHigh (encode c)
+encode-high c low =
+    elim (cases_lt c 2048) [
+      | inl two ↦ two-high c low two
+      | inr more ↦
+          elim (cases_lt c 65536) [
+            | inl three ↦ three-high c (omega arith) three
+            | inr four ↦ four-high c (omega arith)
+          ]
+    ]
