@@ -1,4 +1,6 @@
 pub mod Capped
+mod Capped
+mod EscapeSearch
 mod FoundBytes
 mod Halving
 pub mod HandsOn
@@ -6,4 +8,5 @@ pub mod HandsOnTable
 mod OpeningSearch
 mod Progress
 mod Seam
+mod StringEscapes
 mod Told

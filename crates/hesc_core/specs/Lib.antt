@@ -7,4 +7,3 @@ pub mod NamedRows
 pub mod Numbers
 pub mod Rows
 pub mod Table
-pub mod Interim

@@ -1,8 +1,11 @@
 //! The rules of the operations.
 pub mod bodies;
 pub mod escape;
+mod hex_digits;
+pub mod html_escape;
 mod reference_values;
 pub mod references;
+pub mod string_escape;
 pub mod unescape;
 
 pub use crate::rules::bodies::{

@@ -39,6 +39,18 @@ impl SmallText {
         SmallText { bytes, len: 6 }
     }
 
+    /// The text of four ASCII bytes.
+    pub fn from_four_ascii(bytes: [u8; 4]) -> SmallText
+        requires { IsAscii bytes }
+        ensures { small_text_bytes result ≡ bytes }
+    {
+        let [a, b, c, d] = bytes;
+        SmallText {
+            bytes: [a, b, c, d, 0, 0],
+            len: 4,
+        }
+    }
+
     /// The text.
     pub fn as_str(&self) -> &str
         ensures { result.now ≡ small_text_bytes self.now }

@@ -10,6 +10,7 @@ use Rattle.hesc_specs.specs.Ascii.{backslash, double_quote, less_than, single_qu
 use Rattle.hesc_specs.specs.Classes.{begins_separator, in_class, in_string_class, separator_lead, string_class}
 use Rattle.hesc_specs.specs.Escaped.{by_class}
 use Rattle.hesc_specs.specs.EscapedPlaces.{begins_escaped}
+use Rattle.hesc_specs.specs.Nul.{replacement_character}
 use Rattle.hesc_specs.specs.Strings.{is_escaped, is_separator, line_separator, paragraph_separator}
 use Rattle.hesc_specs.specs.declared.classes.Class.{Class}
 use Rattle.hesc_specs.specs.declared.classes.Class.TheVariants.{TextMinimal, Text, DoubleQuotedAttribute, SingleQuotedAttribute, QuotedAttribute, Safe, UnquotedAttribute, ScriptSingleQuoted, ScriptDoubleQuoted, ScriptQuoted, StyleSingleQuoted, StyleDoubleQuoted, StyleQuoted}
@@ -77,19 +78,29 @@ begins_separator-other Style b other = refl
 separator_bytes : (c : ℕ) → c / 4096 ≡ 2 → (128 + c / 64 % 64 == 0x80 && (128 + c % 64 == 0xA8 || 128 + c % 64 == 0xA9)) ≡ (c == line_separator || c == paragraph_separator)
 separator_bytes c lead = let same : (c / 64) / 64 ≡ c / 4096 = div-div-eq-div-mul c 64 64 in grind (arith, nat_tests)
 
--- a character that is replaced is ASCII, or one of the separators
-is_separator-cases : (element : Element) (c : ℕ) → is_separator element c ≡ true → (c ≡ line_separator) ⊎ (c ≡ paragraph_separator)
+-- a character that is replaced is ASCII, or in a script one of the separators
+is_separator-cases : (element : Element) (c : ℕ) → is_separator element c ≡ true → (element ≡ Script) × ((c ≡ line_separator) ⊎ (c ≡ paragraph_separator))
 is_separator-cases Script c is = elim (cases_eq c line_separator) [
-  | inl same ↦ inl same
-  | inr other ↦ inr (eqb-true c paragraph_separator (rw (ne_eqb c line_separator other) at is))
+  | inl same ↦ (refl, inl same)
+  | inr other ↦ (refl, inr (eqb-true c paragraph_separator (rw (ne_eqb c line_separator other) at is)))
 ]
 is_separator-cases Style c is = cc
 
-pub is_escaped-cases : (element : Element) (quotes : Quotes) (c : ℕ) → is_escaped element quotes c ≡ true → (c < 128) ⊎ ((c ≡ line_separator) ⊎ (c ≡ paragraph_separator))
+pub is_escaped-cases : (element : Element) (quotes : Quotes) (c : ℕ) → is_escaped element quotes c ≡ true → (c < 128) ⊎ ((element ≡ Script) × ((c ≡ line_separator) ⊎ (c ≡ paragraph_separator)))
 is_escaped-cases element quotes c is = elim (cases_lt c 128) [
   | inl small ↦ inl small
   | inr high ↦ inr (is_separator-cases element c (sym (is_escaped-high element quotes c high) ∙ is))
 ]
+
+-- the bytes of the characters beyond ASCII that the encoders name
+pub encode-replacement_character : encode replacement_character ≡ 0xEF ∷ 0xBF ∷ 0xBD ∷ []
+encode-replacement_character = encode_three replacement_character (omega arith) (omega arith)
+
+pub encode-line_separator : encode line_separator ≡ separator_lead ∷ 0x80 ∷ 0xA8 ∷ []
+encode-line_separator = encode_three line_separator (omega arith) (omega arith)
+
+pub encode-paragraph_separator : encode paragraph_separator ≡ separator_lead ∷ 0x80 ∷ 0xA9 ∷ []
+encode-paragraph_separator = encode_three paragraph_separator (omega arith) (omega arith)
 
 module _ (class : Class) (element : Element) (quotes : Quotes) (is : string_class class ≡ Some (element, quotes)) where
   ascii_begins : (c : ℕ) (rest : List ℕ) → c < 128 → begins_escaped class (c ∷ rest) ≡ is_escaped element quotes c

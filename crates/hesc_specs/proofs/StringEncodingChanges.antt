@@ -1,23 +1,24 @@
 -- The changes of a string encoder: which comes first, when none is left, and that they make the encoding.
-use Rattle.std.proofs.Common.{◌≡◌, ℕ, zero, suc, add-zero, ◌+◌, ◌-◌, ◌≤◌, ◌<◌, List, [], ◌∷◌, ◌++◌, Bool, true, false, Some, length, take, drop, flat_map, IsUtf8, refl, sym, ap, subst, ◌∙◌, append_assoc, length-append, arith}
+use Rattle.std.proofs.Common.{◌≡◌, ℕ, zero, suc, add-zero, ◌+◌, ◌-◌, ◌≤◌, ◌<◌, List, [], ◌∷◌, ◌++◌, Bool, true, false, Some, length, take, drop, flat_map, IsUtf8, refl, sym, ap, subst, ◌∙◌, append_assoc, length-append, arith, get_or, inl, inr, if◌then◌else◌, ◌==◌}
 use Rattle.std.specs.Prelude.{chars, slice_range, slice_index}
 use Rattle.std.specs.Char.{len_utf8}
 use Rattle.std.specs.Str.{IsCharBoundary}
 use Rattle.std.proofs.lemmas.List.{drop-drop, drop_at, drop_more, get_or-drop, length-drop, length-take, take-append-drop}
 use Rattle.std.proofs.lemmas.List.Folds.{drop_split}
-use Rattle.std.proofs.lemmas.Str.{IsUtf8-drop, IsUtf8-take, IsCharBoundary-past_char, chars-append, chars-nil, chars_past_char, encodes-chars, len_utf8_bounds, length-encode}
+use Rattle.std.proofs.lemmas.Str.{IsUtf8-drop, IsUtf8-take, IsCharBoundary-past_char, chars-append, chars-nil, chars_past_char, encode_ascii, encodes-chars, len_utf8_bounds, length-encode}
 use Rattle.std.proofs.Math.Seq.{drop-length}
 use Rattle.std.proofs.Math.Utf8.{encode, encodes}
 use Rattle.hesc_specs.specs.Changes.{applied}
-use Rattle.hesc_specs.specs.Classes.{string_class}
+use Rattle.hesc_specs.specs.Classes.{separator_lead, string_class}
 use Rattle.hesc_specs.specs.EscapedPlaces.{begins_escaped, escapes_at}
 use Rattle.hesc_specs.specs.FirstPlace.{IsFirstAt}
 use Rattle.hesc_specs.specs.StringChanges.{behind, string_encoding_changes, string_encoding_changes_of}
-use Rattle.hesc_specs.specs.Strings.{is_escaped, string_encoding, string_escape, string_image}
+use Rattle.hesc_specs.specs.Strings.{is_escaped, line_separator, paragraph_separator, string_encoding, string_escape, string_image}
 use Rattle.hesc_specs.specs.declared.classes.Class.{Class}
 use Rattle.hesc_specs.specs.declared.elements.Element.{Element}
+use Rattle.hesc_specs.specs.declared.elements.Element.TheVariants.{Script}
 use Rattle.hesc_specs.specs.declared.quotes.Quotes.{Quotes}
-use Rattle.hesc_specs.proofs.CharacterBytes.{begins_escaped-character, begins_escaped-lead}
+use Rattle.hesc_specs.proofs.CharacterBytes.{begins_escaped-character, begins_escaped-lead, encode-line_separator, encode-paragraph_separator, is_escaped-cases}
 use Rattle.hesc_specs.proofs.SliceRanges.{slice_range-further, slice_range-nothing}
 
 -- one character more, by whether it is replaced
@@ -139,3 +140,51 @@ module _ (class : Class) (element : Element) (quotes : Quotes) (is : string_clas
     pub next-string_encoding_changes : IsCharBoundary source from → at < length source → FirstEscaped element quotes source from at
     next-string_encoding_changes boundary inside =
         escaped_character boundary inside (chars (drop at source)) (encodes-chars (drop at source) (IsUtf8-drop source at text found_boundary))
+
+-- the first byte tells the character, and where it is the separators', the third
+module _ {element : Element} {quotes : Quotes} {source : List ℕ} {from at : ℕ} (first : FirstEscaped element quotes source from at) where
+  byte_at : (k b : ℕ) (bytes : List ℕ) → encode first.character ≡ bytes → get_or (bytes ++ first.after) k 0 ≡ b → slice_index source (at + k) ≡ b
+  byte_at k b bytes spelt there =
+      sym (get_or-drop at source k 0) ∙ (ap (λ rest. get_or rest k 0) first.bytes ∙ (ap (λ front. get_or (front ++ first.after) k 0) spelt ∙ there))
+
+  first_byte : (b : ℕ) (bytes : List ℕ) → encode first.character ≡ bytes → get_or (bytes ++ first.after) 0 0 ≡ b → slice_index source at ≡ b
+  first_byte b bytes spelt there = ap (λ place. slice_index source place) (sym (add-zero at)) ∙ byte_at 0 b bytes spelt there
+
+  abbrev IsAsciiCharacter : Type 0
+  IsAsciiCharacter = (first.character ≡ slice_index source at) × (first.character < 128)
+
+  abbrev IsSeparator : Type 0
+  IsSeparator = (element ≡ Script) × ((first.character ≡ (if slice_index source (at + 2) == 0xA8 then line_separator else paragraph_separator)) × (behind at first.character ≡ at + 3))
+
+  of_line : element ≡ Script → first.character ≡ line_separator → (slice_index source at ≡ separator_lead) × IsSeparator
+  of_line script is =
+      let spelt : encode first.character ≡ separator_lead ∷ 0x80 ∷ 0xA8 ∷ [] = ap encode is ∙ encode-line_separator in
+      (first_byte separator_lead (separator_lead ∷ 0x80 ∷ 0xA8 ∷ []) spelt refl,
+      (script, (rw (byte_at 2 0xA8 (separator_lead ∷ 0x80 ∷ 0xA8 ∷ []) spelt refl) is, ap (λ bytes. at + length bytes) spelt)))
+
+  of_paragraph : element ≡ Script → first.character ≡ paragraph_separator → (slice_index source at ≡ separator_lead) × IsSeparator
+  of_paragraph script is =
+      let spelt : encode first.character ≡ separator_lead ∷ 0x80 ∷ 0xA9 ∷ [] = ap encode is ∙ encode-paragraph_separator in
+      (first_byte separator_lead (separator_lead ∷ 0x80 ∷ 0xA9 ∷ []) spelt refl,
+      (script, (rw (byte_at 2 0xA9 (separator_lead ∷ 0x80 ∷ 0xA9 ∷ []) spelt refl) is, ap (λ bytes. at + length bytes) spelt)))
+
+  of_ascii : first.character < 128 → slice_index source at ≡ first.character
+  of_ascii small = first_byte first.character (first.character ∷ []) (encode_ascii first.character small) refl
+
+  pub ascii_character : (slice_index source at ≡ separator_lead → ⊥) → IsAsciiCharacter
+  ascii_character other = elim (is_escaped-cases element quotes first.character first.replaced) [
+    | inl small ↦ (sym (of_ascii small), small)
+    | inr separator ↦ elim separator.1 [
+      | inl is ↦ absurd (other (of_line separator.0 is).0)
+      | inr is ↦ absurd (other (of_paragraph separator.0 is).0)
+    ]
+  ]
+
+  pub separator_character : slice_index source at ≡ separator_lead → IsSeparator
+  separator_character lead = elim (is_escaped-cases element quotes first.character first.replaced) [
+    | inl small ↦ absurd (omega (arith, lead, of_ascii small))
+    | inr separator ↦ elim separator.1 [
+      | inl is ↦ (of_line separator.0 is).1
+      | inr is ↦ (of_paragraph separator.0 is).1
+    ]
+  ]

@@ -1,96 +1,61 @@
-//! Escaping by a class: each byte of the class becomes its reference.
-ghost use Rattle.std.specs.Prelude.{◌≡◌, ◌<◌, ◌+◌, ◌∷◌, [], IfNone, IfSome};
+//! Escaping by a class: what the encoder of the class replaces becomes its escape.
+ghost use Rattle.std.specs.Prelude.{◌≡◌, [], IfNone, IfSome};
 ghost use Rattle.std.specs.Str.{IsCharBoundary};
-ghost use Rattle.hesc_specs.specs.Changes.{html_changes};
-ghost use Rattle.hesc_specs.specs.Classes.{IsHtml, string_class};
-ghost use Rattle.hesc_specs.specs.Escaped.{by_class};
-ghost use Rattle.hesc_specs.specs.HexDigits.{hex_digit};
-ghost use Rattle.hesc_specs.specs.Html.{encoding, reference_to};
-ghost use Rattle.hesc_core.specs.Interim.{applied-class};
+ghost use Rattle.hesc_specs.specs.Classes.{element_of as element_in_class};
+ghost use Rattle.hesc_specs.specs.Escaped.{escape_changes, escaped};
+ghost use Rattle.hesc_specs.proofs.EscapeChanges.{applied-escape_changes};
 ghost use Rattle.hesc_core.specs.Next.{IsNext};
-ghost use Rattle.hesc_core.specs.Text.{replacement_bytes};
 
-use crate::found::{Found, Replacement};
+use crate::found::Found;
 use crate::rule::Rule;
-use crate::scan::first_in;
-use crate::small_text::SmallText;
-use hesc_specs::Class;
+use crate::rules::html_escape::next_html_escape;
+use crate::rules::string_escape::next_string_escape;
+use hesc_specs::{Class, Element};
 
 /// The encoder of a class.
 #[derive(Clone, Copy)]
 pub struct Escape(pub Class);
 
 impl Rule for Escape {
-    ghost changes_from = { λ rule. by_class (string_class rule.0)
-        (html_changes rule.0) (λ element quotes source from. []) };
+    ghost changes_from = { λ rule. escape_changes rule.0 };
 
-    ghost made = { λ rule. by_class (string_class rule.0)
-        (encoding rule.0) (λ element quotes source. source) };
+    ghost made = { λ rule. escaped rule.0 };
 
     fn next(&self, text: &str, from: usize) -> Option<Found<'_>> {
-        match self.0 {
-            Class::ScriptSingleQuoted
-            | Class::ScriptDoubleQuoted
-            | Class::ScriptQuoted
-            | Class::StyleSingleQuoted
-            | Class::StyleDoubleQuoted
-            | Class::StyleQuoted => None,
-            class => next_escape(class, text, from),
-        }
+        next_escape(self.0, text, from)
     }
 
-    ghost makes = { λ rule source _. applied-class rule.0 source };
+    ghost makes = { λ rule source text. applied-escape_changes rule.0 source text };
 }
 
-/// The first byte of the class at or after `from`, a character boundary, and its reference.
+/// The first change of the encoder of the class at or after `from`, a character boundary.
 pub fn next_escape(class: Class, text: &str, from: usize) -> Option<Found<'static>>
-    requires boundary { IsCharBoundary text.now from }
-    requires html { IsHtml class }
-    ensures none { IfNone result (html_changes class text.now from ≡ []) }
-    ensures found { IfSome result (IsNext text.now from (html_changes class text.now)) }
+    requires { IsCharBoundary text.now from }
+    ensures none { IfNone result (escape_changes class text.now from ≡ []) }
+    ensures found { IfSome result (IsNext text.now from (escape_changes class text.now)) }
 {
-    let bytes = text.as_bytes();
-    let start = first_in(class, bytes, from);
-    if start == bytes.len() {
-        return None;
-    }
-    Some(Found {
-        start,
-        end: start + 1,
-        replacement: reference(bytes[start]),
-    })
-}
-
-fn reference(byte: u8) -> Replacement<'static>
-    requires { byte < 128 }
-    ensures { replacement_bytes result ≡ reference_to byte }
-{
-    match byte {
-        b'&' => Replacement::Borrowed("&amp;"),
-        b'<' => Replacement::Borrowed("&lt;"),
-        b'>' => Replacement::Borrowed("&gt;"),
-        b'"' => Replacement::Borrowed("&quot;"),
-        b'\'' => Replacement::Borrowed("&#x27;"),
-        b'/' => Replacement::Borrowed("&#x2F;"),
-        _ => Replacement::Small(SmallText::from_ascii([
-            b'&',
-            b'#',
-            b'x',
-            upper_hex_digit(byte / 16),
-            upper_hex_digit(byte % 16),
-            b';',
-        ])),
+    match element_of(class) {
+        Some(element) => next_string_escape(class, element, text, from),
+        None => next_html_escape(class, text, from),
     }
 }
 
-fn upper_hex_digit(digit: u8) -> u8
-    requires { digit < 16 }
-    ensures digit { result ≡ hex_digit digit }
-    ensures ascii { result < 128 }
+fn element_of(class: Class) -> Option<Element>
+    ensures { result ≡ element_in_class class }
 {
-    if digit < 10 {
-        b'0' + digit
-    } else {
-        b'A' + (digit - 10)
+    match class {
+        Class::TextMinimal
+        | Class::Text
+        | Class::DoubleQuotedAttribute
+        | Class::SingleQuotedAttribute
+        | Class::QuotedAttribute
+        | Class::Safe
+        | Class::UnquotedAttribute => None,
+        Class::ScriptSingleQuoted | Class::ScriptDoubleQuoted | Class::ScriptQuoted => {
+            Some(Element::Script)
+        }
+        Class::StyleSingleQuoted | Class::StyleDoubleQuoted | Class::StyleQuoted => {
+            Some(Element::Style)
+        }
     }
 }

@@ -4,7 +4,7 @@ use Rattle.hesc_specs.specs.Classes.{in_class}
 use Rattle.hesc_specs.specs.FirstPlace.{IsFirstPlace}
 use Rattle.hesc_specs.proofs.HtmlImages.{in_class_is_ascii}
 use Rattle.hesc_specs.proofs.HtmlChanges.{no-html_changes, next-html_changes}
-use Rattle.hesc_core.proofs.rules.escape.next_escape.Goals as goal
+use Rattle.hesc_core.proofs.rules.html_escape.next_html_escape.Goals as goal
 
 pub returns-then-start-bytes-clause-none : goal.returns-then-start-bytes-clause-none
 returns-then-start-bytes-clause-none c =

@@ -1,0 +1,16 @@
+//! The hex digits that the encoders write.
+ghost use Rattle.std.specs.Prelude.{◌≡◌, ◌<◌};
+ghost use Rattle.hesc_specs.specs.HexDigits.{hex_digit};
+
+/// A digit 0 to 15, as a digit or an upper-case letter.
+pub fn upper_hex_digit(digit: u8) -> u8
+    requires { digit < 16 }
+    ensures digit { result ≡ hex_digit digit }
+    ensures ascii { result < 128 }
+{
+    if digit < 10 {
+        b'0' + digit
+    } else {
+        b'A' + (digit - 10)
+    }
+}

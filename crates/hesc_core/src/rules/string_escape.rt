@@ -1,0 +1,109 @@
+//! Escaping by a string encoder's class: each character that the encoder replaces becomes its
+//! escape.
+ghost use Rattle.std.specs.Prelude.{◌≡◌, ◌<◌, ◌==◌, [], IfNone, IfSome, if◌then◌else◌};
+ghost use Rattle.std.specs.Str.{IsCharBoundary};
+ghost use Rattle.hesc_specs.specs.Classes.{element_of};
+ghost use Rattle.hesc_specs.specs.Escaped.{escape_changes};
+ghost use Rattle.hesc_specs.specs.Strings.{
+  line_separator,
+  paragraph_separator,
+  string_escape,
+};
+ghost use Rattle.hesc_specs.specs.declared.elements.Element.TheVariants.{Script, Style};
+ghost use Rattle.hesc_core.specs.Next.{IsNext};
+ghost use Rattle.hesc_core.specs.Text.{replacement_bytes};
+
+use crate::found::{Found, Replacement};
+use crate::rules::hex_digits::upper_hex_digit;
+use crate::scan::first_escaped;
+use crate::small_text::SmallText;
+use hesc_specs::{Class, Element};
+
+/// The first character at or after `from`, a character boundary, that the encoder of the class
+/// replaces, and its escape.
+pub fn next_string_escape(
+    class: Class,
+    element: Element,
+    text: &str,
+    from: usize,
+) -> Option<Found<'static>>
+    requires boundary { IsCharBoundary text.now from }
+    requires element { element_of class ≡ Some element }
+    ensures none { IfNone result (escape_changes class text.now from ≡ []) }
+    ensures found { IfSome result (IsNext text.now from (escape_changes class text.now)) }
+{
+    let bytes = text.as_bytes();
+    let start = first_escaped(class, bytes, from);
+    if start == bytes.len() {
+        return None;
+    }
+    let byte = bytes[start];
+    if byte == 0xE2 {
+        return Some(Found {
+            start,
+            end: start + 3,
+            replacement: separator_escape(bytes[start + 2]),
+        });
+    }
+    Some(Found {
+        start,
+        end: start + 1,
+        replacement: ascii_escape(element, byte),
+    })
+}
+
+fn separator_escape(last: u8) -> Replacement<'static>
+    ensures { replacement_bytes result
+        ≡ string_escape Script (if last == 0xA8 then line_separator else paragraph_separator) }
+{
+    if last == 0xA8 {
+        Replacement::Borrowed("\\u2028")
+    } else {
+        Replacement::Borrowed("\\u2029")
+    }
+}
+
+fn ascii_escape(element: Element, byte: u8) -> Replacement<'static>
+    requires { byte < 128 }
+    ensures { replacement_bytes result ≡ string_escape element byte }
+{
+    match element {
+        Element::Script => script_escape(byte),
+        Element::Style => style_escape(byte),
+    }
+}
+
+fn script_escape(byte: u8) -> Replacement<'static>
+    requires { byte < 128 }
+    ensures { replacement_bytes result ≡ string_escape Script byte }
+{
+    match byte {
+        b'\\' => Replacement::Borrowed("\\\\"),
+        b'\'' => Replacement::Borrowed("\\'"),
+        b'"' => Replacement::Borrowed("\\\""),
+        _ => Replacement::Small(SmallText::from_four_ascii([
+            b'\\',
+            b'x',
+            upper_hex_digit(byte / 16),
+            upper_hex_digit(byte % 16),
+        ])),
+    }
+}
+
+fn style_escape(byte: u8) -> Replacement<'static>
+    requires { byte < 128 }
+    ensures { replacement_bytes result ≡ string_escape Style byte }
+{
+    match byte {
+        0 => Replacement::Borrowed("\u{FFFD}"),
+        b'\\' => Replacement::Borrowed("\\\\"),
+        b'\'' => Replacement::Borrowed("\\'"),
+        b'"' => Replacement::Borrowed("\\\""),
+        _ => Replacement::Small(SmallText::from_four_ascii([
+            b'\\',
+            upper_hex_digit(byte / 16),
+            upper_hex_digit(byte % 16),
+            b' ',
+        ])),
+    }
+}
