@@ -1,5 +1,4 @@
 pub mod Capped
-mod Capped
 mod EscapeSearch
 mod FoundBytes
 mod Halving
