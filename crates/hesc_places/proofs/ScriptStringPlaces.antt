@@ -23,7 +23,7 @@ script_string_step-backslash : (mark : ℕ) (bytes : List ℕ) → (backslash ==
 unfolding script_string_step
 script_string_step-backslash mark bytes other = rw other refl
 
--- `\`, a quote mark or `\`
+-- a `\` before a quote mark or another `\`
 escape-mark : (c : ℕ) (rest : List ℕ) → is_mark c ≡ true → script_escape (c ∷ rest) ≡ Character 1 c Plain
 escape-mark c rest marks = grind (arith, nat_tests)
 
@@ -44,7 +44,7 @@ module _ (mark : ℕ) (other : (backslash == mark) ≡ false) where
   takes_escape c tail found =
       takes_character c (λ rest. script_string_step-backslash mark (tail ++ rest) other ∙ found rest)
 
-  -- an escape, whose other characters are ASCII
+  -- the escape of an ASCII character
   takes_escaped : (c : ℕ) → c < 128 → Takes (script_string_step mark) Plain (string_escape Script c) (encode_utf8 c) Plain
   takes_escaped c small =
       ⊎_elim
@@ -54,7 +54,7 @@ module _ (mark : ℕ) (other : (backslash == mark) ≡ false) where
       (takes_escape c (lower_x ∷ two_digits c) (λ rest. escape-hex c rest small)))
       (cases_Bool (is_mark c))
 
-  -- U+2028 and U+2029
+  -- the escapes of U+2028 and U+2029
   takes_line_separator : Takes (script_string_step mark) Plain (string_escape Script line_separator) (encode_utf8 line_separator) Plain
   takes_line_separator = takes_escape line_separator (codes "u2028") (λ rest. refl)
 
@@ -78,7 +78,7 @@ takes_any_escaped quotes mark other c escaped =
     (cases_eq c paragraph_separator))
     (cases_eq c line_separator)
 
--- the last twelve bits of a character are those of its last two bytes, if it has three
+-- the bytes of U+2028 and U+2029 are those of no other character of three bytes
 no_separator : (c d : ℕ) (rest : List ℕ) → c ≢ 0x2000 + d → d < 64 →
     begins (0xE2 ∷ 0x80 ∷ (128 + d) ∷ []) ((224 + c / 4096) ∷ next_byte (c / 64) ∷ next_byte c ∷ rest) ≡ false
 no_separator c d rest other small =

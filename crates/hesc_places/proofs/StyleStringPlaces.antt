@@ -23,11 +23,11 @@ style_string_step-backslash : (mark : ℕ) (bytes : List ℕ) → (backslash == 
 unfolding style_string_step
 style_string_step-backslash mark bytes other = rw other refl
 
--- a quote mark or `\`
+-- a `\` before a quote mark or another `\`
 escape-mark : (c : ℕ) (rest : List ℕ) → is_mark c ≡ true → style_escape (c ∷ rest) ≡ Byte 1 c Plain
 escape-mark c rest marks = grind (arith, nat_tests)
 
--- the two hex digits of an ASCII character other than NUL, and a space
+-- `\`, the two hex digits of an ASCII character other than NUL, and a space
 escape-hex : (c : ℕ) (rest : List ℕ) → c < 128 → c ≢ 0 → style_escape (two_digits c ++ space ∷ rest) ≡ Character 3 c Plain
 escape-hex c rest small other =
     rw (
@@ -58,13 +58,13 @@ style_keeps_high mark c ascii = record {
 }
 
 module _ (mark : ℕ) (ascii : mark < 128) (other : (backslash == mark) ≡ false) where
-  -- an escape with hex digits
+  -- `\`, two hex digits and a space
   takes_hex : (c : ℕ) → c < 128 → c ≢ 0 →
       Takes (style_string_step mark) Plain (backslash ∷ two_digits c ++ space ∷ []) (encode_utf8 c) Plain
   takes_hex c small no_nul =
       takes_character c (λ rest. style_string_step-backslash mark (two_digits c ++ space ∷ rest) other ∙ escape-hex c rest small no_nul)
 
-  -- an escape of a mark
+  -- `\` and a mark
   takes_mark : (c : ℕ) → c < 128 → is_mark c ≡ true → Takes (style_string_step mark) Plain (backslash ∷ c ∷ []) (encode_utf8 c) Plain
   takes_mark c small marks =
       rw (encode_ascii c small)
@@ -73,7 +73,7 @@ module _ (mark : ℕ) (ascii : mark < 128) (other : (backslash == mark) ≡ fals
   takes_replacement : Takes (style_string_step mark) Plain (encode_utf8 replacement_character) (encode_utf8 replacement_character) Plain
   takes_replacement = takes_high replacement_character (style_keeps_high mark replacement_character ascii) (omega arith)
 
-  -- an escape, whose character is ASCII
+  -- the escape of an ASCII character
   takes_escaped : (c : ℕ) → c < 128 → Takes (style_string_step mark) Plain (string_escape Style c) (nul_character c) Plain
   takes_escaped c small =
       ⊎_elim
