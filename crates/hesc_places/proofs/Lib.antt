@@ -5,6 +5,11 @@ pub mod HtmlPieces
 pub mod ReadBacks
 pub mod MarkedPlaces
 pub mod UnquotedPlaces
+pub mod KeptCharacters
+pub mod HexEscapes
+pub mod EscapedMarks
+pub mod ScriptStringPlaces
+pub mod StyleStringPlaces
 pub mod BodyPlaces
 pub mod PlaceLaw
 pub mod EnclosedTexts

@@ -50,6 +50,24 @@ pub takes_byte : {step : Mode → List ℕ → Step} {mode next : Mode} {b c : �
     ((rest : List ℕ) → step mode (b ∷ rest) ≡ Byte 0 c next) → Takes step mode (b ∷ []) (c ∷ []) next
 takes_byte found = record { goes_on = λ rest. rw (found rest) refl }
 
+-- an item of one byte that is found by the piece behind it
+pub takes_byte_before : {step : Mode → List ℕ → Step} {mode next end : Mode} {b c : ℕ} {tail value : List ℕ} →
+    ((rest : List ℕ) → step mode (b ∷ tail ++ rest) ≡ Byte 0 c next) →
+    Takes step next tail value end → Takes step mode (b ∷ tail) (c ∷ value) end
+takes_byte_before {step} {end = end} {c = c} {tail} {value} found behind = record {
+  goes_on = λ rest.
+      let further : Option (List ℕ × ℕ) = reading_after step 0 end rest in
+      rw (found rest, behind.goes_on rest, after-after (c ∷ []) value 1 (length tail) further)
+      (ap (λ n. after (c ∷ value) n further) (omega arith));
+}
+
+-- an item of two bytes that is read as one
+pub takes_two : {step : Mode → List ℕ → Step} {mode next : Mode} {b c d : ℕ} →
+    ((rest : List ℕ) → step mode (b ∷ c ∷ rest) ≡ Byte 1 d next) → Takes step mode (b ∷ c ∷ []) (d ∷ []) next
+takes_two {step} {next = next} {d = d} found = record {
+  goes_on = λ rest. rw (found rest, after-after (d ∷ []) [] 1 1 (reading_after step 0 next rest)) refl;
+}
+
 -- an item that is read as a character
 pub takes_character : {step : Mode → List ℕ → Step} {mode next : Mode} {b : ℕ} {tail : List ℕ} (c : ℕ) →
     ((rest : List ℕ) → step mode (b ∷ tail ++ rest) ≡ Character (length tail) c next) →

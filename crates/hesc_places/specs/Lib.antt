@@ -2,6 +2,8 @@ pub mod Words
 pub mod Reading
 pub mod References
 pub mod HtmlReadings
+pub mod ScriptStrings
+pub mod StyleStrings
 pub mod BodyReadings
 pub mod Marks
 pub mod PlaceReadings

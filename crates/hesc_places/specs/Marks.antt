@@ -4,7 +4,7 @@ use Rattle.hesc_specs.specs.Ascii.{tab, line_feed, form_feed, space, double_quot
 use Rattle.hesc_places.specs.declared.places.End.{End}
 use Rattle.hesc_places.specs.declared.places.End.TheVariants.{Tab, LineFeed, FormFeed, Space, Greater}
 use Rattle.hesc_places.specs.declared.places.Place.{Place}
-use Rattle.hesc_places.specs.declared.places.Place.TheVariants.{Text, DoubleAttribute, SingleAttribute, UnquotedAttribute, ScriptBody, StyleBody}
+use Rattle.hesc_places.specs.declared.places.Place.TheVariants.{Text, DoubleAttribute, SingleAttribute, UnquotedAttribute, ScriptSingle, ScriptDouble, StyleSingle, StyleDouble, ScriptBody, StyleBody}
 
 -- the byte of an ending
 abbrev pub end_byte : End → ℕ
@@ -20,6 +20,10 @@ opening Text = greater_than ∷ []
 opening DoubleAttribute = double_quote ∷ []
 opening SingleAttribute = single_quote ∷ []
 opening (UnquotedAttribute end) = equals_sign ∷ []
+opening ScriptSingle = single_quote ∷ []
+opening ScriptDouble = double_quote ∷ []
+opening StyleSingle = single_quote ∷ []
+opening StyleDouble = double_quote ∷ []
 opening ScriptBody = codes "<script>"
 opening StyleBody = codes "<style>"
 
@@ -29,5 +33,9 @@ closing Text = less_than ∷ []
 closing DoubleAttribute = double_quote ∷ []
 closing SingleAttribute = single_quote ∷ []
 closing (UnquotedAttribute end) = end_byte end ∷ []
+closing ScriptSingle = single_quote ∷ []
+closing ScriptDouble = double_quote ∷ []
+closing StyleSingle = single_quote ∷ []
+closing StyleDouble = double_quote ∷ []
 closing ScriptBody = codes "</script>"
 closing StyleBody = codes "</style>"

@@ -7,11 +7,13 @@ use Rattle.hesc_places.specs.declared.grammar.Mode.{Mode}
 use Rattle.hesc_places.specs.declared.grammar.Mode.TheVariants.{Empty, Plain}
 use Rattle.hesc_places.specs.declared.grammar.Step.{Step}
 use Rattle.hesc_places.specs.declared.places.Place.{Place}
-use Rattle.hesc_places.specs.declared.places.Place.TheVariants.{Text, DoubleAttribute, SingleAttribute, UnquotedAttribute, ScriptBody, StyleBody}
+use Rattle.hesc_places.specs.declared.places.Place.TheVariants.{Text, DoubleAttribute, SingleAttribute, UnquotedAttribute, ScriptSingle, ScriptDouble, StyleSingle, StyleDouble, ScriptBody, StyleBody}
 use Rattle.hesc_places.specs.BodyReadings.{script_body_step, style_body_step}
 use Rattle.hesc_places.specs.HtmlReadings.{marked_step, unquoted_step}
 use Rattle.hesc_places.specs.Marks.{end_byte}
 use Rattle.hesc_places.specs.Reading.{reading_after}
+use Rattle.hesc_places.specs.ScriptStrings.{script_string_step}
+use Rattle.hesc_places.specs.StyleStrings.{style_string_step}
 
 -- what begins at a position of a place
 abbrev pub step_of : Place → Mode → List ℕ → Step
@@ -19,6 +21,10 @@ step_of Text = marked_step less_than
 step_of DoubleAttribute = marked_step double_quote
 step_of SingleAttribute = marked_step single_quote
 step_of (UnquotedAttribute end) = unquoted_step (end_byte end)
+step_of ScriptSingle = script_string_step single_quote
+step_of ScriptDouble = script_string_step double_quote
+step_of StyleSingle = style_string_step single_quote
+step_of StyleDouble = style_string_step double_quote
 step_of ScriptBody = script_body_step
 step_of StyleBody = style_body_step
 
@@ -28,6 +34,10 @@ first_mode Text = Plain
 first_mode DoubleAttribute = Plain
 first_mode SingleAttribute = Plain
 first_mode (UnquotedAttribute end) = Empty
+first_mode ScriptSingle = Plain
+first_mode ScriptDouble = Plain
+first_mode StyleSingle = Plain
+first_mode StyleDouble = Plain
 first_mode ScriptBody = Plain
 first_mode StyleBody = Plain
 

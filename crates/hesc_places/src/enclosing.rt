@@ -18,7 +18,8 @@ use std::alloc::{AllocError, Allocator};
 /// answers that part. On a fault, the first of [`PlaceFault`] that applies, `output` is as it was.
 ///
 /// Whatever follows the part, the place ends exactly at its closing mark and is read as the text,
-/// with U+FFFD for NUL where the encoder is `UnquotedAttribute`, and a body as its encoding.
+/// with U+FFFD for NUL where the encoder is `UnquotedAttribute` or one of a style's strings, and a
+/// body as its encoding.
 pub fn enclose<'o, A: Allocator>(
     encoder: Encoder,
     place: Place,

@@ -1,13 +1,18 @@
 //! One step of a place's grammar: what begins at a position, and the mode after it.
 mod bodies;
+mod hex;
 mod html;
 mod references;
+mod script_strings;
+mod style_strings;
 
 ghost use Rattle.std.specs.Prelude.{◌≡◌};
 ghost use Rattle.hesc_places.specs.PlaceReadings.{first_mode, step_of};
 
 use crate::grammar::bodies::{script_body_step, style_body_step};
 use crate::grammar::html::{marked_step, unquoted_step};
+use crate::grammar::script_strings::script_string_step;
+use crate::grammar::style_strings::style_string_step;
 use crate::marks::end_byte;
 use crate::places::Place;
 
@@ -48,6 +53,10 @@ pub fn step_of(place: Place, mode: Mode, bytes: &[u8]) -> Step
         Place::DoubleAttribute => marked_step(b'"', mode, bytes),
         Place::SingleAttribute => marked_step(b'\'', mode, bytes),
         Place::UnquotedAttribute(end) => unquoted_step(end_byte(end), mode, bytes),
+        Place::ScriptSingle => script_string_step(b'\'', mode, bytes),
+        Place::ScriptDouble => script_string_step(b'"', mode, bytes),
+        Place::StyleSingle => style_string_step(b'\'', mode, bytes),
+        Place::StyleDouble => style_string_step(b'"', mode, bytes),
         Place::ScriptBody => script_body_step(mode, bytes),
         Place::StyleBody => style_body_step(mode, bytes),
     }

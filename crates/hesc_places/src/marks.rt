@@ -13,6 +13,8 @@ pub(crate) fn opening(place: Place) -> &'static str
         Place::DoubleAttribute => "\"",
         Place::SingleAttribute => "'",
         Place::UnquotedAttribute(_) => "=",
+        Place::ScriptSingle | Place::StyleSingle => "'",
+        Place::ScriptDouble | Place::StyleDouble => "\"",
         Place::ScriptBody => "<script>",
         Place::StyleBody => "<style>",
     }
@@ -31,6 +33,8 @@ pub(crate) fn closing(place: Place) -> &'static str
         Place::UnquotedAttribute(End::FormFeed) => "\u{c}",
         Place::UnquotedAttribute(End::Space) => " ",
         Place::UnquotedAttribute(End::Greater) => ">",
+        Place::ScriptSingle | Place::StyleSingle => "'",
+        Place::ScriptDouble | Place::StyleDouble => "\"",
         Place::ScriptBody => "</script>",
         Place::StyleBody => "</style>",
     }

@@ -8,6 +8,8 @@
 /// | `DoubleAttribute` | `"` | `"` |
 /// | `SingleAttribute` | `'` | `'` |
 /// | `UnquotedAttribute` | `=` | its ending |
+/// | `ScriptSingle`, `StyleSingle` | `'` | `'` |
+/// | `ScriptDouble`, `StyleDouble` | `"` | `"` |
 /// | `ScriptBody` | `<script>` | `</script>` |
 /// | `StyleBody` | `<style>` | `</style>` |
 #[derive(Clone, Copy, Debug, PartialEq, Eq)]
@@ -20,6 +22,14 @@ pub enum Place {
     SingleAttribute,
     /// An attribute's value without quotes, and what stands right after it. It may not be empty.
     UnquotedAttribute(End),
+    /// A string literal of a script in single quotes.
+    ScriptSingle,
+    /// A string literal of a script in double quotes.
+    ScriptDouble,
+    /// A string of a style in single quotes.
+    StyleSingle,
+    /// A string of a style in double quotes.
+    StyleDouble,
     /// The body of a script.
     ScriptBody,
     /// The body of a style.

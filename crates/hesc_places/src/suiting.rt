@@ -13,6 +13,10 @@ use html_escape::Encoder;
 /// | `DoubleAttribute` | `DoubleQuotedAttribute`, `QuotedAttribute`, `Safe`, `UnquotedAttribute` |
 /// | `SingleAttribute` | `SingleQuotedAttribute`, `QuotedAttribute`, `Safe`, `UnquotedAttribute` |
 /// | `UnquotedAttribute` | `UnquotedAttribute`, with a text that is not empty |
+/// | `ScriptSingle` | `ScriptSingleQuoted`, `ScriptQuoted` |
+/// | `ScriptDouble` | `ScriptDoubleQuoted`, `ScriptQuoted` |
+/// | `StyleSingle` | `StyleSingleQuoted`, `StyleQuoted` |
+/// | `StyleDouble` | `StyleDoubleQuoted`, `StyleQuoted` |
 /// | `ScriptBody` | `Script` |
 /// | `StyleBody` | `Style` |
 pub fn suits(encoder: Encoder, place: Place) -> bool
@@ -44,6 +48,16 @@ pub fn suits(encoder: Encoder, place: Place) -> bool
                 | Encoder::UnquotedAttribute
         ),
         Place::UnquotedAttribute(_) => matches!(encoder, Encoder::UnquotedAttribute),
+        Place::ScriptSingle => matches!(
+            encoder,
+            Encoder::ScriptSingleQuoted | Encoder::ScriptQuoted
+        ),
+        Place::ScriptDouble => matches!(
+            encoder,
+            Encoder::ScriptDoubleQuoted | Encoder::ScriptQuoted
+        ),
+        Place::StyleSingle => matches!(encoder, Encoder::StyleSingleQuoted | Encoder::StyleQuoted),
+        Place::StyleDouble => matches!(encoder, Encoder::StyleDoubleQuoted | Encoder::StyleQuoted),
         Place::ScriptBody => matches!(encoder, Encoder::Script),
         Place::StyleBody => matches!(encoder, Encoder::Style),
     }

@@ -32,6 +32,18 @@ pub enum Encoder {
     Script,
     /// Puts a `\` into each opening of a style's body.
     Style,
+    /// Replaces `'`, `\`, `<`, C0 controls, U+2028 and U+2029 by escapes of a JavaScript string literal.
+    ScriptSingleQuoted,
+    /// Replaces `"`, `\`, `<`, C0 controls, U+2028 and U+2029 by those escapes.
+    ScriptDoubleQuoted,
+    /// Replaces those of both.
+    ScriptQuoted,
+    /// Replaces `'`, `\`, `<` and C0 controls by escapes of a CSS string, and NUL by U+FFFD.
+    StyleSingleQuoted,
+    /// Replaces `"`, `\`, `<` and C0 controls by those escapes, and NUL by U+FFFD.
+    StyleDoubleQuoted,
+    /// Replaces those of both.
+    StyleQuoted,
 }
 
 impl Rule for Encoder {
@@ -62,5 +74,11 @@ pub fn next_encoded(encoder: Encoder, text: &str, from: usize) -> Option<Found<'
         Encoder::UnquotedAttribute => next_escape(Class::UnquotedAttribute, text, from),
         Encoder::Script => next_body_escape(Element::Script, text, from),
         Encoder::Style => next_body_escape(Element::Style, text, from),
+        Encoder::ScriptSingleQuoted => next_escape(Class::ScriptSingleQuoted, text, from),
+        Encoder::ScriptDoubleQuoted => next_escape(Class::ScriptDoubleQuoted, text, from),
+        Encoder::ScriptQuoted => next_escape(Class::ScriptQuoted, text, from),
+        Encoder::StyleSingleQuoted => next_escape(Class::StyleSingleQuoted, text, from),
+        Encoder::StyleDoubleQuoted => next_escape(Class::StyleDoubleQuoted, text, from),
+        Encoder::StyleQuoted => next_escape(Class::StyleQuoted, text, from),
     }
 }

@@ -2,4 +2,4 @@ use Rattle.hesc_places.proofs.PlaceLaw.{is_read_back}
 use Rattle.hesc_places.proofs.laws.place_law.Goals as goal
 
 pub returns : goal.returns
-returns c = is_read_back c.args.encoder c.args.place c.requires.suits c.args.text.now c.args.rest.now c.requires.may_hold
+returns c = is_read_back c.args.encoder c.args.place c.requires.suits c.args.text.now c.args.rest.now c.utf8.text c.requires.may_hold
