@@ -13,5 +13,6 @@ pub mod StyleStringPlaces
 pub mod BodyPlaces
 pub mod PlaceLaw
 pub mod EnclosedTexts
+mod Trials
 mod FirstSemicolon
 mod ReadingTurns

@@ -9,4 +9,5 @@ pub mod Marks
 pub mod PlaceReadings
 pub mod Suits
 pub mod ReadBack
+pub mod Trials
 pub mod Enclosed

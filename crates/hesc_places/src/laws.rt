@@ -1,11 +1,12 @@
 //! The laws of places: each is a function that does nothing and whose contract is the law.
-ghost use Rattle.std.specs.Prelude.{◌≡◌, ◌++◌, length, IsTrue, Some};
+ghost use Rattle.std.specs.Prelude.{◌≡◌, ◌++◌, false, length, IsTrue, Some};
 ghost use Rattle.hesc_specs.specs.Bodies.{body_encoding};
 ghost use Rattle.html_escape.specs.Encoders.{encoded};
 ghost use Rattle.hesc_places.specs.Marks.{closing};
 ghost use Rattle.hesc_places.specs.PlaceReadings.{body_of, reading};
 ghost use Rattle.hesc_places.specs.Suits.{suits, MayHold};
 ghost use Rattle.hesc_places.specs.ReadBack.{read_back};
+ghost use Rattle.hesc_places.specs.Trials.{PassesTrial};
 ghost use Rattle.hesc_places.specs.Words.{is_end_tag};
 
 use crate::places::Place;
@@ -28,4 +29,11 @@ pub fn end_tag_law(element: Element, text: &str, tag: &[u8])
     requires { IsTrue (is_end_tag element tag.now) }
     ensures { reading (body_of element) (body_encoding element text.now ++ tag.now)
         ≡ Some (body_encoding element text.now, length (body_encoding element text.now)) }
+{}
+
+/// Only an encoder that suits a place passes the place's trial: what another one writes for the
+/// trial text does not end exactly at the closing mark, or is not read as the text.
+pub fn no_other_pair(encoder: Encoder, place: Place)
+    requires { suits encoder place ≡ false }
+    ensures { PassesTrial encoder place → ⊥ }
 {}
