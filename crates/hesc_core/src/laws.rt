@@ -1,18 +1,21 @@
 //! The laws of the operations: each is a function that does nothing and whose contract is the law.
-ghost use Rattle.std.specs.Prelude.{◌≡◌, ◌≢◌, ◌↔◌, ◌++◌, IsTrue};
+ghost use Rattle.std.specs.Prelude.{◌≡◌, ◌≢◌, ◌↔◌, ◌++◌, IsTrue, false};
 ghost use Rattle.hesc_specs.specs.Bodies.{
   EndsWithoutLessThan,
   body_decoding,
   body_encoding,
 };
-ghost use Rattle.hesc_specs.specs.Classes.{IsHtml};
+ghost use Rattle.hesc_specs.specs.Classes.{IsHtml, is_of_style};
+ghost use Rattle.hesc_specs.specs.Escaped.{escaped};
 ghost use Rattle.hesc_specs.specs.Html.{encoding};
 ghost use Rattle.hesc_specs.specs.KeptControls.{with_kept_controls};
+ghost use Rattle.hesc_specs.specs.Nul.{nul};
 ghost use Rattle.hesc_specs.specs.Openings.{HasNoEscapedOpening, HasNoOpening};
 ghost use Rattle.hesc_specs.specs.References.{decoded};
 ghost use Rattle.hesc_specs.specs.SameBody.{IsSameBody};
-ghost use Rattle.hesc_specs.specs.Strings.{string_encoding, string_value};
+ghost use Rattle.hesc_specs.specs.Strings.{IsPlain, string_encoding, string_value};
 ghost use Rattle.hesc_specs.specs.StringTokens.{knows, string_decoding};
+ghost use Rattle.hesc_specs.specs.declared.elements.Element.TheVariants.{Style};
 ghost use Rattle.hesc_core.specs.Table.{rows_of};
 
 use crate::table::EntityTable;
@@ -20,13 +23,25 @@ use hesc_specs::{Class, Element, Quotes};
 
 /// The encoding of joined texts is their encodings, joined.
 pub fn joined_texts(class: Class, a: &str, b: &str)
-    ensures { encoding class (a.now ++ b.now) ≡ encoding class a.now ++ encoding class b.now }
+    ensures { escaped class (a.now ++ b.now) ≡ escaped class a.now ++ escaped class b.now }
 {}
 
-/// Different texts have different encodings by an HTML encoder.
+/// Different texts have different encodings by the encoders of HTML and of a script's strings.
 pub fn different_texts(class: Class, a: &str, b: &str)
-    requires { IsHtml class }
-    ensures { encoding class a.now ≡ encoding class b.now → a.now ≡ b.now }
+    requires { is_of_style class ≡ false }
+    ensures { escaped class a.now ≡ escaped class b.now → a.now ≡ b.now }
+{}
+
+/// Two texts have equal encodings by an encoder of a style's strings exactly if they are equal but
+/// for NUL and U+FFFD.
+pub fn same_style_strings(quotes: Quotes, a: &str, b: &str)
+    ensures { (string_encoding Style quotes a.now ≡ string_encoding Style quotes b.now)
+        ↔ (nul a.now ≡ nul b.now) }
+{}
+
+/// The encoding of a string holds no `<` and no C0 control.
+pub fn plain_string_encoding(element: Element, quotes: Quotes, text: &str)
+    ensures { IsPlain (string_encoding element quotes text.now) }
 {}
 
 /// Decoding by any table undoes the HTML encoders other than the unquoted one, whatever follows.
