@@ -10,6 +10,7 @@ use crate::found::Found;
 use crate::rule::Rule;
 use crate::rules::html_escape::next_html_escape;
 use crate::rules::string_escape::next_string_escape;
+use crate::string_classes::string_class;
 use hesc_specs::{Class, Element};
 
 /// The encoder of a class.
@@ -43,19 +44,8 @@ pub fn next_escape(class: Class, text: &str, from: usize) -> Option<Found<'stati
 fn element_of(class: Class) -> Option<Element>
     ensures { result ≡ element_in_class class }
 {
-    match class {
-        Class::TextMinimal
-        | Class::Text
-        | Class::DoubleQuotedAttribute
-        | Class::SingleQuotedAttribute
-        | Class::QuotedAttribute
-        | Class::Safe
-        | Class::UnquotedAttribute => None,
-        Class::ScriptSingleQuoted | Class::ScriptDoubleQuoted | Class::ScriptQuoted => {
-            Some(Element::Script)
-        }
-        Class::StyleSingleQuoted | Class::StyleDoubleQuoted | Class::StyleQuoted => {
-            Some(Element::Style)
-        }
+    match string_class(class) {
+        Some((element, _)) => Some(element),
+        None => None,
     }
 }
