@@ -8,12 +8,12 @@ use Rattle.std.proofs.lemmas.List.{append_cancel_left}
 use Rattle.std.proofs.lemmas.Str.{encode_ascii, encode_same, encodes-chars, encodes_same, len_utf8_bounds, length-encode}
 use Rattle.std.proofs.Math.Utf8.{encode, encodes}
 use Rattle.hesc_specs.specs.Ascii.{backslash, lower_x, space}
-use Rattle.hesc_specs.specs.Classes.{IsHtml, element_in, is_of_style, is_style, string_class}
+use Rattle.hesc_specs.specs.Classes.{element_in, is_of_style, is_style, string_class}
 use Rattle.hesc_specs.specs.Escaped.{by_class, escaped}
 use Rattle.hesc_specs.specs.HexDigits.{hex_digit}
 use Rattle.hesc_specs.specs.Html.{encoding}
-use Rattle.hesc_specs.specs.Nul.{nul, replacement_character}
-use Rattle.hesc_specs.specs.Strings.{is_escaped, is_mark, line_separator, paragraph_separator, string_encoding, string_escape, string_image, string_value}
+use Rattle.hesc_specs.specs.Nul.{nul}
+use Rattle.hesc_specs.specs.Strings.{is_escaped, is_mark, line_separator, paragraph_separator, string_encoding, string_image, string_value}
 use Rattle.hesc_specs.specs.declared.classes.Class.{Class}
 use Rattle.hesc_specs.specs.declared.elements.Element.{Element}
 use Rattle.hesc_specs.specs.declared.elements.Element.TheVariants.{Script, Style}

@@ -1,5 +1,5 @@
 -- The changes of the encoder of a class, made, are what it writes.
-use Rattle.std.proofs.Common.{◌≡◌, ℕ, List, Option, Some, None, IsUtf8, refl, ap, ◌∙◌}
+use Rattle.std.proofs.Common.{◌≡◌, ℕ, List, Option, Some, None, IsUtf8, refl, ap}
 use Rattle.hesc_specs.specs.Changes.{applied, html_changes}
 use Rattle.hesc_specs.specs.Classes.{element_in, element_of, string_class, IsHtml}
 use Rattle.hesc_specs.specs.Escaped.{by_class, escape_changes, escaped}

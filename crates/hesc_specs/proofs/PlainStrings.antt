@@ -1,5 +1,5 @@
 -- The encodings of strings hold no `<` and no C0 control.
-use Rattle.std.proofs.Common.{ℕ, zero, suc, ◌≡◌, ◌≢◌, Bool, nat_le, not, ◌&&◌, ◌+◌, ◌/◌, ◌%◌, ◌<◌, ◌≤◌, true, false, List, [], ◌∷◌, ◌++◌, ◌==◌, ⊎_elim, inl, inr, flat_map, refl, sym, ◌∙◌, arith, ne_eqb}
+use Rattle.std.proofs.Common.{ℕ, zero, suc, ◌≡◌, ◌≢◌, Bool, nat_le, not, ◌&&◌, ◌+◌, ◌/◌, ◌%◌, ◌≤◌, true, false, List, [], ◌∷◌, ◌==◌, ⊎_elim, inl, inr, flat_map, refl, sym, ◌∙◌, arith, ne_eqb}
 use Rattle.std.specs.Prelude.{chars}
 use Rattle.std.proofs.lemmas.Bool.{and_parts, cases_Bool, cases_eq, cases_lt}
 use Rattle.std.proofs.lemmas.Bool.Decides.{nat_tests}
@@ -8,7 +8,6 @@ use Rattle.std.proofs.lemmas.Str.{encode_ascii}
 use Rattle.std.proofs.Math.Utf8.{encode}
 use Rattle.hesc_specs.specs.Ascii.{backslash, less_than, lower_x, space}
 use Rattle.hesc_specs.specs.HexDigits.{hex_digit}
-use Rattle.hesc_specs.specs.Nul.{replacement_character}
 use Rattle.hesc_specs.specs.Strings.{IsPlain, is_escaped, is_mark, line_separator, paragraph_separator, string_encoding, string_escape, string_image}
 use Rattle.hesc_specs.specs.declared.elements.Element.{Element}
 use Rattle.hesc_specs.specs.declared.elements.Element.TheVariants.{Script, Style}

@@ -1,5 +1,5 @@
 -- The changes of a string encoder: which comes first, when none is left, and that they make the encoding.
-use Rattle.std.proofs.Common.{◌≡◌, ℕ, zero, suc, add-zero, ◌+◌, ◌-◌, ◌≤◌, ◌<◌, List, [], ◌∷◌, ◌++◌, Bool, true, false, Some, length, take, drop, flat_map, IsUtf8, refl, sym, ap, subst, ◌∙◌, append_assoc, length-append, arith, get_or, inl, inr, if◌then◌else◌, ◌==◌}
+use Rattle.std.proofs.Common.{◌≡◌, ℕ, add-zero, ◌+◌, ◌-◌, ◌≤◌, ◌<◌, List, [], ◌∷◌, ◌++◌, Bool, true, false, Some, length, take, drop, flat_map, IsUtf8, refl, sym, ap, subst, ◌∙◌, append_assoc, length-append, arith, get_or, inl, inr, if◌then◌else◌, ◌==◌}
 use Rattle.std.specs.Prelude.{chars, slice_range, slice_index}
 use Rattle.std.specs.Char.{len_utf8}
 use Rattle.std.specs.Str.{IsCharBoundary}
