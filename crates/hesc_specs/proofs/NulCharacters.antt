@@ -1,5 +1,5 @@
 -- A text with each NUL replaced by U+FFFD, by its characters.
-use Rattle.std.proofs.Common.{ℕ, ◌≡◌, ◌+◌, ◌/◌, ◌%◌, ◌<◌, List, [], ◌∷◌, ◌++◌, ◌==◌, if◌then◌else◌, map, IsUtf8, refl, sym, ap, ap₂, ◌∙◌, inl, inr, arith, append-nil, ne_eqb}
+use Rattle.std.proofs.Common.{◌≡◌, ◌≢◌, ℕ, ◌==◌, List, [], ◌∷◌, ◌++◌, if◌then◌else◌, map, IsUtf8, refl, sym, ap, ap₂, ◌∙◌, append-nil, ne_eqb, arith, inl, inr}
 use Rattle.std.specs.Prelude.{chars}
 use Rattle.std.proofs.Math.Utf8.{encode, encodes}
 use Rattle.std.proofs.lemmas.Bool.{cases_eq, cases_lt}
