@@ -1,12 +1,13 @@
 -- CSS strings: the encoding that escapes the mark is read up to the mark, with U+FFFD for NUL.
-use Rattle.std.proofs.Common.{ℕ, ◌≡◌, ◌≢◌, ◌≤◌, ◌<◌, ◌+◌, ◌/◌, ◌%◌, true, false, List, [], ◌∷◌, ◌++◌, ◌==◌, Some, IsUtf8, length, chars, encode_utf8, refl, ⊎_elim, ◌∙◌, arith, eq-eqb, ne_eqb}
+use Rattle.std.proofs.Common.{ℕ, ◌≡◌, ◌≢◌, ◌≤◌, ◌<◌, ◌+◌, ◌/◌, ◌%◌, true, false, List, [], ◌∷◌, ◌++◌, ◌==◌, Some, IsUtf8, length, map, flat_map, chars, encode_utf8, refl, ap, ⊎_elim, ◌∙◌, arith, eq-eqb, ne_eqb}
+use Rattle.std.proofs.Math.Utf8.{encodes}
 use Rattle.std.proofs.lemmas.Bool.{cases_Bool, cases_eq, lt-leb, le-ltb}
 use Rattle.std.proofs.lemmas.Bool.Decides.{nat_tests}
 use Rattle.std.proofs.lemmas.Str.{encode_ascii}
 use Rattle.hesc_specs.specs.Ascii.{space, backslash, line_feed, form_feed, carriage_return}
 use Rattle.hesc_specs.specs.Nul.{nul, replacement_character}
 use Rattle.hesc_specs.specs.Strings.{is_escaped, is_mark, is_quote, string_encoding, string_escape, string_image}
-use Rattle.hesc_specs.proofs.NulCharacters.{nul_character, nul-characters}
+use Rattle.hesc_specs.proofs.NulCharacters.{nul_character, nul-chars}
 use Rattle.hesc_specs.specs.declared.elements.Element.TheVariants.{Style}
 use Rattle.hesc_specs.specs.declared.quotes.Quotes.{Quotes}
 use Rattle.hesc_places.specs.declared.grammar.Mode.TheVariants.{Plain}
@@ -57,6 +58,14 @@ style_keeps_high mark c ascii = record {
   first_of_three = λ rest. high_is_kept mark (224 + c / 4096) ascii (omega arith) (next_byte (c / 64) ∷ next_byte c ∷ rest);
 }
 
+-- what a character is read as: itself, and NUL as U+FFFD
+abbrev read_character : ℕ → List ℕ
+read_character c = encode_utf8 (nul_character c)
+
+read-characters : (characters : List ℕ) → encodes (map nul_character characters) ≡ flat_map read_character characters
+read-characters [] = refl
+read-characters (c ∷ characters) = ap (λ rest. encode_utf8 (nul_character c) ++ rest) (read-characters characters)
+
 module _ (mark : ℕ) (ascii : mark < 128) (other : (backslash == mark) ≡ false) where
   -- `\`, two hex digits and a space
   takes_hex : (c : ℕ) → c < 128 → c ≢ 0 →
@@ -74,7 +83,7 @@ module _ (mark : ℕ) (ascii : mark < 128) (other : (backslash == mark) ≡ fals
   takes_replacement = takes_high replacement_character (style_keeps_high mark replacement_character ascii) (omega arith)
 
   -- the escape of an ASCII character
-  takes_escaped : (c : ℕ) → c < 128 → Takes (style_string_step mark) Plain (string_escape Style c) (nul_character c) Plain
+  takes_escaped : (c : ℕ) → c < 128 → Takes (style_string_step mark) Plain (string_escape Style c) (read_character c) Plain
   takes_escaped c small =
       ⊎_elim
       (λ (is_nul : c ≡ 0). rw is_nul takes_replacement)
@@ -107,7 +116,7 @@ kept_ascii quotes mark c escapes kept rest =
     ) refl
 
 takes_kept_image : (quotes : Quotes) (mark c : ℕ) → is_quote quotes mark ≡ true → is_escaped Style quotes c ≡ false →
-    Takes (style_string_step mark) Plain (encode_utf8 c) (nul_character c) Plain
+    Takes (style_string_step mark) Plain (encode_utf8 c) (read_character c) Plain
 takes_kept_image quotes mark c escapes kept =
     let no_nul : (c == 0) ≡ false = grind (arith, nat_tests) in
     rw no_nul
@@ -115,7 +124,7 @@ takes_kept_image quotes mark c escapes kept =
 
 -- what the encoder writes for a character is read as the character, or as U+FFFD for NUL
 pub takes_style_image : (quotes : Quotes) (mark : ℕ) → is_quote quotes mark ≡ true →
-    (c : ℕ) → Takes (style_string_step mark) Plain (string_image Style quotes c) (nul_character c) Plain
+    (c : ℕ) → Takes (style_string_step mark) Plain (string_image Style quotes c) (read_character c) Plain
 takes_style_image quotes mark escapes c =
     ⊎_elim
     (λ (escaped : is_escaped Style quotes c ≡ true).
@@ -137,5 +146,5 @@ pub style_string_reading : (quotes : Quotes) (mark : ℕ) → is_quote quotes ma
 style_string_reading quotes mark escapes text rest utf8 =
     rw (
       takes_to_end (mark ∷ rest) (takes_each (takes_style_image quotes mark escapes) (chars text)) (style_closes mark rest),
-      nul-characters text utf8,
+      nul-chars text utf8 ∙ read-characters (chars text),
     ) refl

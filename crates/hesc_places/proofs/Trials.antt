@@ -1,15 +1,25 @@
 -- An encoder passes the trial of a place exactly if it suits it: a table of all pairs, by computation.
-use Rattle.std.proofs.Common.{ℕ, ◌≡◌, ◌≢◌, Bool, true, false, true≢false, ◌&&◌, List, ◌++◌, ◌==◌, Option, Some, None, length, bytes_eq, refl, sym, ap, ◌∙◌}
+use Rattle.std.proofs.Common.{ℕ, ◌≡◌, eq-eqb, Bool, true, false, true≢false, ◌&&◌, List, ◌++◌, ◌==◌, Option, Some, None, length, bytes_eq, refl, sym, ◌∙◌}
+use Rattle.std.specs.Str.{chars}
+use Rattle.std.proofs.Math.Utf8.{encode}
+use Rattle.std.proofs.lemmas.Slice.Eq.{bytes_eq-Decides}
 use Rattle.html_escape.specs.declared.encoder.Encoder.{Encoder}
 use Rattle.html_escape.specs.declared.encoder.Encoder.TheVariants as encoder
 use Rattle.html_escape.specs.Encoders.{encoded}
 use Rattle.hesc_places.specs.declared.places.End.TheVariants.{Tab, LineFeed, FormFeed, Space, Greater}
 use Rattle.hesc_places.specs.declared.places.Place.{Place}
 use Rattle.hesc_places.specs.declared.places.Place.TheVariants as place
+use Rattle.hesc_places.specs.BodyReadings.{script_body_step, style_body_step}
+use Rattle.hesc_places.specs.HtmlReadings.{marked_step, unquoted_step}
 use Rattle.hesc_places.specs.Marks.{closing}
 use Rattle.hesc_places.specs.PlaceReadings.{reading}
+use Rattle.hesc_places.specs.ScriptStrings.{script_string_step}
+use Rattle.hesc_places.specs.StyleStrings.{style_string_step}
 use Rattle.hesc_places.specs.Suits.{suits}
 use Rattle.hesc_places.specs.Trials.{trial, trial_value, PassesTrial}
+
+bytes_eq-same : (bytes : List ℕ) → bytes_eq bytes bytes ≡ true
+bytes_eq-same bytes = (bytes_eq-Decides bytes bytes).1 refl
 
 -- a reading is that of this value and this end
 is_that : Option (List ℕ × ℕ) → List ℕ → ℕ → Bool
@@ -20,7 +30,7 @@ passes : Encoder → Place → Bool
 passes e p = is_that (reading p (encoded e (trial p) ++ closing p)) (trial_value p) (length (encoded e (trial p)))
 
 trial_tells : (e : Encoder) (p : Place) → passes e p ≡ suits e p
-unfolding is_that passes
+unfolding is_that passes marked_step unquoted_step script_string_step style_string_step script_body_step style_body_step encode chars
 trial_tells encoder.TextMinimal place.Text = refl
 trial_tells encoder.Text place.Text = refl
 trial_tells encoder.DoubleQuotedAttribute place.Text = refl
@@ -235,6 +245,5 @@ trial_tells encoder.StyleQuoted place.StyleBody = refl
 pub no_other_passes : (e : Encoder) (p : Place) → suits e p ≡ false → PassesTrial e p → ⊥
 unfolding is_that passes
 no_other_passes e p other same =
-    let own : passes e p ≡ (bytes_eq (trial_value p) (trial_value p) && length (encoded e (trial p)) == length (encoded e (trial p))) = rw same refl in
-    let is : (bytes_eq (trial_value p) (trial_value p) && length (encoded e (trial p)) == length (encoded e (trial p))) ≡ true = rw (bytes_eq-same (trial_value p), same_length (length (encoded e (trial p)))) refl in
-    absurd (true≢false (sym is ∙ (sym own ∙ (trial_tells e p ∙ other))))
+    let itself : passes e p ≡ true = rw (same, bytes_eq-same (trial_value p), eq-eqb (length (encoded e (trial p))) (length (encoded e (trial p))) refl) refl in
+    absurd (true≢false (sym itself ∙ (trial_tells e p ∙ other)))
