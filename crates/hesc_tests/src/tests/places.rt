@@ -8,7 +8,7 @@ use std::test::Fail;
 
 type Row = (Encoder, Place, &'static str, &'static str);
 
-const ENCLOSED: [Row; 12] = [
+const ENCLOSED: [Row; 20] = [
     (Encoder::Text, Place::Text, "a<b", ">a&lt;b<"),
     (Encoder::TextMinimal, Place::Text, "", "><"),
     (Encoder::Safe, Place::Text, "</b>", ">&lt;&#x2F;b&gt;<"),
@@ -66,9 +66,64 @@ const ENCLOSED: [Row; 12] = [
         "a",
         "=a\u{c}",
     ),
+    (
+        Encoder::ScriptSingleQuoted,
+        Place::ScriptSingle,
+        "it's \"<b>\"",
+        "'it\\'s \"\\x3Cb>\"'",
+    ),
+    (
+        Encoder::ScriptQuoted,
+        Place::ScriptDouble,
+        "it's \"<b>\"",
+        "\"it\\'s \\\"\\x3Cb>\\\"\"",
+    ),
+    (Encoder::StyleQuoted, Place::StyleSingle, "< a", "'\\3C  a'"),
+    (
+        Encoder::StyleDoubleQuoted,
+        Place::StyleDouble,
+        "\0a",
+        "\"\u{fffd}a\"",
+    ),
+    (
+        Encoder::Script,
+        Place::ScriptBody,
+        "</script",
+        "<script><\\/script</script>",
+    ),
+    (
+        Encoder::Script,
+        Place::ScriptBody,
+        "</scri",
+        "<script></scri</script>",
+    ),
+    (
+        Encoder::Script,
+        Place::ScriptBody,
+        "<!--<script>",
+        "<script><\\!--<script></script>",
+    ),
+    (
+        Encoder::Style,
+        Place::StyleBody,
+        "</style\u{b}",
+        "<style><\\/style\u{b}</style>",
+    ),
 ];
 
-const FAULTS: [(Encoder, Place, &str, PlaceFault); 4] = [
+const FAULTS: [(Encoder, Place, &str, PlaceFault); 6] = [
+    (
+        Encoder::StyleSingleQuoted,
+        Place::StyleDouble,
+        "a",
+        PlaceFault::NotForPlace,
+    ),
+    (
+        Encoder::Style,
+        Place::ScriptBody,
+        "a",
+        PlaceFault::NotForPlace,
+    ),
     (
         Encoder::Text,
         Place::DoubleAttribute,
