@@ -5,7 +5,7 @@ use Rattle.hesc_tool.specs.Run.{RanAs}
 use Rattle.hesc_tool.specs.Steps.{AnsweredAs, WasRead}
 use Rattle.hesc_tool.specs.declared.commands.Command.{Command}
 use Rattle.hesc_tool.specs.declared.faults.Fault.{Fault}
-use Rattle.hesc_tool.specs.declared.faults.Fault.TheVariants.{Usage, Read, NotUtf8, Memory, Write}
+use Rattle.hesc_tool.specs.declared.faults.Fault.TheVariants.{Usage, Read, NotUtf8, NoPage, NotForPlace, EmptyUnquoted, Memory, Write}
 
 -- the words name a command, all of the input was read, and the command's answer was written
 pub ran : (words : List (List ℕ)) (command : Command) (input : List ℕ) (reader reader' writer writer' : Option (List ℕ))
@@ -15,8 +15,14 @@ ran words command input reader reader' writer writer' (Ok _) named read answered
     (answered.0, (command, input, named, read, answered.1), answered.2)
 ran words command input reader reader' writer writer' (Err Usage) named read answered = absurd answered
 ran words command input reader reader' writer writer' (Err Read) named read answered = absurd answered
-ran words command input reader reader' writer writer' (Err NotUtf8) named read answered =
-    ((command, input, named, read, answered.0), answered.1)
 ran words command input reader reader' writer writer' (Err Memory) named read answered = ((command, named), answered)
 ran words command input reader reader' writer writer' (Err Write) named read answered =
     (answered.0, (command, input, named, read, answered.1), answered.2)
+ran words command input reader reader' writer writer' (Err NotUtf8) named read answered =
+    ((command, input, named, read, answered.0), answered.1)
+ran words command input reader reader' writer writer' (Err NoPage) named read answered =
+    ((command, input, named, read, answered.0), answered.1)
+ran words command input reader reader' writer writer' (Err NotForPlace) named read answered =
+    ((command, input, named, read, answered.0), answered.1)
+ran words command input reader reader' writer writer' (Err EmptyUnquoted) named read answered =
+    ((command, input, named, read, answered.0), answered.1)

@@ -2,12 +2,12 @@
 use Rattle.std.proofs.Common.{◌≡◌, ℕ, ◌+◌, List, take, drop, sym, subst, take-add, take-append-drop, Option, Result, Ok, Err, OnOk, OnErr, IfErr}
 use Rattle.std.proofs.KnownBytes.{Appends-trans}
 use Rattle.std.specs.Io.KnownBytes.{Appends}
-use Rattle.hesc_tool.specs.Commands.{Answers}
+use Rattle.hesc_tool.specs.Answers.{Answers}
 use Rattle.hesc_specs.specs.Beginning.{AppendsBeginning}
 use Rattle.hesc_tool.specs.Steps.{AnsweredAs}
 use Rattle.hesc_tool.specs.declared.commands.Command.{Command}
 use Rattle.hesc_tool.specs.declared.faults.Fault.{Fault}
-use Rattle.hesc_tool.specs.declared.faults.Fault.TheVariants.{Usage, Read, NotUtf8, Memory, Write}
+use Rattle.hesc_tool.specs.declared.faults.Fault.TheVariants.{Usage, Read, NotUtf8, NoPage, NotForPlace, EmptyUnquoted, Memory, Write}
 
 -- n bytes were written, and then the next m
 pub Appends-next : (a b c : Option (List ℕ)) (bytes : List ℕ) (n m : ℕ)
@@ -27,5 +27,8 @@ answered command input text a b (Ok _) answers all began fault = (text, answers,
 answered command input text a b (Err Usage) answers all began fault = absurd (cc)
 answered command input text a b (Err Read) answers all began fault = absurd (cc)
 answered command input text a b (Err NotUtf8) answers all began fault = absurd (cc)
+answered command input text a b (Err NoPage) answers all began fault = absurd (cc)
+answered command input text a b (Err NotForPlace) answers all began fault = absurd (cc)
+answered command input text a b (Err EmptyUnquoted) answers all began fault = absurd (cc)
 answered command input text a b (Err Memory) answers all began fault = absurd (cc)
 answered command input text a b (Err Write) answers all began fault = (text, answers, began)

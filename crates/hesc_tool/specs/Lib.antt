@@ -1,4 +1,6 @@
+pub mod Names
 pub mod Commands
 pub mod Faults
+pub mod Answers
 pub mod Steps
 pub mod Run

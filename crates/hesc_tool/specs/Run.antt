@@ -1,12 +1,13 @@
 -- What a run of the tool reads, writes and answers.
 use Rattle.std.specs.Prelude.{◌≡◌, ℕ, List, Option, Result, Ok, Err}
 use Rattle.std.specs.Io.KnownBytes.{Appends, Keeps}
-use Rattle.hesc_tool.specs.Commands.{Answers, NamesCommand, NamesNoCommand, words_of}
 use Rattle.hesc_specs.specs.Beginning.{AppendsBeginning}
+use Rattle.hesc_tool.specs.Answers.{Answers}
+use Rattle.hesc_tool.specs.Commands.{NamesCommand, NamesNoCommand, words_of}
 use Rattle.hesc_tool.specs.Steps.{WasRead}
 use Rattle.hesc_tool.specs.declared.commands.Command.{Command}
 use Rattle.hesc_tool.specs.declared.faults.Fault.{Fault}
-use Rattle.hesc_tool.specs.declared.faults.Fault.TheVariants.{Usage, Read, NotUtf8, Memory, Write}
+use Rattle.hesc_tool.specs.declared.faults.Fault.TheVariants.{Usage, Read, Memory, Write}
 
 -- the words name a command, and this is its answer to all that was read
 abbrev pub AnswersInput : List (List ℕ) → Option (List ℕ) → Option (List ℕ) → Result (List ℕ) Fault → Type 0
@@ -23,9 +24,9 @@ RanAs words reader reader' writer writer' (Err Usage) =
     NamesNoCommand words × Keeps reader reader' × Keeps writer writer'
 RanAs words reader reader' writer writer' (Err Read) =
     NamesCommand words × Keeps writer writer'
-RanAs words reader reader' writer writer' (Err NotUtf8) =
-    AnswersInput words reader reader' (Err NotUtf8) × Keeps writer writer'
 RanAs words reader reader' writer writer' (Err Memory) =
     NamesCommand words × Keeps writer writer'
 RanAs words reader reader' writer writer' (Err Write) =
     (text : List ℕ) × AnswersInput words reader reader' (Ok text) × AppendsBeginning writer writer' text
+RanAs words reader reader' writer writer' (Err refusal) =
+    AnswersInput words reader reader' (Err refusal) × Keeps writer writer'

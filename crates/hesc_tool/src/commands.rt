@@ -2,13 +2,17 @@
 ghost use Rattle.std.specs.Prelude.{◌≡◌, map, MatchOption};
 ghost use Rattle.hesc_tool.specs.Commands.{NamesNoCommand, words_of};
 
+use crate::names::{encoder_named, operation_named, place_named};
+use hesc_places::Place;
+use html_escape::{Encoder, Operation};
+
 /// What a list of words can name.
 #[derive(Clone, Copy)]
 pub enum Command {
-    /// `encode_text`: the encoding of a text.
-    EncodeText,
-    /// `decode_html_entities`: a text decoded by the built-in table.
-    DecodeHtmlEntities,
+    /// The name of an operation: what the operation makes of a text.
+    Operation(Operation),
+    /// `enclose ENCODER PLACE`: the encoding of a text between the marks of a place.
+    Enclose(Encoder, Place),
 }
 
 /// The command that the words after the program's name name, `None` where they name none.
@@ -17,8 +21,14 @@ pub fn command_of(words: &[&str]) -> Option<Command>
         (λ command. words_of command ≡ map (λ word. word.now) words.now) }
 {
     match words {
-        ["encode_text"] => Some(Command::EncodeText),
-        ["decode_html_entities"] => Some(Command::DecodeHtmlEntities),
+        [name] => match operation_named(name) {
+            Some(operation) => Some(Command::Operation(operation)),
+            None => None,
+        },
+        ["enclose", encoder, place] => match (encoder_named(encoder), place_named(place)) {
+            (Some(encoder), Some(place)) => Some(Command::Enclose(encoder, place)),
+            _ => None,
+        },
         _ => None,
     }
 }

@@ -11,6 +11,12 @@ pub enum Fault {
     Read,
     /// The command wants a text, and the input is not UTF-8.
     NotUtf8,
+    /// The input does not begin with a page.
+    NoPage,
+    /// The encoder does not suit the place.
+    NotForPlace,
+    /// The text of an unquoted value is empty.
+    EmptyUnquoted,
     /// No memory was found.
     Memory,
     /// The output cannot be written.
@@ -24,7 +30,13 @@ impl Fault {
     {
         match self {
             Fault::Usage => 2,
-            Fault::Read | Fault::NotUtf8 | Fault::Memory | Fault::Write => 1,
+            Fault::Read
+            | Fault::NotUtf8
+            | Fault::NoPage
+            | Fault::NotForPlace
+            | Fault::EmptyUnquoted
+            | Fault::Memory
+            | Fault::Write => 1,
         }
     }
 
@@ -36,6 +48,9 @@ impl Fault {
             Fault::Usage => "usage: hesc COMMAND [ARGUMENT..]",
             Fault::Read => "hesc: input cannot be read",
             Fault::NotUtf8 => "hesc: input is not UTF-8",
+            Fault::NoPage => "hesc: no page",
+            Fault::NotForPlace => "hesc: encoder does not suit the place",
+            Fault::EmptyUnquoted => "hesc: empty unquoted value",
             Fault::Memory => "hesc: out of memory",
             Fault::Write => "hesc: output cannot be written",
         }

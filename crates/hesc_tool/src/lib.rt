@@ -9,6 +9,7 @@ ghost use Rattle.hesc_tool.specs.Run.{RanAs};
 
 mod commands;
 mod faults;
+mod names;
 mod steps;
 
 use crate::commands::command_of;
