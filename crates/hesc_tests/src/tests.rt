@@ -6,6 +6,8 @@ mod operations;
 mod parts;
 mod pieces;
 mod places;
+mod readers;
+mod readings;
 mod references;
 mod refusing;
 mod rows;
