@@ -3,6 +3,7 @@
 mod answers;
 mod memory;
 mod operations;
+mod pages;
 mod parts;
 mod pieces;
 mod places;

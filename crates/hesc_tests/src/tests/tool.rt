@@ -12,7 +12,7 @@ type Run = (
     &'static [u8],
 );
 
-const RUNS: [Run; 6] = [
+const RUNS: [Run; 17] = [
     (
         &["encode_text"],
         b"a > b && a < c",
@@ -20,11 +20,61 @@ const RUNS: [Run; 6] = [
         b"a &gt; b &amp;&amp; a &lt; c",
     ),
     (&["encode_text"], b"", Ok(()), b""),
+    (&["decode_html_entities"], b"&amp;lt;", Ok(()), b"&lt;"),
+    (
+        &["decode_script_quoted_text"],
+        b"\\x3C\\!--",
+        Ok(()),
+        b"<\\!--",
+    ),
+    (
+        &["enclose", "encode_text", "text"],
+        b"a<b",
+        Ok(()),
+        b">a&lt;b<",
+    ),
+    (
+        &["page", "a", "b", "c"],
+        b"",
+        Ok(()),
+        b"<input value=a placeholder=\"b\"/><script>alert('c');</script>",
+    ),
+    (&["read-page"], PAGE, Ok(()), PAGE_LINES),
     (&["encode_text"], b"\xFF", Err(Fault::NotUtf8), b""),
+    (&["read-page"], b"abc", Err(Fault::NoPage), b""),
+    (
+        &["enclose", "encode_text", "script-body"],
+        b"a",
+        Err(Fault::NotForPlace),
+        b"",
+    ),
+    (
+        &["enclose", "encode_unquoted_attribute", "unquoted-space"],
+        b"",
+        Err(Fault::EmptyUnquoted),
+        b"",
+    ),
+    (&["page", "", "b", "c"], b"", Err(Fault::EmptyUnquoted), b""),
     (&[], b"a", Err(Fault::Usage), b""),
     (&["encode"], b"a", Err(Fault::Usage), b""),
     (&["encode_text", "x"], b"a", Err(Fault::Usage), b""),
+    (
+        &["enclose", "encode_text", "body"],
+        b"a",
+        Err(Fault::Usage),
+        b"",
+    ),
+    (&["page", "a", "b"], b"a", Err(Fault::Usage), b""),
 ];
+
+// A page, and a byte behind it that is no text.
+const PAGE: &[u8] = b"<input value=Hello&#x20;world&#x21; \
+placeholder=\"The default value is &quot;Hello world!&quot;.\"/>\
+<script>alert('\\x3Cscript>\\'s end tag is \\x3C/script>');</script>\xFF";
+
+const PAGE_LINES: &[u8] = b"12 Hello world!\n\
+36 The default value is \"Hello world!\".\n\
+31 <script>'s end tag is </script>\n";
 
 const ENCODE_TEXT: &[&str] = &["encode_text"];
 

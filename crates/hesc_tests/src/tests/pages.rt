@@ -1,0 +1,86 @@
+//! Pages: what is appended, what is read back, the fault, and refused memory.
+use crate::Refusing;
+use hesc_places::{PlaceFault, append_page, build_page, read_page};
+use std::alloc::{AllocError, Allocator, Global};
+use std::process::Abort;
+use std::test::Fail;
+
+const TEXTS: [&str; 3] = [
+    "Hello world!",
+    "The default value is \"Hello world!\".",
+    "<script>'s end tag is </script>",
+];
+
+const PAGE: &str = "<input value=Hello&#x20;world&#x21; \
+placeholder=\"The default value is &quot;Hello world!&quot;.\"/>\
+<script>alert('\\x3Cscript>\\'s end tag is \\x3C/script>');</script>";
+
+#[test]
+fn a_page_is_built_and_read_back(rt: HostRuntime) -> Result<(), Fail> {
+    let mut output = String::from_str(rt.alloc(), "x")?;
+    let part = build_page(TEXTS[0], TEXTS[1], TEXTS[2], &mut output);
+    assert!(rt; part == Ok(PAGE));
+    assert!(rt; output.strip_prefix("x") == Some(PAGE));
+    assert!(rt; reads_back(rt.alloc(), PAGE) == Ok(true));
+    assert!(rt; reads_back(rt.alloc(), "abc") == Ok(false));
+    Ok(())
+}
+
+// Whether memory was found, and then whether the bytes are the page of the texts.
+fn reads_back<A: Allocator + Clone>(alloc: A, bytes: &str) -> Result<bool, AllocError> {
+    match read_page(alloc, bytes.as_bytes())? {
+        Some(page) => Ok(
+            page.first.as_slice() == TEXTS[0].as_bytes()
+                && page.second.as_slice() == TEXTS[1].as_bytes()
+                && page.third.as_slice() == TEXTS[2].as_bytes()
+                && page.end == bytes.len(),
+        ),
+        None => Ok(false),
+    }
+}
+
+#[test]
+fn an_empty_value_leaves_the_output(rt: HostRuntime) -> Result<(), Fail> {
+    let heap = Refusing::new(rt.alloc(), 0);
+    let mut output = String::from_str(&heap, "x")?;
+    heap.refuse(1);
+    let answer = append_page(&mut output, "", TEXTS[1], TEXTS[2]);
+    assert!(rt; answer == Err(PlaceFault::EmptyUnquoted));
+    assert!(rt; is_x_and(output.as_str(), ""));
+    assert!(rt; heap.asked(1) == 0);
+    Ok(())
+}
+
+#[test]
+fn every_request_of_a_page_is_refused_in_turn(rt: HostRuntime) -> Result<(), Fail> {
+    for number in 1..=2u64 {
+        assert!(rt; builds(rt.alloc(), number)?, "{number}");
+    }
+    let mut was_refused = true;
+    for number in 1..=32u64 {
+        let heap = Refusing::new(rt.alloc(), number);
+        let is_read = reads_back(&heap, PAGE);
+        was_refused = heap.asked(number) >= number;
+        assert!(rt;
+            is_read == Ok(true) || is_read.is_err() && was_refused,
+            "{number}"
+        );
+    }
+    assert!(rt; !was_refused);
+    Ok(())
+}
+
+// One request where there is no room; the output is as it was where it is refused.
+fn builds(alloc: Global, number: u64) -> Result<bool, AllocError> {
+    let heap = Refusing::new(alloc, 0);
+    let mut output = String::with_capacity(&heap, 1)?;
+    output.push('x')?;
+    heap.refuse(number);
+    let is_ok = append_page(&mut output, TEXTS[0], TEXTS[1], TEXTS[2]) == Ok(());
+    let added = if is_ok { PAGE } else { "" };
+    Ok(is_ok == (number != 1) && heap.asked(number) == 1 && is_x_and(output.as_str(), added))
+}
+
+fn is_x_and(output: &str, added: &str) -> bool {
+    output.strip_prefix("x") == Some(added)
+}
