@@ -13,11 +13,13 @@ mod grammar;
 pub mod laws;
 mod marks;
 mod places;
+mod quoting;
 mod readers;
 mod suiting;
 
 pub use crate::enclosing::{append_enclosed, enclose};
 pub use crate::fault::PlaceFault;
 pub use crate::places::{End, Place};
+pub use crate::quoting::Quoting;
 pub use crate::readers::{Reading, end_of_place, read_place};
 pub use crate::suiting::suits;
