@@ -13,6 +13,12 @@ pub mod StyleStringPlaces
 pub mod BodyPlaces
 pub mod PlaceLaw
 pub mod EnclosedTexts
+pub mod UnquotedEndings
+pub mod ParserLaws
+pub mod AttributeLaws
+pub mod ScriptTexts
+pub mod FormLaw
+pub mod PageLaw
 mod Trials
 mod FirstSemicolon
 mod ReadingTurns

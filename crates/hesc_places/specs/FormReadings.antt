@@ -48,8 +48,8 @@ unfoldable pub with_attributes : ℕ → List Entry × List ℕ → Option FormR
 with_attributes total found = do
   script ← behind_attributes found.1
   if differ (map (λ entry. entry.name) found.0)
-    then Some (record { attributes = found.0; script = script.0; end = total - length script.1 })
-    else None
+      then Some (record { attributes = found.0; script = script.0; end = total - length script.1 })
+      else None
 
 -- the reading of a form from the front of the bytes, if there is one
 unfoldable pub form_reading : List ℕ → Option FormRead

@@ -1,5 +1,5 @@
 -- The text of a form: the tag with its attributes, and the script.
-use Rattle.std.specs.Prelude.{◌≢◌, ⊤, ℕ, Bool, IsTrue, ◌&&◌, ◌==◌, not, List, [], ◌∷◌, ◌++◌, codes, length, map}
+use Rattle.std.specs.Prelude.{◌≢◌, ⊤, ℕ, Bool, false, IsTrue, List, [], ◌∷◌, ◌++◌, codes, length, map}
 use Rattle.std.specs.Char.{is_ascii_lowercase}
 use Rattle.std.specs.List.{flat_map, list_all, AllByRecursion}
 use Rattle.hesc_specs.specs.Ascii.{space, double_quote, single_quote, equals_sign}
@@ -41,7 +41,8 @@ form_text attributes script = codes "<input" ++ (flat_map attribute_text attribu
 
 -- a name is one or more lower-case ASCII letters
 abbrev pub is_name : List ℕ → Bool
-is_name name = not (length name == 0) && list_all is_ascii_lowercase name
+is_name [] = false
+is_name (b ∷ name) = list_all is_ascii_lowercase (b ∷ name)
 
 -- an unquoted value is not empty
 abbrev pub IsFilled : Quoting → List ℕ → Type 0
