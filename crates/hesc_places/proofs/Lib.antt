@@ -19,6 +19,9 @@ pub mod AttributeLaws
 pub mod ScriptTexts
 pub mod FormLaw
 pub mod PageLaw
+pub mod AttributeTurns
+pub mod Fronts
+pub mod PagesOfTwo
 mod Trials
 mod FirstSemicolon
 mod ReadingTurns

@@ -23,6 +23,9 @@ pub record Entry : Type 0 where
   pub quoting : Quoting
   pub value : List ℕ
 
+abbrev pub entry : List ℕ → Quoting → List ℕ → Entry
+entry name quoting value = record { name = name; quoting = quoting; value = value }
+
 -- the ending that a byte is, if it is one
 abbrev pub ending : ℕ → Option End
 ending b =
@@ -66,7 +69,7 @@ attribute_at bytes = do
   name ← some_while is_ascii_lowercase gap.1
   behind ← past (codes "=") name.1
   value ← value_at behind
-  Some (record { name = name.0; quoting = value.0; value = value.1 }, value.2)
+  Some (entry name.0 value.0 value.1, value.2)
 
 -- an attribute, if there is one, and those that follow it
 abbrev pub and_others : List ℕ → Option (Entry × List ℕ) → (List ℕ → List Entry × List ℕ) → List Entry × List ℕ

@@ -16,6 +16,9 @@ pub record FormRead : Type 0 where
   pub script : List ℕ
   pub end : ℕ
 
+abbrev pub form_found : List Entry → List ℕ → ℕ → FormRead
+form_found attributes script end = record { attributes = attributes; script = script; end = end }
+
 -- white space, at most one `/`, and `>`
 abbrev pub tag_end : List ℕ → Option (List ℕ)
 tag_end bytes =
@@ -48,7 +51,7 @@ unfoldable pub with_attributes : ℕ → List Entry × List ℕ → Option FormR
 with_attributes total found = do
   script ← behind_attributes found.1
   if differ (map (λ entry. entry.name) found.0)
-      then Some (record { attributes = found.0; script = script.0; end = total - length script.1 })
+      then Some (form_found found.0 script.0 (total - length script.1))
       else None
 
 -- the reading of a form from the front of the bytes, if there is one

@@ -11,9 +11,12 @@ pub record PageRead : Type 0 where
   pub third : List ℕ
   pub end : ℕ
 
+abbrev pub page_found : List ℕ → List ℕ → List ℕ → ℕ → PageRead
+page_found first second third end = record { first = first; second = second; third = third; end = end }
+
 -- the page with these attributes, this literal and this end
 abbrev pub page_of : List Entry → List ℕ → ℕ → Option PageRead
-page_of (a ∷ b ∷ []) literal end = Some (record { first = a.value; second = b.value; third = literal; end = end })
+page_of (a ∷ b ∷ []) literal end = Some (page_found a.value b.value literal end)
 page_of others literal end = None
 
 -- the reading of a page from the front of the bytes, if there is one
