@@ -2,12 +2,13 @@
 use Rattle.std.specs.Prelude.{◌≡◌, ℕ, List, [], ◌∷◌, codes}
 use Rattle.hesc_tool.specs.Names.{encoder_name, operation_name, place_name}
 use Rattle.hesc_tool.specs.declared.commands.Command.{Command}
-use Rattle.hesc_tool.specs.declared.commands.Command.TheVariants.{Operation, Enclose}
+use Rattle.hesc_tool.specs.declared.commands.Command.TheVariants.{Operation, Enclose, ReadPage}
 
 -- the words that name a command
 abbrev pub words_of : Command → List (List ℕ)
 words_of (Operation operation) = operation_name operation ∷ []
 words_of (Enclose encoder place) = codes "enclose" ∷ (encoder_name encoder ∷ (place_name place ∷ []))
+words_of ReadPage = codes "read-page" ∷ []
 
 -- the words name some command
 abbrev pub NamesCommand : List (List ℕ) → Type 0

@@ -13,6 +13,8 @@ pub enum Command {
     Operation(Operation),
     /// `enclose ENCODER PLACE`: the encoding of a text between the marks of a place.
     Enclose(Encoder, Place),
+    /// `read-page`: the three texts that are read from a page, each behind its length.
+    ReadPage,
 }
 
 /// The command that the words after the program's name name, `None` where they name none.
@@ -21,6 +23,7 @@ pub fn command_of(words: &[&str]) -> Option<Command>
         (λ command. words_of command ≡ map (λ word. word.now) words.now) }
 {
     match words {
+        ["read-page"] => Some(Command::ReadPage),
         [name] => match operation_named(name) {
             Some(operation) => Some(Command::Operation(operation)),
             None => None,

@@ -7,8 +7,10 @@
 ghost use Rattle.std.specs.Prelude.{map};
 ghost use Rattle.hesc_tool.specs.Run.{RanAs};
 
+mod answers;
 mod commands;
 mod faults;
+mod lines;
 mod names;
 mod steps;
 

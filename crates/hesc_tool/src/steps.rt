@@ -1,21 +1,20 @@
 //! The steps of a run after its words: all of the input is read, and the command's answer to it is
 //! made and then written.
-ghost use Rattle.std.specs.Prelude.{◌≡◌, IfErr, IfOk, Ok, OnErr, OnOk};
+ghost use Rattle.std.specs.Prelude.{◌≡◌, IfErr, IfOk, OnErr, OnOk};
 ghost use Rattle.std.specs.Io.KnownBytes.{Appends};
 ghost use Rattle.hesc_specs.specs.Beginning.{AppendsBeginning};
-ghost use Rattle.html_escape.specs.Operations.{operation_text};
-ghost use Rattle.hesc_tool.specs.Answers.{answer_to, enclosing};
-ghost use Rattle.hesc_tool.specs.Steps.{AnsweredAs, IsMade, IsReadingFault, WasRead};
+ghost use Rattle.hesc_tool.specs.Steps.{
+  AnsweredAs,
+  IsReadingFault,
+  WasRead,
+};
 ghost use Rattle.hesc_tool.specs.declared.faults.Fault.{Fault};
 
+use crate::answers::made;
 use crate::commands::Command;
 use crate::faults::Fault;
-use hesc_core::forms::append_to_string;
-use hesc_places::{Place, PlaceFault, append_enclosed};
-use html_escape::{Encoder, Operation};
 use std::alloc::Allocator;
 use std::io::{Read, Write};
-use std::str;
 
 /// How many bytes a read is offered.
 const READ_SIZE: usize = 4096;
@@ -62,47 +61,8 @@ pub fn write_whole<W: Write>(bytes: &[u8], output: &mut W) -> Result<(), Fault>
     Ok(())
 }
 
-/// What the command answers to a text, in memory.
-fn made<A: Allocator>(alloc: A, command: Command, text: &str) -> Result<String<A>, Fault>
-    ensures { IsMade (answer_to command text.now) result }
-{
-    match command {
-        Command::Operation(operation) => operated(alloc, operation, text),
-        Command::Enclose(encoder, place) => enclosed(alloc, encoder, place, text),
-    }
-}
-
-// What the operation makes of a text.
-fn operated<A: Allocator>(alloc: A, operation: Operation, text: &str) -> Result<String<A>, Fault>
-    ensures { IsMade (Ok (operation_text operation text.now)) result }
-{
-    let mut output = String::new(alloc);
-    if append_to_string(&mut output, &operation, text).is_err() {
-        return Err(Fault::Memory);
-    }
-    Ok(output)
-}
-
-// The text between the marks of the place, if it can stand there.
-fn enclosed<A: Allocator>(
-    alloc: A,
-    encoder: Encoder,
-    place: Place,
-    text: &str,
-) -> Result<String<A>, Fault>
-    ensures { IsMade (enclosing encoder place text.now) result }
-{
-    let mut output = String::new(alloc);
-    match append_enclosed(&mut output, encoder, place, text) {
-        Ok(()) => Ok(output),
-        Err(PlaceFault::NotForPlace) => Err(Fault::NotForPlace),
-        Err(PlaceFault::EmptyUnquoted) => Err(Fault::EmptyUnquoted),
-        Err(PlaceFault::Memory) => Err(Fault::Memory),
-    }
-}
-
-/// Makes the command's answer to the whole input, and only then writes its text.
-pub fn answer<A: Allocator, W: Write>(
+/// Makes the command's answer to its input, and only then writes its text.
+pub fn answer<A: Allocator + Clone, W: Write>(
     alloc: A,
     command: Command,
     input: &[u8],
@@ -110,11 +70,8 @@ pub fn answer<A: Allocator, W: Write>(
 ) -> Result<(), Fault>
     ensures { AnsweredAs command input.now (W.contents output.old) (W.contents output.new) result }
 {
-    let Ok(text) = str::from_utf8(input) else {
-        return Err(Fault::NotUtf8);
-    };
-    match made(alloc, command, text) {
-        Ok(made) => write_whole(made.as_str().as_bytes(), output),
+    match made(alloc, command, input) {
+        Ok(made) => write_whole(made.as_slice(), output),
         Err(fault) => Err(fault),
     }
 }
