@@ -22,6 +22,7 @@ pub mod PageLaw
 pub mod AttributeTurns
 pub mod Fronts
 pub mod PagesOfTwo
+pub mod ThreeParts
 mod Trials
 mod FirstSemicolon
 mod ReadingTurns

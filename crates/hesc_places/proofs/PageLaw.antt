@@ -5,10 +5,10 @@ use Rattle.html_escape.specs.declared.encoder.Encoder.TheVariants.{UnquotedAttri
 use Rattle.html_escape.specs.Encoders.{encoded}
 use Rattle.hesc_places.specs.declared.quoting.Quoting.TheVariants.{Unquoted, Double}
 use Rattle.hesc_places.specs.AttributeReadings.{Entry}
-use Rattle.hesc_places.specs.FormTexts.{AreGood, form_back, form_text}
+use Rattle.hesc_places.specs.FormTexts.{AreGood, form_back, form_text, script_text}
 use Rattle.hesc_places.specs.FormReadings.{form_reading}
 use Rattle.hesc_places.specs.PageReadings.{page_reading}
-use Rattle.hesc_places.specs.PageTexts.{page_back, page_text, placeholder_part, script_part}
+use Rattle.hesc_places.specs.PageTexts.{page_back, page_text, placeholder_part}
 use Rattle.hesc_places.proofs.FormLaw.{form_again}
 
 -- the two attributes of a page
@@ -30,8 +30,8 @@ page_is_form a b c =
     let first : List ℕ = encoded UnquotedAttribute a in
     let second : List ℕ = placeholder_part b in
     ap (λ bytes. codes "<input value=" ++ bytes) (
-    append_assoc first (second ++ []) (script_part c)
-    ∙ ap (λ bytes. first ++ (bytes ++ script_part c)) (append-nil second)
+    append_assoc first (second ++ []) (script_text c)
+    ∙ ap (λ bytes. first ++ (bytes ++ script_text c)) (append-nil second)
     )
 
 pub page_again : (a b c rest : List ℕ) → length a ≢ 0 → IsUtf8 c →

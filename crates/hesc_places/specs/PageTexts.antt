@@ -1,9 +1,10 @@
--- The text of a page: two inputs' texts and a script's, in their places.
+-- The text of a page: an input with a value and a placeholder, and a script that shows a text.
 use Rattle.std.specs.Prelude.{ℕ, List, [], ◌∷◌, ◌++◌, codes, length}
 use Rattle.hesc_specs.specs.Ascii.{double_quote}
 use Rattle.hesc_specs.specs.Nul.{nul}
-use Rattle.html_escape.specs.declared.encoder.Encoder.TheVariants.{UnquotedAttribute, DoubleQuotedAttribute, ScriptSingleQuoted}
+use Rattle.html_escape.specs.declared.encoder.Encoder.TheVariants.{UnquotedAttribute, DoubleQuotedAttribute}
 use Rattle.html_escape.specs.Encoders.{encoded}
+use Rattle.hesc_places.specs.FormTexts.{script_text}
 use Rattle.hesc_places.specs.PageReadings.{PageRead}
 
 -- the value of an input, without quotes
@@ -14,13 +15,9 @@ value_part a = codes "<input value=" ++ encoded UnquotedAttribute a
 abbrev pub placeholder_part : List ℕ → List ℕ
 placeholder_part b = codes " placeholder=" ++ double_quote ∷ (encoded DoubleQuotedAttribute b ++ double_quote ∷ [])
 
--- the end of its tag, and a script that shows a text
-abbrev pub script_part : List ℕ → List ℕ
-script_part c = codes "/><script>alert('" ++ (encoded ScriptSingleQuoted c ++ codes "');</script>")
-
--- the text of the page of three texts
+-- the text of the page of three texts, the last of which its script shows
 abbrev pub page_text : List ℕ → List ℕ → List ℕ → List ℕ
-page_text a b c = value_part a ++ (placeholder_part b ++ script_part c)
+page_text a b c = value_part a ++ (placeholder_part b ++ script_text c)
 
 -- what is read from the text of a page
 abbrev pub page_back : List ℕ → List ℕ → List ℕ → PageRead
