@@ -1,12 +1,14 @@
-//! The steps of a run after its words: all of the input is read, and the command's answer to it is
-//! made and then written.
+//! The steps of a run after its words: the command's input is read, and its answer is made and then
+//! written.
 ghost use Rattle.std.specs.Prelude.{◌≡◌, IfErr, IfOk, OnErr, OnOk};
 ghost use Rattle.std.specs.Io.KnownBytes.{Appends};
 ghost use Rattle.hesc_specs.specs.Beginning.{AppendsBeginning};
 ghost use Rattle.hesc_tool.specs.Steps.{
   AnsweredAs,
   IsReadingFault,
+  IsTakingFault,
   WasRead,
+  WasTaken,
 };
 ghost use Rattle.hesc_tool.specs.declared.faults.Fault.{Fault};
 
@@ -41,6 +43,25 @@ pub fn read_whole<A: Allocator, R: Read>(alloc: A, input: &mut R) -> Result<Vec<
     }
 }
 
+/// The input of the command: all bytes that the reader has left, or none where the command reads
+/// no input.
+pub fn input_of<A: Allocator, R: Read>(
+    alloc: A,
+    command: Command<'_>,
+    input: &mut R,
+) -> Result<Vec<u8, A>, Fault>
+    ensures taken { IfOk result
+        (λ bytes. WasTaken command.entry (R.remaining input.old) (R.remaining input.new) bytes.items) }
+    ensures fault { IfErr result (IsTakingFault command.entry) }
+{
+    match command {
+        Command::Page(..) => Ok(Vec::new(alloc)),
+        Command::Operation(_) | Command::Enclose(..) | Command::ReadPage => {
+            read_whole(alloc, input)
+        }
+    }
+}
+
 /// Writes all of the bytes. A write that fails for any reason, or takes no byte, is `Write`.
 pub fn write_whole<W: Write>(bytes: &[u8], output: &mut W) -> Result<(), Fault>
     ensures all { OnOk result (Appends (W.contents output.old) (W.contents output.new) bytes.now) }
@@ -64,11 +85,11 @@ pub fn write_whole<W: Write>(bytes: &[u8], output: &mut W) -> Result<(), Fault>
 /// Makes the command's answer to its input, and only then writes its text.
 pub fn answer<A: Allocator + Clone, W: Write>(
     alloc: A,
-    command: Command,
+    command: Command<'_>,
     input: &[u8],
     output: &mut W,
 ) -> Result<(), Fault>
-    ensures { AnsweredAs command input.now (W.contents output.old) (W.contents output.new) result }
+    ensures { AnsweredAs command.entry input.now (W.contents output.old) (W.contents output.new) result }
 {
     match made(alloc, command, input) {
         Ok(made) => write_whole(made.as_slice(), output),
