@@ -13,6 +13,16 @@ pub mod StyleStringPlaces
 pub mod BodyPlaces
 pub mod PlaceLaw
 pub mod EnclosedTexts
+pub mod UnquotedEndings
+pub mod ParserLaws
+pub mod AttributeLaws
+pub mod ScriptTexts
+pub mod FormLaw
+pub mod PageLaw
+pub mod AttributeTurns
+pub mod Fronts
+pub mod PagesOfTwo
+pub mod ThreeParts
 mod Trials
 mod FirstSemicolon
 mod ReadingTurns

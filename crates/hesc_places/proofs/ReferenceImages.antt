@@ -57,18 +57,20 @@ IsRead_from_test b h =
       character = character_from_test (body_character (body_to b)) (character_to b) others.1;
     }
 
-passes_below : (ℕ → Bool) → ℕ → Bool
+-- each number below another passes
+unfoldable pub passes_below : (ℕ → Bool) → ℕ → Bool
 passes_below test zero = true
 passes_below test (suc n) = test n && passes_below test n
+
+pub passes_each : (test : ℕ → Bool) → passes_below test 128 ≡ true → (b : ℕ) → b < 128 → test b ≡ true
+unfolding passes_below
+passes_each test all b small =
+    let each_passes = Decides-below_and test (λ k. test k ≡ true) (passes_below test) (λ k. (λ h. h, λ h. h)) refl (λ n. refl) 128 in
+    each_passes.0 all b small
 
 all_are_read : passes_below is_read 128 ≡ true
 unfolding passes_below is_read has_parts is_whole has_character is_character
 all_are_read = refl
 
 pub reference_to_is_read : (b : ℕ) → b < 128 → IsRead b
-unfolding passes_below
-reference_to_is_read b small =
-    let each_passes =
-    Decides-below_and is_read (λ k. is_read k ≡ true) (passes_below is_read) (λ k. (λ h. h, λ h. h))
-    refl (λ n. refl) 128 in
-    IsRead_from_test b (each_passes.0 all_are_read b small)
+reference_to_is_read b small = IsRead_from_test b (passes_each is_read all_are_read b small)

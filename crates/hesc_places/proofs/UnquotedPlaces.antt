@@ -1,11 +1,12 @@
 -- Unquoted values: the encoding of a text that is not empty is read up to the ending.
-use Rattle.std.proofs.Common.{ℕ, ◌≡◌, ◌≢◌, true, false, List, [], ◌∷◌, ◌++◌, ◌==◌, Some, length, flat_map, refl, ne_eqb}
+use Rattle.std.proofs.Common.{ℕ, ◌≡◌, ◌≢◌, true, false, List, [], ◌∷◌, ◌++◌, ◌==◌, Some, length, flat_map, refl, ⊎_elim, arith, ne_eqb}
+use Rattle.std.proofs.lemmas.Bool.{cases_Bool}
 use Rattle.hesc_specs.specs.Ascii.{tab, line_feed, form_feed, space, double_quote, ampersand, single_quote, less_than, equals_sign, greater_than, backtick}
 use Rattle.hesc_specs.specs.Classes.{in_class}
 use Rattle.hesc_specs.specs.Html.{encoding}
 use Rattle.hesc_specs.specs.Nul.{nul}
 use Rattle.hesc_specs.specs.declared.classes.Class.TheVariants.{UnquotedAttribute}
-use Rattle.hesc_specs.proofs.HtmlImages.{kept_is_other}
+use Rattle.hesc_specs.proofs.HtmlImages.{in_class_is_ascii, kept_is_other}
 use Rattle.hesc_places.specs.declared.grammar.Mode.TheVariants.{Empty, Plain}
 use Rattle.hesc_places.specs.declared.places.End.{End}
 use Rattle.hesc_places.specs.declared.places.End.TheVariants.{Tab, LineFeed, FormFeed, Space, Greater}
@@ -15,6 +16,7 @@ use Rattle.hesc_places.specs.Reading.{reading_after}
 use Rattle.hesc_places.proofs.Takes.{Takes, takes_both, takes_to_end}
 use Rattle.hesc_places.proofs.HtmlPieces.{ReadsImages, read_image, takes_image, takes_encoding}
 use Rattle.hesc_places.proofs.ReadBacks.{read_back-nul}
+use Rattle.hesc_places.proofs.ReferenceImages.{reference_to_is_read}
 
 -- a byte that the encoder keeps is none that it replaces
 differs : (b : ℕ) → in_class UnquotedAttribute b ≡ false →
@@ -66,3 +68,14 @@ unquoted_nul end text rest full =
       takes_to_end (end_byte end ∷ rest) (unquoted_takes (end_byte end) text full) (unquoted_closes end rest),
       read_back-nul UnquotedAttribute refl text,
     ) refl
+
+-- the encoding of a text that is not empty is not empty
+pub encoding-full : (text : List ℕ) → length text ≢ 0 → length (encoding UnquotedAttribute text) ≢ 0
+encoding-full [] full = absurd (full refl)
+encoding-full (b ∷ text) full =
+    ⊎_elim
+    (λ (replaced : in_class UnquotedAttribute b ≡ true).
+    let is = reference_to_is_read b (in_class_is_ascii UnquotedAttribute b refl replaced) in
+    rw (replaced, is.parts) (omega arith))
+    (λ (kept : in_class UnquotedAttribute b ≡ false). rw kept (omega arith))
+    (cases_Bool (in_class UnquotedAttribute b))

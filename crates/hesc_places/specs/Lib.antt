@@ -11,3 +11,9 @@ pub mod Suits
 pub mod ReadBack
 pub mod Trials
 pub mod Enclosed
+pub mod Parsers
+pub mod AttributeReadings
+pub mod FormReadings
+pub mod PageReadings
+pub mod FormTexts
+pub mod PageTexts

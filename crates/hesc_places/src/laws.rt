@@ -1,8 +1,10 @@
 //! The laws of places: each is a function that does nothing and whose contract is the law.
-ghost use Rattle.std.specs.Prelude.{◌≡◌, ◌++◌, false, length, IsTrue, Some};
+ghost use Rattle.std.specs.Prelude.{◌≡◌, ◌≢◌, ◌++◌, false, length, IsTrue, Some};
 ghost use Rattle.hesc_specs.specs.Bodies.{body_encoding};
 ghost use Rattle.html_escape.specs.Encoders.{encoded};
 ghost use Rattle.hesc_places.specs.Marks.{closing};
+ghost use Rattle.hesc_places.specs.PageReadings.{page_reading};
+ghost use Rattle.hesc_places.specs.PageTexts.{page_back, page_text};
 ghost use Rattle.hesc_places.specs.PlaceReadings.{body_of, reading};
 ghost use Rattle.hesc_places.specs.Suits.{suits, MayHold};
 ghost use Rattle.hesc_places.specs.ReadBack.{read_back};
@@ -36,4 +38,12 @@ pub fn end_tag_law(element: Element, text: &str, tag: &[u8])
 pub fn no_other_pair(encoder: Encoder, place: Place)
     requires { suits encoder place ≡ false }
     ensures { PassesTrial encoder place → ⊥ }
+{}
+
+/// The text of a page of three texts, the first not empty, is read back as the three (the first with
+/// U+FFFD for NUL), whatever follows it, and ends exactly where it ends.
+pub fn page_law(a: &str, b: &str, c: &str, rest: &[u8])
+    requires { length a.now ≢ 0 }
+    ensures { page_reading (page_text a.now b.now c.now ++ rest.now)
+        ≡ Some (page_back a.now b.now c.now) }
 {}

@@ -9,15 +9,25 @@
 mod enclosed;
 mod enclosing;
 mod fault;
+mod form_reader;
+mod front;
 mod grammar;
 pub mod laws;
 mod marks;
+mod page_builder;
+mod page_reader;
+mod page_text;
 mod places;
+mod quoting;
 mod readers;
 mod suiting;
+mod tag_reader;
 
 pub use crate::enclosing::{append_enclosed, enclose};
 pub use crate::fault::PlaceFault;
+pub use crate::page_builder::{append_page, build_page};
+pub use crate::page_reader::{Page, read_page};
 pub use crate::places::{End, Place};
+pub use crate::quoting::Quoting;
 pub use crate::readers::{Reading, end_of_place, read_place};
 pub use crate::suiting::suits;

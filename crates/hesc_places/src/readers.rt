@@ -1,5 +1,5 @@
 //! The readers of places: what stands in a place, and where it ends.
-ghost use Rattle.std.specs.Prelude.{◌≡◌, IfOk};
+ghost use Rattle.std.specs.Prelude.{◌≡◌, ◌<◌, length, IfOk, IfSome};
 ghost use Rattle.std.specs.Option.{option_map};
 ghost use Rattle.hesc_places.specs.PlaceReadings.{end_of, reading};
 
@@ -23,8 +23,9 @@ pub fn read_place<A: Allocator>(
     place: Place,
     bytes: &[u8],
 ) -> Result<Option<Reading<A>>, AllocError>
-    ensures { IfOk result (λ found. option_map (λ r. (r.value.items, r.end)) found
+    ensures value { IfOk result (λ found. option_map (λ r. (r.value.items, r.end)) found
         ≡ reading place bytes.now) }
+    ensures within { IfOk result (λ found. IfSome found (λ r. r.end < length bytes.now)) }
 {
     let mut value = Vec::new(alloc);
     let mut mode = first_mode(place);

@@ -1,16 +1,19 @@
 -- What a command answers to an input: its text, or the first refusal that applies.
-use Rattle.std.specs.Prelude.{◌≡◌, ℕ, Bool, true, false, if◌then◌else◌, List, [], Result, Ok, Err}
+use Rattle.std.specs.Prelude.{◌≡◌, ℕ, Bool, true, false, if◌then◌else◌, List, [], ◌∷◌, Option, Some, None, Result, Ok, Err}
 use Rattle.std.specs.Str.{IsUtf8}
 use Rattle.html_escape.specs.Operations.{operation_text}
 use Rattle.html_escape.specs.declared.encoder.Encoder.{Encoder}
 use Rattle.hesc_places.specs.Enclosed.{enclosed}
+use Rattle.hesc_places.specs.PageReadings.{PageRead, page_reading}
+use Rattle.hesc_places.specs.PageTexts.{page_text}
 use Rattle.hesc_places.specs.Suits.{suits}
 use Rattle.hesc_places.specs.declared.places.Place.{Place}
 use Rattle.hesc_places.specs.declared.places.Place.TheVariants.{UnquotedAttribute}
+use Rattle.hesc_tool.specs.Lines.{page_lines}
 use Rattle.hesc_tool.specs.declared.commands.Command.{Command}
-use Rattle.hesc_tool.specs.declared.commands.Command.TheVariants.{Operation, Enclose}
+use Rattle.hesc_tool.specs.declared.commands.Command.TheVariants.{Operation, Enclose, Page, ReadPage}
 use Rattle.hesc_tool.specs.declared.faults.Fault.{Fault}
-use Rattle.hesc_tool.specs.declared.faults.Fault.TheVariants.{NotUtf8, NotForPlace, EmptyUnquoted}
+use Rattle.hesc_tool.specs.declared.faults.Fault.TheVariants.{NotUtf8, NoPage, NotForPlace, EmptyUnquoted}
 
 -- an unquoted value that is empty
 abbrev pub is_empty_unquoted : Place → List ℕ → Bool
@@ -22,12 +25,24 @@ abbrev pub enclosing : Encoder → Place → List ℕ → Result (List ℕ) Faul
 enclosing encoder place text =
     if suits encoder place then (if is_empty_unquoted place text then Err EmptyUnquoted else Ok (enclosed encoder place text)) else Err NotForPlace
 
--- what a command answers to a text
-abbrev pub answer_to : Command → List ℕ → Result (List ℕ) Fault
-answer_to (Operation operation) text = Ok (operation_text operation text)
-answer_to (Enclose encoder place) text = enclosing encoder place text
+-- the page of three texts, if the first, which stands unquoted, is not empty
+abbrev pub page_of : List ℕ → List ℕ → List ℕ → Result (List ℕ) Fault
+page_of [] second third = Err EmptyUnquoted
+page_of (b ∷ first) second third = Ok (page_text (b ∷ first) second third)
 
--- what a command answers to an input: first comes NotUtf8, exactly where the input is no text
+-- the lines of the page that was read, if there is one
+abbrev pub lines_of : Option PageRead → Result (List ℕ) Fault
+lines_of None = Err NoPage
+lines_of (Some page) = Ok (page_lines page)
+
+-- the answer to a text: first comes NotUtf8, exactly where the input is no text
+abbrev pub AnswersText : List ℕ → Result (List ℕ) Fault → Result (List ℕ) Fault → Type 0
+AnswersText input wanted (Err NotUtf8) = IsUtf8 input → ⊥
+AnswersText input wanted answer = IsUtf8 input × (wanted ≡ answer)
+
+-- what a command answers to an input
 abbrev pub Answers : Command → List ℕ → Result (List ℕ) Fault → Type 0
-Answers command input (Err NotUtf8) = IsUtf8 input → ⊥
-Answers command input answer = IsUtf8 input × (answer_to command input ≡ answer)
+Answers (Operation operation) input answer = AnswersText input (Ok (operation_text operation input)) answer
+Answers (Enclose encoder place) input answer = AnswersText input (enclosing encoder place input) answer
+Answers (Page first second third) input answer = page_of first.now second.now third.now ≡ answer
+Answers ReadPage input answer = lines_of (page_reading input) ≡ answer

@@ -1,13 +1,15 @@
 -- The commands, and the words that name each.
-use Rattle.std.specs.Prelude.{◌≡◌, ℕ, List, [], ◌∷◌, codes}
+use Rattle.std.specs.Prelude.{◌≡◌, ⊤, ℕ, List, [], ◌∷◌, codes}
 use Rattle.hesc_tool.specs.Names.{encoder_name, operation_name, place_name}
 use Rattle.hesc_tool.specs.declared.commands.Command.{Command}
-use Rattle.hesc_tool.specs.declared.commands.Command.TheVariants.{Operation, Enclose}
+use Rattle.hesc_tool.specs.declared.commands.Command.TheVariants.{Operation, Enclose, Page, ReadPage}
 
 -- the words that name a command
 abbrev pub words_of : Command → List (List ℕ)
 words_of (Operation operation) = operation_name operation ∷ []
 words_of (Enclose encoder place) = codes "enclose" ∷ (encoder_name encoder ∷ (place_name place ∷ []))
+words_of (Page first second third) = codes "page" ∷ (first.now ∷ (second.now ∷ (third.now ∷ [])))
+words_of ReadPage = codes "read-page" ∷ []
 
 -- the words name some command
 abbrev pub NamesCommand : List (List ℕ) → Type 0
@@ -16,3 +18,8 @@ NamesCommand words = (command : Command) × (words_of command ≡ words)
 -- the words name no command
 abbrev pub NamesNoCommand : List (List ℕ) → Type 0
 NamesNoCommand words = (command : Command) → words_of command ≡ words → ⊥
+
+-- the command reads an input
+abbrev pub ReadsInput : Command → Type 0
+ReadsInput (Page first second third) = ⊥
+ReadsInput other = ⊤

@@ -1,6 +1,7 @@
 pub mod Names
 pub mod Commands
 pub mod Faults
+pub mod Lines
 pub mod Answers
 pub mod Steps
 pub mod Run

@@ -3,17 +3,17 @@ use Rattle.std.specs.Prelude.{◌≡◌, ℕ, List, Option, Result, Ok, Err}
 use Rattle.std.specs.Io.KnownBytes.{Appends, Keeps}
 use Rattle.hesc_specs.specs.Beginning.{AppendsBeginning}
 use Rattle.hesc_tool.specs.Answers.{Answers}
-use Rattle.hesc_tool.specs.Commands.{NamesCommand, NamesNoCommand, words_of}
-use Rattle.hesc_tool.specs.Steps.{WasRead}
+use Rattle.hesc_tool.specs.Commands.{NamesCommand, NamesNoCommand, ReadsInput, words_of}
+use Rattle.hesc_tool.specs.Steps.{WasTaken}
 use Rattle.hesc_tool.specs.declared.commands.Command.{Command}
 use Rattle.hesc_tool.specs.declared.faults.Fault.{Fault}
 use Rattle.hesc_tool.specs.declared.faults.Fault.TheVariants.{Usage, Read, Memory, Write}
 
--- the words name a command, and this is its answer to all that was read
+-- the words name a command, and this is its answer to the input that it took
 abbrev pub AnswersInput : List (List ℕ) → Option (List ℕ) → Option (List ℕ) → Result (List ℕ) Fault → Type 0
 AnswersInput words reader reader' answer =
     (command : Command) × (input : List ℕ)
-    × (words_of command ≡ words) × WasRead reader reader' input × Answers command input answer
+    × (words_of command ≡ words) × WasTaken command reader reader' input × Answers command input answer
 
 -- a run, by its words, by its reader and its writer before and after, and by what it answers
 abbrev pub RanAs : List (List ℕ) → Option (List ℕ) → Option (List ℕ) → Option (List ℕ) → Option (List ℕ)
@@ -23,7 +23,7 @@ RanAs words reader reader' writer writer' (Ok _) =
 RanAs words reader reader' writer writer' (Err Usage) =
     NamesNoCommand words × Keeps reader reader' × Keeps writer writer'
 RanAs words reader reader' writer writer' (Err Read) =
-    NamesCommand words × Keeps writer writer'
+    ((command : Command) × (words_of command ≡ words) × ReadsInput command) × Keeps writer writer'
 RanAs words reader reader' writer writer' (Err Memory) =
     NamesCommand words × Keeps writer writer'
 RanAs words reader reader' writer writer' (Err Write) =

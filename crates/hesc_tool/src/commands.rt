@@ -8,19 +8,25 @@ use html_escape::{Encoder, Operation};
 
 /// What a list of words can name.
 #[derive(Clone, Copy)]
-pub enum Command {
+pub enum Command<'w> {
     /// The name of an operation: what the operation makes of a text.
     Operation(Operation),
     /// `enclose ENCODER PLACE`: the encoding of a text between the marks of a place.
     Enclose(Encoder, Place),
+    /// `page A B C`: the page of these three texts. It reads no input.
+    Page(&'w str, &'w str, &'w str),
+    /// `read-page`: the three texts that are read from a page, each behind its length.
+    ReadPage,
 }
 
 /// The command that the words after the program's name name, `None` where they name none.
-pub fn command_of(words: &[&str]) -> Option<Command>
+pub fn command_of<'w>(words: &[&'w str]) -> Option<Command<'w>>
     ensures { MatchOption result (NamesNoCommand (map (λ word. word.now) words.now))
         (λ command. words_of command ≡ map (λ word. word.now) words.now) }
 {
     match words {
+        ["read-page"] => Some(Command::ReadPage),
+        ["page", first, second, third] => Some(Command::Page(first, second, third)),
         [name] => match operation_named(name) {
             Some(operation) => Some(Command::Operation(operation)),
             None => None,

@@ -1,25 +1,27 @@
 //! The command-line tool as a library, over any allocator, reader and writer.
 //!
-//! A run goes by steps: the words name a command, all of the input is read, the command's text is
-//! made in memory, and only then written.
+//! A run goes by steps: the words name a command, its input is read, its text is made in memory, and
+//! only then written.
 #![tactic(auto)]
 
 ghost use Rattle.std.specs.Prelude.{map};
 ghost use Rattle.hesc_tool.specs.Run.{RanAs};
 
+mod answers;
 mod commands;
 mod faults;
+mod lines;
 mod names;
 mod steps;
 
 use crate::commands::command_of;
 pub use crate::faults::Fault;
-use crate::steps::{answer, read_whole};
+use crate::steps::{answer, input_of};
 use std::alloc::Allocator;
 use std::io::{Read, Write};
 
 /// Runs the command that `args`, the words after the program's name, name: reads all that `input`
-/// has left, and writes the command's text of it to `output`.
+/// has left, unless the command reads no input, and writes the command's text of it to `output`.
 ///
 /// Nothing is written before all else has succeeded, so only `Fault::Write` leaves anything behind,
 /// a beginning of the text. A reader that never ends comes to `Fault::Memory`.
@@ -36,7 +38,7 @@ pub fn run<A: Allocator, R: Read, W: Write>(
     let Some(command) = command_of(args) else {
         return Err(Fault::Usage);
     };
-    let bytes = match read_whole(&alloc, input) {
+    let bytes = match input_of(&alloc, command, input) {
         Ok(bytes) => bytes,
         Err(fault) => return Err(fault),
     };

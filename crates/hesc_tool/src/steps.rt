@@ -1,21 +1,22 @@
-//! The steps of a run after its words: all of the input is read, and the command's answer to it is
-//! made and then written.
-ghost use Rattle.std.specs.Prelude.{◌≡◌, IfErr, IfOk, Ok, OnErr, OnOk};
+//! The steps of a run after its words: the command's input is read, and its answer is made and then
+//! written.
+ghost use Rattle.std.specs.Prelude.{◌≡◌, IfErr, IfOk, OnErr, OnOk};
 ghost use Rattle.std.specs.Io.KnownBytes.{Appends};
 ghost use Rattle.hesc_specs.specs.Beginning.{AppendsBeginning};
-ghost use Rattle.html_escape.specs.Operations.{operation_text};
-ghost use Rattle.hesc_tool.specs.Answers.{answer_to, enclosing};
-ghost use Rattle.hesc_tool.specs.Steps.{AnsweredAs, IsMade, IsReadingFault, WasRead};
+ghost use Rattle.hesc_tool.specs.Steps.{
+  AnsweredAs,
+  IsReadingFault,
+  IsTakingFault,
+  WasRead,
+  WasTaken,
+};
 ghost use Rattle.hesc_tool.specs.declared.faults.Fault.{Fault};
 
+use crate::answers::made;
 use crate::commands::Command;
 use crate::faults::Fault;
-use hesc_core::forms::append_to_string;
-use hesc_places::{Place, PlaceFault, append_enclosed};
-use html_escape::{Encoder, Operation};
 use std::alloc::Allocator;
 use std::io::{Read, Write};
-use std::str;
 
 /// How many bytes a read is offered.
 const READ_SIZE: usize = 4096;
@@ -42,6 +43,25 @@ pub fn read_whole<A: Allocator, R: Read>(alloc: A, input: &mut R) -> Result<Vec<
     }
 }
 
+/// The input of the command: all bytes that the reader has left, or none where the command reads
+/// no input.
+pub fn input_of<A: Allocator, R: Read>(
+    alloc: A,
+    command: Command<'_>,
+    input: &mut R,
+) -> Result<Vec<u8, A>, Fault>
+    ensures taken { IfOk result
+        (λ bytes. WasTaken command.entry (R.remaining input.old) (R.remaining input.new) bytes.items) }
+    ensures fault { IfErr result (IsTakingFault command.entry) }
+{
+    match command {
+        Command::Page(..) => Ok(Vec::new(alloc)),
+        Command::Operation(_) | Command::Enclose(..) | Command::ReadPage => {
+            read_whole(alloc, input)
+        }
+    }
+}
+
 /// Writes all of the bytes. A write that fails for any reason, or takes no byte, is `Write`.
 pub fn write_whole<W: Write>(bytes: &[u8], output: &mut W) -> Result<(), Fault>
     ensures all { OnOk result (Appends (W.contents output.old) (W.contents output.new) bytes.now) }
@@ -62,59 +82,17 @@ pub fn write_whole<W: Write>(bytes: &[u8], output: &mut W) -> Result<(), Fault>
     Ok(())
 }
 
-/// What the command answers to a text, in memory.
-fn made<A: Allocator>(alloc: A, command: Command, text: &str) -> Result<String<A>, Fault>
-    ensures { IsMade (answer_to command text.now) result }
-{
-    match command {
-        Command::Operation(operation) => operated(alloc, operation, text),
-        Command::Enclose(encoder, place) => enclosed(alloc, encoder, place, text),
-    }
-}
-
-// What the operation makes of a text.
-fn operated<A: Allocator>(alloc: A, operation: Operation, text: &str) -> Result<String<A>, Fault>
-    ensures { IsMade (Ok (operation_text operation text.now)) result }
-{
-    let mut output = String::new(alloc);
-    if append_to_string(&mut output, &operation, text).is_err() {
-        return Err(Fault::Memory);
-    }
-    Ok(output)
-}
-
-// The text between the marks of the place, if it can stand there.
-fn enclosed<A: Allocator>(
+/// Makes the command's answer to its input, and only then writes its text.
+pub fn answer<A: Allocator + Clone, W: Write>(
     alloc: A,
-    encoder: Encoder,
-    place: Place,
-    text: &str,
-) -> Result<String<A>, Fault>
-    ensures { IsMade (enclosing encoder place text.now) result }
-{
-    let mut output = String::new(alloc);
-    match append_enclosed(&mut output, encoder, place, text) {
-        Ok(()) => Ok(output),
-        Err(PlaceFault::NotForPlace) => Err(Fault::NotForPlace),
-        Err(PlaceFault::EmptyUnquoted) => Err(Fault::EmptyUnquoted),
-        Err(PlaceFault::Memory) => Err(Fault::Memory),
-    }
-}
-
-/// Makes the command's answer to the whole input, and only then writes its text.
-pub fn answer<A: Allocator, W: Write>(
-    alloc: A,
-    command: Command,
+    command: Command<'_>,
     input: &[u8],
     output: &mut W,
 ) -> Result<(), Fault>
-    ensures { AnsweredAs command input.now (W.contents output.old) (W.contents output.new) result }
+    ensures { AnsweredAs command.entry input.now (W.contents output.old) (W.contents output.new) result }
 {
-    let Ok(text) = str::from_utf8(input) else {
-        return Err(Fault::NotUtf8);
-    };
-    match made(alloc, command, text) {
-        Ok(made) => write_whole(made.as_str().as_bytes(), output),
+    match made(alloc, command, input) {
+        Ok(made) => write_whole(made.as_slice(), output),
         Err(fault) => Err(fault),
     }
 }

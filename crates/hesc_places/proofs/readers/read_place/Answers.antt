@@ -3,17 +3,17 @@ use Rattle.std.proofs.lemmas.Bool.{eqb-false}
 use Rattle.hesc_places.proofs.ReadingTurns.{ends, knows_nothing, lacks_byte, lacks_character, goes_past_byte, goes_past_character}
 use Rattle.hesc_places.proofs.readers.read_place.Goals as goal
 
-pub returns-in-Close : goal.returns-in-Close
-returns-in-Close g c = ends c.reading.invariant (eqb-false _ 0 (sym c.reading-test.ensures)) c.in-Close.ensures
+pub returns-in-Close-clause-value : goal.returns-in-Close-clause-value
+returns-in-Close-clause-value g c = ends c.reading.invariant (eqb-false _ 0 (sym c.reading-test.ensures)) c.in-Close.ensures
 
-pub returns-in-Nothing : goal.returns-in-Nothing
-returns-in-Nothing g c = knows_nothing c.reading.invariant (eqb-false _ 0 (sym c.reading-test.ensures)) c.in-Nothing.ensures
+pub returns-in-Nothing-clause-value : goal.returns-in-Nothing-clause-value
+returns-in-Nothing-clause-value g c = knows_nothing c.reading.invariant (eqb-false _ 0 (sym c.reading-test.ensures)) c.in-Nothing.ensures
 
-pub returns-then-more-rest : goal.returns-then-more-rest
-returns-then-more-rest g c = lacks_byte c.reading.invariant (eqb-false _ 0 (sym c.reading-test.ensures)) c.in-Byte.ensures c.if-more-rest.true
+pub returns-then-more-rest-clause-value : goal.returns-then-more-rest-clause-value
+returns-then-more-rest-clause-value g c = lacks_byte c.reading.invariant (eqb-false _ 0 (sym c.reading-test.ensures)) c.in-Byte.ensures c.if-more-rest.true
 
-pub returns-then-more-rest-2 : goal.returns-then-more-rest-2
-returns-then-more-rest-2 g c = lacks_character c.reading.invariant (eqb-false _ 0 (sym c.reading-test.ensures)) c.in-Character.ensures c.if-more-rest-2.true
+pub returns-then-more-rest-2-clause-value : goal.returns-then-more-rest-2-clause-value
+returns-then-more-rest-2-clause-value g c = lacks_character c.reading.invariant (eqb-false _ 0 (sym c.reading-test.ensures)) c.in-Character.ensures c.if-more-rest-2.true
 
 pub reading-preserved-in-Byte : goal.reading-preserved-in-Byte
 reading-preserved-in-Byte g c =

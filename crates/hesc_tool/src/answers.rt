@@ -1,0 +1,90 @@
+//! What each command answers to an input, made in memory.
+ghost use Rattle.std.specs.Prelude.{◌≡◌, Ok};
+ghost use Rattle.html_escape.specs.Operations.{operation_text};
+ghost use Rattle.hesc_places.specs.PageReadings.{page_reading};
+ghost use Rattle.hesc_tool.specs.Answers.{Answers, AnswersText, enclosing, lines_of, page_of};
+ghost use Rattle.hesc_tool.specs.Steps.{IsMade};
+
+use crate::commands::Command;
+use crate::faults::Fault;
+use crate::lines::read_lines;
+use hesc_core::forms::append_to_string;
+use hesc_places::{Place, PlaceFault, append_enclosed, append_page};
+use html_escape::{Encoder, Operation};
+use std::alloc::{AllocError, Allocator};
+use std::str;
+
+/// What the command answers to the input.
+pub fn made<A: Allocator + Clone>(
+    alloc: A,
+    command: Command<'_>,
+    input: &[u8],
+) -> Result<Vec<u8, A>, Fault>
+    ensures { IsMade (Answers command.entry input.now) result }
+{
+    match command {
+        Command::Operation(operation) => operated(alloc, operation, input),
+        Command::Enclose(encoder, place) => enclosed(alloc, encoder, place, input),
+        Command::Page(first, second, third) => page(alloc, first, second, third),
+        Command::ReadPage => lines(alloc, input),
+    }
+}
+
+// What the operation makes of a text.
+fn operated<A: Allocator>(alloc: A, operation: Operation, input: &[u8]) -> Result<Vec<u8, A>, Fault>
+    ensures { IsMade (AnswersText input.now (Ok (operation_text operation input.now))) result }
+{
+    let Ok(text) = str::from_utf8(input) else {
+        return Err(Fault::NotUtf8);
+    };
+    let mut output = String::new(alloc);
+    if append_to_string(&mut output, &operation, text).is_err() {
+        return Err(Fault::Memory);
+    }
+    Ok(output.into_bytes())
+}
+
+// The text between the marks of the place, if it can stand there.
+fn enclosed<A: Allocator>(
+    alloc: A,
+    encoder: Encoder,
+    place: Place,
+    input: &[u8],
+) -> Result<Vec<u8, A>, Fault>
+    ensures { IsMade (AnswersText input.now (enclosing encoder place input.now)) result }
+{
+    let Ok(text) = str::from_utf8(input) else {
+        return Err(Fault::NotUtf8);
+    };
+    let mut output = String::new(alloc);
+    match append_enclosed(&mut output, encoder, place, text) {
+        Ok(()) => Ok(output.into_bytes()),
+        Err(PlaceFault::NotForPlace) => Err(Fault::NotForPlace),
+        Err(PlaceFault::EmptyUnquoted) => Err(Fault::EmptyUnquoted),
+        Err(PlaceFault::Memory) => Err(Fault::Memory),
+    }
+}
+
+// The page of three texts, if the first is not empty.
+fn page<A: Allocator>(alloc: A, first: &str, second: &str, third: &str) -> Result<Vec<u8, A>, Fault>
+    ensures { IsMade (λ answer. page_of first.now second.now third.now ≡ answer) result }
+{
+    let mut output = String::new(alloc);
+    match append_page(&mut output, first, second, third) {
+        Ok(()) => Ok(output.into_bytes()),
+        Err(PlaceFault::NotForPlace) => Err(Fault::NotForPlace),
+        Err(PlaceFault::EmptyUnquoted) => Err(Fault::EmptyUnquoted),
+        Err(PlaceFault::Memory) => Err(Fault::Memory),
+    }
+}
+
+// The lines of the page that is read, if there is one.
+fn lines<A: Allocator + Clone>(alloc: A, input: &[u8]) -> Result<Vec<u8, A>, Fault>
+    ensures { IsMade (λ answer. lines_of (page_reading input.now) ≡ answer) result }
+{
+    match read_lines(alloc, input) {
+        Ok(Some(lines)) => Ok(lines),
+        Ok(None) => Err(Fault::NoPage),
+        Err(AllocError) => Err(Fault::Memory),
+    }
+}
