@@ -20,7 +20,7 @@ use crate::tag_reader::{attributes_at, differ};
 use std::alloc::{AllocError, Allocator, Global};
 
 /// What stands in a form, and where it ends.
-#[derive(Debug, PartialEq, Eq, Drop)]
+#[derive(Debug, Drop, PartialEq, Eq)]
 pub struct Form<A: Allocator = Global> {
     /// The attributes in order, each with its name, how its value is quoted, and its value.
     pub attributes: Vec<(Vec<u8, A>, Quoting, Vec<u8, A>), A>,

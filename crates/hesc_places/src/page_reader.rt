@@ -9,7 +9,7 @@ use crate::quoting::Quoting;
 use std::alloc::{AllocError, Allocator, Global};
 
 /// What stands in a page, and where it ends.
-#[derive(Debug, PartialEq, Eq, Drop)]
+#[derive(Debug, Drop, PartialEq, Eq)]
 pub struct Page<A: Allocator = Global> {
     /// The value of the tag's first attribute.
     pub first: Vec<u8, A>,

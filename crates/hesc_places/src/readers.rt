@@ -8,7 +8,7 @@ use crate::places::Place;
 use std::alloc::{AllocError, Allocator, Global};
 
 /// What stands in a place, and where it ends.
-#[derive(Debug, PartialEq, Eq, Drop)]
+#[derive(Debug, Drop, PartialEq, Eq)]
 pub struct Reading<A: Allocator = Global> {
     /// The bytes that were read, each item's value.
     pub value: Vec<u8, A>,
