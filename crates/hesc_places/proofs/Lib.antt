@@ -23,6 +23,7 @@ pub mod AttributeTurns
 pub mod Fronts
 pub mod PagesOfTwo
 pub mod ThreeParts
+mod OneReading
 mod Trials
 mod FirstSemicolon
 mod ReadingTurns

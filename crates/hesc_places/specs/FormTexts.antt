@@ -6,10 +6,15 @@ use Rattle.hesc_specs.specs.Ascii.{space, double_quote, single_quote, equals_sig
 use Rattle.hesc_specs.specs.Nul.{nul}
 use Rattle.html_escape.specs.declared.encoder.Encoder.TheVariants as encoder
 use Rattle.html_escape.specs.Encoders.{encoded}
+use Rattle.hesc_places.specs.declared.attribute.Attribute.{Attribute}
 use Rattle.hesc_places.specs.declared.quoting.Quoting.{Quoting}
 use Rattle.hesc_places.specs.declared.quoting.Quoting.TheVariants.{Unquoted, Single, Double}
-use Rattle.hesc_places.specs.AttributeReadings.{Entry, differ}
+use Rattle.hesc_places.specs.AttributeReadings.{Entry, differ, entry}
 use Rattle.hesc_places.specs.FormReadings.{FormRead}
+
+-- an attribute that is to be written
+abbrev pub written : Attribute → Entry
+written a = entry a.name.now a.quoting a.value.now
 
 -- a value as it stands in the tag
 abbrev pub value_text : Quoting → List ℕ → List ℕ

@@ -20,7 +20,7 @@ use crate::tag_reader::{attributes_at, differ};
 use std::alloc::{AllocError, Allocator, Global};
 
 /// What stands in a form, and where it ends.
-#[derive(Debug, PartialEq, Eq, Drop)]
+#[derive(Debug, Drop, PartialEq, Eq)]
 pub struct Form<A: Allocator = Global> {
     /// The attributes in order, each with its name, how its value is quoted, and its value.
     pub attributes: Vec<(Vec<u8, A>, Quoting, Vec<u8, A>), A>,
@@ -30,8 +30,9 @@ pub struct Form<A: Allocator = Global> {
     pub end: usize,
 }
 
-/// Reads a form from the front of the bytes: an input's tag with any attributes, and a script. There
-/// is `None` exactly where there is no reading. The bytes need be no UTF-8.
+/// Reads a form from the front of the bytes: an input's tag with any attributes, no two of one name,
+/// and a script that hands one string to `alert`. There is `None` exactly where there is no reading,
+/// and `AllocError` where memory, or a copy of `alloc`, is refused. The bytes need be no UTF-8.
 #[tactic(auto, unfolding(crate::specs::FormReadings::form_reading))]
 pub fn read_form<A: Allocator + Clone>(
     alloc: A,

@@ -1,7 +1,9 @@
 //! The laws of places: each is a function that does nothing and whose contract is the law.
-ghost use Rattle.std.specs.Prelude.{◌≡◌, ◌≢◌, ◌++◌, false, length, IsTrue, Some};
+ghost use Rattle.std.specs.Prelude.{◌≡◌, ◌≢◌, ◌++◌, false, length, map, IsTrue, Some};
 ghost use Rattle.hesc_specs.specs.Bodies.{body_encoding};
 ghost use Rattle.html_escape.specs.Encoders.{encoded};
+ghost use Rattle.hesc_places.specs.FormReadings.{form_reading};
+ghost use Rattle.hesc_places.specs.FormTexts.{AreGood, form_back, form_text, written};
 ghost use Rattle.hesc_places.specs.Marks.{closing};
 ghost use Rattle.hesc_places.specs.PageReadings.{page_reading};
 ghost use Rattle.hesc_places.specs.PageTexts.{page_back, page_text};
@@ -11,6 +13,7 @@ ghost use Rattle.hesc_places.specs.ReadBack.{read_back};
 ghost use Rattle.hesc_places.specs.Trials.{PassesTrial};
 ghost use Rattle.hesc_places.specs.Words.{is_end_tag};
 
+use crate::attribute::Attribute;
 use crate::places::Place;
 use hesc_core::Element;
 use html_escape::Encoder;
@@ -46,4 +49,13 @@ pub fn page_law(a: &str, b: &str, c: &str, rest: &[u8])
     requires { length a.now ≢ 0 }
     ensures { page_reading (page_text a.now b.now c.now ++ rest.now)
         ≡ Some (page_back a.now b.now c.now) }
+{}
+
+/// The text of a form with good attributes is read back as these attributes in order (an unquoted
+/// value with U+FFFD for NUL) and the script's string, whatever follows it, and ends exactly where it
+/// ends.
+pub fn form_law(attributes: &[Attribute], script: &str, rest: &[u8])
+    requires { AreGood (map written attributes.now) }
+    ensures { form_reading (form_text (map written attributes.now) script.now ++ rest.now)
+        ≡ Some (form_back (map written attributes.now) script.now) }
 {}

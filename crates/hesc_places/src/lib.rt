@@ -3,9 +3,11 @@
 //! A place begins behind its opening mark. Its grammar, which comes from a public standard, says
 //! where it ends and what it holds. The law of places ties the two sides: what a suiting encoder
 //! wrote ends exactly at the closing mark, whatever follows, and is read as the text. [`enclose`]
-//! writes a text for a place, marks and all, or says why it cannot.
+//! writes a text for a place, marks and all, or says why it cannot. A page has three such places:
+//! [`build_page`] writes it, and [`read_page`] reads it back.
 #![tactic(auto)]
 
+mod attribute;
 mod enclosed;
 mod enclosing;
 mod fault;
@@ -23,8 +25,10 @@ mod readers;
 mod suiting;
 mod tag_reader;
 
+pub use crate::attribute::Attribute;
 pub use crate::enclosing::{append_enclosed, enclose};
 pub use crate::fault::PlaceFault;
+pub use crate::form_reader::{Form, read_form};
 pub use crate::page_builder::{append_page, build_page};
 pub use crate::page_reader::{Page, read_page};
 pub use crate::places::{End, Place};

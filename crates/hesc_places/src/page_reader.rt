@@ -9,7 +9,7 @@ use crate::quoting::Quoting;
 use std::alloc::{AllocError, Allocator, Global};
 
 /// What stands in a page, and where it ends.
-#[derive(Debug, PartialEq, Eq, Drop)]
+#[derive(Debug, Drop, PartialEq, Eq)]
 pub struct Page<A: Allocator = Global> {
     /// The value of the tag's first attribute.
     pub first: Vec<u8, A>,
@@ -23,7 +23,8 @@ pub struct Page<A: Allocator = Global> {
 
 /// Reads a page from the front of the bytes: an input's tag with exactly two attributes, of any
 /// names and quoting, and a script that hands one string to `alert`. There is `None` exactly where
-/// there is no reading. The bytes need be no UTF-8.
+/// there is no reading, and `AllocError` where memory, or a copy of `alloc`, is refused. The bytes
+/// need be no UTF-8.
 #[tactic(auto, unfolding(crate::specs::PageReadings::page_reading))]
 pub fn read_page<A: Allocator + Clone>(
     alloc: A,

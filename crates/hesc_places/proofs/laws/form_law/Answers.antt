@@ -1,0 +1,7 @@
+use Rattle.std.proofs.Common.{map}
+use Rattle.hesc_places.specs.FormTexts.{written}
+use Rattle.hesc_places.proofs.FormLaw.{form_again}
+use Rattle.hesc_places.proofs.laws.form_law.Goals as goal
+
+pub returns : goal.returns
+returns c = form_again (map written c.args.attributes.now) c.args.script.now c.args.rest.now c.requires c.utf8.script
