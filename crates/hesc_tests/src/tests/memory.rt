@@ -3,7 +3,8 @@ use crate::Refusing;
 use crate::tests::calls::{Call, fuller_rows, rows_of, to_cow, to_string, to_vec};
 use crate::tests::operations::OPERATIONS;
 use crate::tests::rows::{Held, Row};
-use html_escape::EntityTable;
+use hesc_core::{Sink, StringSink, VecSink, run};
+use html_escape::{EntityTable, Operation};
 use std::alloc::{AllocError, Allocator, Global};
 use std::process::Abort;
 use std::test::Fail;
@@ -137,4 +138,25 @@ fn is_same(added: &[u8], made: &str) -> bool {
 
 fn is_x_and(output: &[u8], added: &str) -> bool {
     output.strip_prefix(b"x") == Some(added.as_bytes())
+}
+
+#[test]
+fn nothing_added_takes_no_memory(rt: HostRuntime) {
+    let heap = Refusing::new(rt.alloc(), 1);
+    for operation in OPERATIONS {
+        assert!(rt; adds_nothing(&heap, operation), "{operation:?}");
+    }
+    assert_eq!(rt; heap.asked(1), 0);
+}
+
+// An empty piece, and the run over an empty text, into sinks without room.
+fn adds_nothing<A: Allocator + Copy>(heap: A, operation: Operation) -> bool {
+    let mut string = String::new(heap);
+    let mut string_sink = StringSink::new(&mut string);
+    let mut vec = Vec::new(heap);
+    let mut vec_sink = VecSink::new(&mut vec);
+    string_sink.put("").is_ok()
+        && run(&operation, "", &mut string_sink).is_ok()
+        && vec_sink.put("").is_ok()
+        && run(&operation, "", &mut vec_sink).is_ok()
 }

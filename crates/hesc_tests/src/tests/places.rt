@@ -1,8 +1,7 @@
-//! Texts between the marks of a place: what is appended, the faults, and refused memory.
+//! Texts between the marks of a place: what is appended, and the faults.
 use crate::Refusing;
 use hesc_places::{End, Place, PlaceFault, append_enclosed, enclose, suits};
 use html_escape::Encoder;
-use std::alloc::Global;
 use std::process::Abort;
 use std::test::Fail;
 
@@ -178,36 +177,4 @@ fn a_fault_leaves_the_output(rt: HostRuntime) -> Result<(), Fail> {
         assert_eq!(rt; heap.asked(1), 0, "{encoder:?} in {place:?}");
     }
     Ok(())
-}
-
-#[test]
-fn a_refused_request_leaves_the_output(rt: HostRuntime) -> Result<(), Fail> {
-    for row in ENCLOSED {
-        for number in 1..=2u64 {
-            refuse(&rt, rt.alloc(), row, number)?;
-        }
-    }
-    Ok(())
-}
-
-// One request where there is no room.
-fn refuse(rt: &impl Abort, alloc: Global, row: Row, number: u64) -> Result<(), Fail> {
-    let (encoder, place, text, enclosed) = row;
-    let heap = Refusing::new(alloc, 0);
-    let mut output = String::with_capacity(&heap, 1)?;
-    output.push('x')?;
-    heap.refuse(number);
-    let is_ok = append_enclosed(&mut output, encoder, place, text) == Ok(());
-    let added = if is_ok { enclosed } else { "" };
-    assert_eq!(rt; is_ok, number != 1, "{encoder:?} in {place:?}");
-    assert_eq!(rt; heap.asked(number), 1, "{encoder:?} in {place:?}");
-    assert!(rt;
-        is_x_and(output.as_str(), added),
-        "{encoder:?} in {place:?}"
-    );
-    Ok(())
-}
-
-fn is_x_and(output: &str, added: &str) -> bool {
-    output.strip_prefix("x") == Some(added)
 }
