@@ -12,6 +12,7 @@ mod readings;
 mod references;
 mod refusing;
 mod rows;
+mod scan;
 mod streams;
 mod tool;
 mod writers;
