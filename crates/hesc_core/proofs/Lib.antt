@@ -1,9 +1,12 @@
 pub mod Capped
+mod ChunkSearch
 mod EscapeSearch
+mod FlagTable
 mod FoundBytes
 mod Halving
 pub mod HandsOn
 pub mod HandsOnTable
+mod LaneLemmas
 mod OpeningSearch
 mod Progress
 mod Seam

@@ -1,4 +1,5 @@
 pub mod Text
+pub mod ClassNumbers
 pub mod Next
 pub mod Pieces
 pub mod Sinks

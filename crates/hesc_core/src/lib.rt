@@ -8,8 +8,10 @@
 pub mod engine;
 pub mod entities;
 pub mod find;
+mod flags;
 pub mod forms;
 pub mod found;
+mod lanes;
 pub mod laws;
 pub mod openings;
 pub mod pieces;

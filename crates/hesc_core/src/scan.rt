@@ -7,11 +7,59 @@ ghost use Rattle.hesc_specs.specs.EscapedPlaces.{
 };
 ghost use Rattle.hesc_specs.specs.FirstPlace.{IsFirstAt, IsFirstPlace};
 
+use crate::flags::is_in;
+pub use crate::flags::{FLAGS, flags_agree};
+use crate::lanes::hits;
 use hesc_specs::Class;
+use std::simd::prelude::*;
 
 /// The least place at or after `from` whose byte is in the class, or the length where there is
 /// none.
 pub fn first_in(class: Class, bytes: &[u8], from: usize) -> usize
+    requires { from ≤ length bytes.now }
+    ensures { IsFirstPlace (in_class class) bytes.now from result }
+{
+    // With each class named, each arm is a loop of that class's comparisons alone.
+    match class {
+        Class::TextMinimal => first_by_lanes(Class::TextMinimal, bytes, from),
+        Class::Text => first_by_lanes(Class::Text, bytes, from),
+        Class::DoubleQuotedAttribute => first_by_lanes(Class::DoubleQuotedAttribute, bytes, from),
+        Class::SingleQuotedAttribute => first_by_lanes(Class::SingleQuotedAttribute, bytes, from),
+        Class::QuotedAttribute => first_by_lanes(Class::QuotedAttribute, bytes, from),
+        Class::Safe => first_by_lanes(Class::Safe, bytes, from),
+        Class::UnquotedAttribute => first_by_lanes(Class::UnquotedAttribute, bytes, from),
+        Class::ScriptSingleQuoted => first_by_lanes(Class::ScriptSingleQuoted, bytes, from),
+        Class::ScriptDoubleQuoted => first_by_lanes(Class::ScriptDoubleQuoted, bytes, from),
+        Class::ScriptQuoted => first_by_lanes(Class::ScriptQuoted, bytes, from),
+        Class::StyleSingleQuoted => first_by_lanes(Class::StyleSingleQuoted, bytes, from),
+        Class::StyleDoubleQuoted => first_by_lanes(Class::StyleDoubleQuoted, bytes, from),
+        Class::StyleQuoted => first_by_lanes(Class::StyleQuoted, bytes, from),
+    }
+}
+
+#[inline(always)]
+fn first_by_lanes(class: Class, bytes: &[u8], from: usize) -> usize
+    requires { from ≤ length bytes.now }
+    ensures { IsFirstPlace (in_class class) bytes.now from result }
+{
+    // Where much is replaced, the first byte often is.
+    if from < bytes.len() && is_in(class, bytes[from]) {
+        return from;
+    }
+    let (chunks, _) = bytes[from..].as_chunks::<32>();
+    let mut place = from;
+    for chunk in chunks {
+        let mask = hits(class, u8x32::from_array(*chunk));
+        if mask != 0 {
+            return place + mask.trailing_zeros() as usize;
+        }
+        place += 32;
+    }
+    first_by_one(class, bytes, place)
+}
+
+#[inline(always)]
+fn first_by_one(class: Class, bytes: &[u8], from: usize) -> usize
     requires { from ≤ length bytes.now }
     ensures { IsFirstPlace (in_class class) bytes.now from result }
 {
@@ -43,24 +91,4 @@ fn completes_separator(rest: &[u8]) -> bool
     ensures { result ≡ completes rest.now }
 {
     matches!(rest, [0x80, 0xA8 | 0xA9, ..])
-}
-
-fn is_in(class: Class, byte: u8) -> bool
-    ensures { result ≡ in_class class byte }
-{
-    match class {
-        Class::TextMinimal => matches!(byte, b'&' | b'<'),
-        Class::Text => matches!(byte, b'&' | b'<' | b'>'),
-        Class::DoubleQuotedAttribute => matches!(byte, b'&' | b'<' | b'>' | b'"'),
-        Class::SingleQuotedAttribute => matches!(byte, b'&' | b'<' | b'>' | b'\''),
-        Class::QuotedAttribute => matches!(byte, b'&' | b'<' | b'>' | b'"' | b'\''),
-        Class::Safe => matches!(byte, b'&' | b'<' | b'>' | b'"' | b'\'' | b'/'),
-        Class::UnquotedAttribute => byte.is_ascii() && !byte.is_ascii_alphanumeric(),
-        Class::ScriptSingleQuoted => matches!(byte, 0..=31 | b'\\' | b'<' | b'\'' | 0xE2),
-        Class::ScriptDoubleQuoted => matches!(byte, 0..=31 | b'\\' | b'<' | b'"' | 0xE2),
-        Class::ScriptQuoted => matches!(byte, 0..=31 | b'\\' | b'<' | b'\'' | b'"' | 0xE2),
-        Class::StyleSingleQuoted => matches!(byte, 0..=31 | b'\\' | b'<' | b'\''),
-        Class::StyleDoubleQuoted => matches!(byte, 0..=31 | b'\\' | b'<' | b'"'),
-        Class::StyleQuoted => matches!(byte, 0..=31 | b'\\' | b'<' | b'\'' | b'"'),
-    }
 }

@@ -17,6 +17,7 @@ mod references;
 mod refusing;
 mod rows;
 mod runs;
+mod scan;
 mod streams;
 mod tool;
 mod words;

@@ -1,5 +1,6 @@
 //! Texts and what each operation makes of them: worked by hand, or as the Rust crate answers them.
 mod bodies;
+pub mod first_places;
 mod html;
 pub mod references;
 mod script_strings;

@@ -1,0 +1,85 @@
+-- A search that goes by chunks of 32 bytes: where a chunk stands, and what its mask tells.
+use Rattle.std.proofs.Common.{◌≡◌, ℕ, zero, suc, ◌+◌, ◌*◌, ◌-◌, ◌/◌, ◌≤◌, ◌<◌, Fits, w8, Bool, true, false, not, cond, List, [], ◌∷◌, drop, length, get_or, map, sym, subst, ap, ◌∙◌, arith, inl, inr}
+use Rattle.std.proofs.lemmas.Bool.{cases_lt}
+use Rattle.std.proofs.lemmas.List.{drop-drop, length-drop, take_all}
+use Rattle.std.proofs.lemmas.Simd.{below_from_Fits, chunk-fits, length-chunk, none_from_empty_mask, run_in_chunk_fails, run_in_chunk_stops, trailing_mask_l}
+use Rattle.std.proofs.Math.Nat.{mul-suc, mul-zero}
+use Rattle.std.specs.Int.Count.{count_trailing_zeros}
+use Rattle.std.specs.List.{prefix_len}
+use Rattle.std.specs.Simd.Lanes.{Each1, mask_l}
+use Rattle.std.specs.Simd.{first_chunks}
+use lib.Lanes.{chunk}
+use Rattle.hesc_specs.specs.FirstPlace.{IsFirstPlace}
+
+get_or-first_chunks : (n k i : ℕ) (xs : List ℕ) → i < k → get_or (first_chunks n k xs) i [] ≡ chunk (n * i) n xs
+get_or-first_chunks n zero i xs within = absurd (omega arith)
+get_or-first_chunks n (suc k) zero xs within = ap (λ j. chunk j n xs) (sym (mul-zero n))
+get_or-first_chunks n (suc k) (suc i) xs within =
+    get_or-first_chunks n k i (drop n xs) (omega arith) ∙ ap (chunk 0 n) (drop-drop (n * i) n xs) ∙ ap (λ j. chunk j n xs) (omega (arith, mul-suc n i))
+
+-- these are the 32 bytes from a place on
+pub record StandsAt (bytes : List ℕ) (place : ℕ) (found : List ℕ) : Type 0 where
+  pub room : place + 32 ≤ length bytes
+  pub bytes_there : found ≡ chunk place 32 bytes
+
+-- the chunks of the bytes from a place on
+module _ (bytes : List ℕ) (from : ℕ) (chunks : List (List ℕ)) (i : ℕ) (within : from ≤ length bytes)
+    (front : chunks ≡ first_chunks 32 (length (chunk from (length bytes - from) bytes) / 32) (chunk from (length bytes - from) bytes))
+    (many : length chunks ≡ length (chunk from (length bytes - from) bytes) / 32) (inside : i < length chunks) where
+  rest : chunk from (length bytes - from) bytes ≡ drop from bytes
+  rest = take_all (length bytes - from) (drop from bytes) (omega (arith, length-drop from bytes))
+
+  count : length chunks ≡ (length bytes - from) / 32
+  count = many ∙ ap (λ l. length l / 32) rest ∙ ap (λ n. n / 32) (length-drop from bytes)
+
+  pub chunk_stands : (place : ℕ) → place ≡ from + 32 * i → StandsAt bytes place (get_or chunks i [])
+  chunk_stands place is = record {
+    room = omega (arith, is, count, inside, within);
+    bytes_there =
+        ap (λ l. get_or l i []) front
+        ∙ get_or-first_chunks 32 (length (chunk from (length bytes - from) bytes) / 32) i (chunk from (length bytes - from) bytes) (omega (arith, many, inside))
+        ∙ ap (λ l. chunk (32 * i) 32 l) rest
+        ∙ ap (chunk 0 32) (drop-drop (32 * i) from bytes)
+        ∙ ap (λ at. chunk at 32 bytes) (sym is);
+  }
+
+pub below_256 : (bytes found : List ℕ) (place : ℕ) → ((k : ℕ) → Fits w8 (get_or bytes k 0)) → StandsAt bytes place found → Each1 (λ b. b < 256) found
+below_256 bytes found place fits stands = subst (Each1 (λ b. b < 256)) (sym stands.bytes_there) (below_from_Fits w8 _ (chunk-fits w8 place 32 bytes fits))
+
+stop : (b : Bool) (n m l : ℕ) → 0 < cond b 1 0 + 2 * n → (0 < n → m < l) → cond (not b) (1 + m) 0 < suc l
+stop true n m l some f = omega arith
+stop false n m l some f = omega (arith, f (omega arith))
+
+stops : (test : ℕ → Bool) (xs : List ℕ) → 0 < mask_l (map test xs) → prefix_len (λ x. not (test x)) xs < length xs
+stops test [] some = absurd (omega arith)
+stops test (x ∷ xs) some = stop (test x) (mask_l (map test xs)) (prefix_len (λ y. not (test y)) xs) (length xs) some (stops test xs)
+
+-- the mask of 32 bytes, where no byte before them passes the test
+module _ (test : ℕ → Bool) (bytes found : List ℕ) (from place mask : ℕ) (after : from ≤ place)
+    (none : (k : ℕ) → from ≤ k → k < place → test (get_or bytes k 0) ≡ false)
+    (stands : StandsAt bytes place found) (masks : mask ≡ mask_l (map test found)) where
+  is : mask ≡ mask_l (map test (chunk place 32 bytes))
+  is = masks ∙ ap (λ l. mask_l (map test l)) stands.bytes_there
+
+  pub first_by_mask : 0 < mask → IsFirstPlace test bytes from (place + count_trailing_zeros 64 mask)
+  first_by_mask some =
+      let long = length-chunk place 32 bytes stands.room in
+      let set : 0 < mask_l (map test (chunk place 32 bytes)) = omega (arith, is) in
+      let counted : count_trailing_zeros 64 mask ≡ prefix_len (λ x. not (test x)) (chunk place 32 bytes) =
+      ap (count_trailing_zeros 64) is ∙ trailing_mask_l test 64 (chunk place 32 bytes) (omega (arith, long)) set in
+      let short : count_trailing_zeros 64 mask < 32 = omega (arith, counted, long, stops test (chunk place 32 bytes) set) in
+      record {
+        ordered = omega arith;
+        in_range = omega (arith, stands.room);
+        before = λ k from_k below. elim (cases_lt k place) [
+          | inl earlier ↦ none k from_k earlier
+          | inr later ↦ run_in_chunk_fails test bytes place 32 _ 0 stands.room counted k later below
+        ];
+        found = λ _. run_in_chunk_stops test bytes place 32 _ 0 stands.room counted short;
+      }
+
+  pub none_by_mask : mask ≡ 0 → (k : ℕ) → from ≤ k → k < place + 32 → test (get_or bytes k 0) ≡ false
+  none_by_mask empty k from_k below = elim (cases_lt k place) [
+    | inl earlier ↦ none k from_k earlier
+    | inr later ↦ none_from_empty_mask test bytes place 32 0 stands.room (sym is ∙ empty) k later below
+  ]

@@ -1,0 +1,44 @@
+//! Which of 32 bytes are in a class, by comparisons of all of them at once.
+ghost use Rattle.std.specs.Prelude.{◌≡◌, ◌<◌, map};
+ghost use Rattle.std.specs.Simd.Lanes.{Each1, mask_l};
+ghost use Rattle.hesc_specs.specs.Classes.{in_class};
+
+use hesc_specs::Class;
+use std::simd::prelude::*;
+
+/// Bit `k` of the answer is set exactly if byte `k` is in the class.
+#[inline(always)]
+pub(crate) fn hits(class: Class, v: u8x32) -> u64
+    requires { Each1 (λ b. b < 256) v }
+    ensures { result ≡ mask_l (map (in_class class) v) }
+{
+    let less = v.simd_eq(u8x32::splat(b'<'));
+    let markup = v.simd_eq(u8x32::splat(b'&')) | less;
+    let brackets = markup | v.simd_eq(u8x32::splat(b'>'));
+    let double = v.simd_eq(u8x32::splat(b'"'));
+    let single = v.simd_eq(u8x32::splat(b'\''));
+    let slash = v.simd_eq(u8x32::splat(b'/'));
+    let controls = v.simd_lt(u8x32::splat(32));
+    let string = controls | v.simd_eq(u8x32::splat(b'\\')) | less;
+    let lead = v.simd_eq(u8x32::splat(0xE2));
+    let letters = (v | u8x32::splat(0x20)) - u8x32::splat(b'a');
+    let digits = v - u8x32::splat(b'0');
+    let symbols = v.simd_lt(u8x32::splat(128))
+        & letters.simd_ge(u8x32::splat(26))
+        & digits.simd_ge(u8x32::splat(10));
+    match class {
+        Class::TextMinimal => markup.to_bitmask(),
+        Class::Text => brackets.to_bitmask(),
+        Class::DoubleQuotedAttribute => (brackets | double).to_bitmask(),
+        Class::SingleQuotedAttribute => (brackets | single).to_bitmask(),
+        Class::QuotedAttribute => (brackets | double | single).to_bitmask(),
+        Class::Safe => (brackets | double | single | slash).to_bitmask(),
+        Class::UnquotedAttribute => symbols.to_bitmask(),
+        Class::ScriptSingleQuoted => (string | single | lead).to_bitmask(),
+        Class::ScriptDoubleQuoted => (string | double | lead).to_bitmask(),
+        Class::ScriptQuoted => (string | single | double | lead).to_bitmask(),
+        Class::StyleSingleQuoted => (string | single).to_bitmask(),
+        Class::StyleDoubleQuoted => (string | double).to_bitmask(),
+        Class::StyleQuoted => (string | single | double).to_bitmask(),
+    }
+}
