@@ -5,7 +5,7 @@ use crate::tests::operations::OPERATIONS;
 use crate::tests::readers::survives_reading;
 use crate::tests::readings::PLACES;
 use crate::tests::rows::{Row, rows};
-use hesc_places::{End, Place, append_enclosed, suits};
+use hesc_places::{End, Place, PlaceFault, enclose, suits};
 use html_escape::{Encoder, Operation};
 use std::alloc::{AllocError, Global};
 use std::process::Abort;
@@ -141,7 +141,11 @@ fn survives_enclosing(
     let mut output = String::with_capacity(&heap, 1)?;
     output.push('x')?;
     heap.refuse(number);
-    let is_ok = append_enclosed(&mut output, encoder, place, text) == Ok(());
-    let added = if is_ok { whole } else { "" };
-    Ok(is_ok == (number != 1) && heap.asked(number) == 1 && output.strip_prefix("x") == Some(added))
+    let (answer, added) = if number == 1 {
+        (Err(PlaceFault::Memory), "")
+    } else {
+        (Ok(whole), whole)
+    };
+    let is_right = enclose(encoder, place, text, &mut output) == answer;
+    Ok(is_right && heap.asked(number) == 1 && output.strip_prefix("x") == Some(added))
 }
