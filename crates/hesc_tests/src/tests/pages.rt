@@ -1,6 +1,6 @@
 //! Pages: what is appended, what is read back, the fault, and refused memory.
 use crate::Refusing;
-use hesc_places::{PlaceFault, append_page, build_page, read_page};
+use hesc_places::{PlaceFault, build_page, read_page};
 use std::alloc::{AllocError, Allocator, Global};
 use std::process::Abort;
 use std::test::Fail;
@@ -44,7 +44,7 @@ fn an_empty_value_leaves_the_output(rt: HostRuntime) -> Result<(), Fail> {
     let heap = Refusing::new(rt.alloc(), 0);
     let mut output = String::from_str(&heap, "x")?;
     heap.refuse(1);
-    let answer = append_page(&mut output, "", TEXTS[1], TEXTS[2]);
+    let answer = build_page("", TEXTS[1], TEXTS[2], &mut output);
     assert!(rt; answer == Err(PlaceFault::EmptyUnquoted));
     assert!(rt; is_x_and(output.as_str(), ""));
     assert!(rt; heap.asked(1) == 0);
@@ -76,9 +76,13 @@ fn builds(alloc: Global, number: u64) -> Result<bool, AllocError> {
     let mut output = String::with_capacity(&heap, 1)?;
     output.push('x')?;
     heap.refuse(number);
-    let is_ok = append_page(&mut output, TEXTS[0], TEXTS[1], TEXTS[2]) == Ok(());
-    let added = if is_ok { PAGE } else { "" };
-    Ok(is_ok == (number != 1) && heap.asked(number) == 1 && is_x_and(output.as_str(), added))
+    let (answer, added) = if number == 1 {
+        (Err(PlaceFault::Memory), "")
+    } else {
+        (Ok(PAGE), PAGE)
+    };
+    let is_right = build_page(TEXTS[0], TEXTS[1], TEXTS[2], &mut output) == answer;
+    Ok(is_right && heap.asked(number) == 1 && is_x_and(output.as_str(), added))
 }
 
 fn is_x_and(output: &str, added: &str) -> bool {
