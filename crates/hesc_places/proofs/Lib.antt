@@ -22,7 +22,11 @@ pub mod PageLaw
 pub mod AttributeTurns
 pub mod Fronts
 pub mod PagesOfTwo
-pub mod ThreeParts
+pub mod PartsTaken
+pub mod NamesOfLetters
+pub mod LastGaps
+pub mod GoodAttributes
+pub mod AnsweredFaults
 mod OneReading
 mod Trials
 mod FirstSemicolon

@@ -17,3 +17,4 @@ pub mod FormReadings
 pub mod PageReadings
 pub mod FormTexts
 pub mod PageTexts
+pub mod FormFaults

@@ -8,17 +8,20 @@
 #![tactic(auto)]
 
 mod attribute;
+mod attribute_checks;
 mod enclosed;
 mod enclosing;
 mod fault;
+mod form_builder;
+mod form_fault;
 mod form_reader;
+mod form_text;
 mod front;
 mod grammar;
 pub mod laws;
 mod marks;
 mod page_builder;
 mod page_reader;
-mod page_text;
 mod places;
 mod quoting;
 mod readers;
@@ -28,6 +31,8 @@ mod tag_reader;
 pub use crate::attribute::Attribute;
 pub use crate::enclosing::{append_enclosed, enclose};
 pub use crate::fault::PlaceFault;
+pub use crate::form_builder::{append_form, build_form};
+pub use crate::form_fault::FormFault;
 pub use crate::form_reader::{Form, read_form};
 pub use crate::page_builder::{append_page, build_page};
 pub use crate::page_reader::{Page, read_page};

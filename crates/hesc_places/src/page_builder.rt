@@ -6,8 +6,10 @@ ghost use Rattle.hesc_core.specs.Forms.{Appended, StringAppended, string_room};
 ghost use Rattle.hesc_places.specs.PageTexts.{page_text};
 ghost use Rattle.hesc_places.specs.declared.fault.PlaceFault.TheVariants.{EmptyUnquoted, NotForPlace};
 
+use crate::attribute::Attribute;
 use crate::fault::PlaceFault;
-use crate::page_text::append_page_text;
+use crate::form_text::append_form_text;
+use crate::quoting::Quoting;
 use std::alloc::{AllocError, Allocator};
 
 /// Appends a page: an input whose value is `a`, unquoted, and whose placeholder is `b`, in double
@@ -72,7 +74,19 @@ pub fn append_page<A: Allocator>(
     if a.is_empty() {
         return Err(PlaceFault::EmptyUnquoted);
     }
-    match append_page_text(output, a, b, c) {
+    let attributes = [
+        Attribute {
+            name: "value",
+            quoting: Quoting::Unquoted,
+            value: a,
+        },
+        Attribute {
+            name: "placeholder",
+            quoting: Quoting::Double,
+            value: b,
+        },
+    ];
+    match append_form_text(output, &attributes, c) {
         Ok(()) => Ok(()),
         Err(AllocError) => Err(PlaceFault::Memory),
     }

@@ -4,6 +4,7 @@ mod answers;
 mod calls;
 mod commands;
 mod enclosings;
+mod forms;
 mod hostile;
 mod memory;
 mod operations;

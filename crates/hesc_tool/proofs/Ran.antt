@@ -5,7 +5,7 @@ use Rattle.hesc_tool.specs.Run.{RanAs}
 use Rattle.hesc_tool.specs.Steps.{AnsweredAs, WasTaken}
 use Rattle.hesc_tool.specs.declared.commands.Command.{Command}
 use Rattle.hesc_tool.specs.declared.faults.Fault.{Fault}
-use Rattle.hesc_tool.specs.declared.faults.Fault.TheVariants.{Usage, Read, NotUtf8, NoPage, NotForPlace, EmptyUnquoted, Memory, Write}
+use Rattle.hesc_tool.specs.declared.faults.Fault.TheVariants.{Usage, Read, NotUtf8, NoPage, NotForPlace, EmptyUnquoted, BadName, Memory, Write}
 
 -- the words name a command, all of the input was read, and the command's answer was written
 pub ran : (words : List (List ℕ)) (command : Command) (input : List ℕ) (reader reader' writer writer' : Option (List ℕ))
@@ -25,4 +25,6 @@ ran words command input reader reader' writer writer' (Err NoPage) named read an
 ran words command input reader reader' writer writer' (Err NotForPlace) named read answered =
     ((command, input, named, read, answered.0), answered.1)
 ran words command input reader reader' writer writer' (Err EmptyUnquoted) named read answered =
+    ((command, input, named, read, answered.0), answered.1)
+ran words command input reader reader' writer writer' (Err BadName) named read answered =
     ((command, input, named, read, answered.0), answered.1)

@@ -7,7 +7,7 @@ use Rattle.hesc_specs.specs.Beginning.{AppendsBeginning}
 use Rattle.hesc_tool.specs.Steps.{AnsweredAs}
 use Rattle.hesc_tool.specs.declared.commands.Command.{Command}
 use Rattle.hesc_tool.specs.declared.faults.Fault.{Fault}
-use Rattle.hesc_tool.specs.declared.faults.Fault.TheVariants.{Usage, Read, NotUtf8, NoPage, NotForPlace, EmptyUnquoted, Memory, Write}
+use Rattle.hesc_tool.specs.declared.faults.Fault.TheVariants.{Usage, Read, NotUtf8, NoPage, NotForPlace, EmptyUnquoted, BadName, Memory, Write}
 
 -- n bytes were written, and then the next m
 pub Appends-next : (a b c : Option (List ℕ)) (bytes : List ℕ) (n m : ℕ)
@@ -30,5 +30,6 @@ answered command input text a b (Err NotUtf8) answers all began fault = absurd (
 answered command input text a b (Err NoPage) answers all began fault = absurd (cc)
 answered command input text a b (Err NotForPlace) answers all began fault = absurd (cc)
 answered command input text a b (Err EmptyUnquoted) answers all began fault = absurd (cc)
+answered command input text a b (Err BadName) answers all began fault = absurd (cc)
 answered command input text a b (Err Memory) answers all began fault = absurd (cc)
 answered command input text a b (Err Write) answers all began fault = (text, answers, began)

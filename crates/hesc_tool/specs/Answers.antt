@@ -1,19 +1,26 @@
 -- What a command answers to an input: its text, or the first refusal that applies.
-use Rattle.std.specs.Prelude.{◌≡◌, ℕ, Bool, true, false, if◌then◌else◌, List, [], ◌∷◌, Option, Some, None, Result, Ok, Err}
+use Rattle.std.specs.Prelude.{◌≡◌, ℕ, Bool, true, false, if◌then◌else◌, List, [], ◌∷◌, map, Option, Some, None, Result, Ok, Err}
 use Rattle.std.specs.Str.{IsUtf8}
 use Rattle.html_escape.specs.Operations.{operation_text}
 use Rattle.html_escape.specs.declared.encoder.Encoder.{Encoder}
+use Rattle.hesc_places.specs.AttributeReadings.{Entry}
 use Rattle.hesc_places.specs.Enclosed.{enclosed}
+use Rattle.hesc_places.specs.FormFaults.{first_fault}
+use Rattle.hesc_places.specs.FormReadings.{FormRead, form_reading}
+use Rattle.hesc_places.specs.FormTexts.{form_text}
 use Rattle.hesc_places.specs.PageReadings.{PageRead, page_reading}
 use Rattle.hesc_places.specs.PageTexts.{page_text}
 use Rattle.hesc_places.specs.Suits.{suits}
+use Rattle.hesc_places.specs.declared.form_fault.FormFault.{FormFault}
+use Rattle.hesc_places.specs.declared.form_fault.FormFault.TheVariants as form_fault
 use Rattle.hesc_places.specs.declared.places.Place.{Place}
 use Rattle.hesc_places.specs.declared.places.Place.TheVariants.{UnquotedAttribute}
-use Rattle.hesc_tool.specs.Lines.{page_lines}
+use Rattle.hesc_tool.specs.FormWords.{AreWordsOf}
+use Rattle.hesc_tool.specs.Lines.{form_lines, page_lines}
 use Rattle.hesc_tool.specs.declared.commands.Command.{Command}
-use Rattle.hesc_tool.specs.declared.commands.Command.TheVariants.{Operation, Enclose, Page, ReadPage}
+use Rattle.hesc_tool.specs.declared.commands.Command.TheVariants.{Operation, Enclose, Page, ReadPage, Form, ReadForm}
 use Rattle.hesc_tool.specs.declared.faults.Fault.{Fault}
-use Rattle.hesc_tool.specs.declared.faults.Fault.TheVariants.{NotUtf8, NoPage, NotForPlace, EmptyUnquoted}
+use Rattle.hesc_tool.specs.declared.faults.Fault.TheVariants.{NotUtf8, NoPage, NotForPlace, EmptyUnquoted, BadName, Memory}
 
 -- an unquoted value that is empty
 abbrev pub is_empty_unquoted : Place → List ℕ → Bool
@@ -35,6 +42,31 @@ abbrev pub lines_of : Option PageRead → Result (List ℕ) Fault
 lines_of None = Err NoPage
 lines_of (Some page) = Ok (page_lines page)
 
+-- how the tool names what is wrong with an attribute
+abbrev pub refusal_of : FormFault → Fault
+refusal_of (form_fault.BadName place) = BadName
+refusal_of (form_fault.EmptyUnquoted place) = EmptyUnquoted
+refusal_of form_fault.Memory = Memory
+
+-- this text, unless something is wrong
+abbrev pub unless_wrong : Option FormFault → List ℕ → Result (List ℕ) Fault
+unless_wrong None text = Ok text
+unless_wrong (Some fault) text = Err (refusal_of fault)
+
+-- the form of these attributes and this script string, if nothing is wrong with the attributes
+abbrev pub form_of : List Entry → List ℕ → Result (List ℕ) Fault
+form_of attributes script = unless_wrong (first_fault attributes) (form_text attributes script)
+
+-- the answer to words that name attributes
+abbrev pub AnswersForm : List ℕ → List (List ℕ) → Result (List ℕ) Fault → Type 0
+AnswersForm script words answer =
+    (attributes : List Entry) × AreWordsOf attributes words × (form_of attributes script ≡ answer)
+
+-- the lines of the form that was read, if there is one
+abbrev pub form_lines_of : Option FormRead → Result (List ℕ) Fault
+form_lines_of None = Err NoPage
+form_lines_of (Some form) = Ok (form_lines form)
+
 -- the answer to a text: first comes NotUtf8, exactly where the input is no text
 abbrev pub AnswersText : List ℕ → Result (List ℕ) Fault → Result (List ℕ) Fault → Type 0
 AnswersText input wanted (Err NotUtf8) = IsUtf8 input → ⊥
@@ -46,3 +78,5 @@ Answers (Operation operation) input answer = AnswersText input (Ok (operation_te
 Answers (Enclose encoder place) input answer = AnswersText input (enclosing encoder place input) answer
 Answers (Page first second third) input answer = page_of first.now second.now third.now ≡ answer
 Answers ReadPage input answer = lines_of (page_reading input) ≡ answer
+Answers (Form form) input answer = AnswersForm form.script.now (map (λ word. word.now) form.attributes.now) answer
+Answers ReadForm input answer = form_lines_of (form_reading input) ≡ answer

@@ -1,7 +1,7 @@
 -- How a fault ends the program.
 use Rattle.std.specs.Prelude.{ℕ, List, codes}
 use Rattle.hesc_tool.specs.declared.faults.Fault.{Fault}
-use Rattle.hesc_tool.specs.declared.faults.Fault.TheVariants.{Usage, Read, NotUtf8, NoPage, NotForPlace, EmptyUnquoted, Memory, Write}
+use Rattle.hesc_tool.specs.declared.faults.Fault.TheVariants.{Usage, Read, NotUtf8, NoPage, NotForPlace, EmptyUnquoted, BadName, Memory, Write}
 
 -- the program's status
 abbrev pub status_of : Fault → ℕ
@@ -11,6 +11,7 @@ status_of NotUtf8 = 1
 status_of NoPage = 1
 status_of NotForPlace = 1
 status_of EmptyUnquoted = 1
+status_of BadName = 1
 status_of Memory = 1
 status_of Write = 1
 
@@ -22,5 +23,6 @@ line_of NotUtf8 = codes "hesc: input is not UTF-8"
 line_of NoPage = codes "hesc: no page"
 line_of NotForPlace = codes "hesc: encoder does not suit the place"
 line_of EmptyUnquoted = codes "hesc: empty unquoted value"
+line_of BadName = codes "hesc: bad attribute name"
 line_of Memory = codes "hesc: out of memory"
 line_of Write = codes "hesc: output cannot be written"

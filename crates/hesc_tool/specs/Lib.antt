@@ -1,4 +1,5 @@
 pub mod Names
+pub mod FormWords
 pub mod Commands
 pub mod Faults
 pub mod Lines

@@ -1,4 +1,4 @@
--- The words that name the operations, the encoders among them, and the places.
+-- The words that name the operations, the encoders among them, the places, and how a value is quoted.
 use Rattle.std.specs.Prelude.{◌≡◌, ℕ, List, codes}
 use Rattle.html_escape.specs.declared.decoder.Decoder.{Decoder}
 use Rattle.html_escape.specs.declared.decoder.Decoder.TheVariants as decoder
@@ -6,6 +6,8 @@ use Rattle.html_escape.specs.declared.encoder.Encoder.{Encoder}
 use Rattle.html_escape.specs.declared.encoder.Encoder.TheVariants as encoder
 use Rattle.html_escape.specs.declared.operation.Operation.{Operation}
 use Rattle.html_escape.specs.declared.operation.Operation.TheVariants.{Encode, Decode}
+use Rattle.hesc_places.specs.declared.quoting.Quoting.{Quoting}
+use Rattle.hesc_places.specs.declared.quoting.Quoting.TheVariants as quoting
 use Rattle.hesc_places.specs.declared.places.End.TheVariants.{Tab, LineFeed, FormFeed, Space, Greater}
 use Rattle.hesc_places.specs.declared.places.Place.{Place}
 use Rattle.hesc_places.specs.declared.places.Place.TheVariants.{Text, DoubleAttribute, SingleAttribute, UnquotedAttribute, ScriptSingle, ScriptDouble, StyleSingle, StyleDouble, ScriptBody, StyleBody}
@@ -61,6 +63,12 @@ place_name StyleSingle = codes "style-single"
 place_name StyleDouble = codes "style-double"
 place_name ScriptBody = codes "script-body"
 place_name StyleBody = codes "style-body"
+
+-- the letter for how a value is quoted
+abbrev pub quoting_name : Quoting → List ℕ
+quoting_name quoting.Unquoted = codes "u"
+quoting_name quoting.Single = codes "s"
+quoting_name quoting.Double = codes "d"
 
 -- the word is the name of this one
 abbrev pub IsNameOf : {T : Type 0} → (T → List ℕ) → List ℕ → T → Type 0

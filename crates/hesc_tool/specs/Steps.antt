@@ -5,7 +5,7 @@ use Rattle.hesc_specs.specs.Beginning.{AppendsBeginning}
 use Rattle.hesc_tool.specs.Answers.{Answers}
 use Rattle.hesc_tool.specs.Commands.{ReadsInput}
 use Rattle.hesc_tool.specs.declared.commands.Command.{Command}
-use Rattle.hesc_tool.specs.declared.commands.Command.TheVariants.{Page}
+use Rattle.hesc_tool.specs.declared.commands.Command.TheVariants.{Page, Form}
 use Rattle.hesc_tool.specs.declared.faults.Fault.{Fault}
 use Rattle.hesc_tool.specs.declared.faults.Fault.TheVariants.{Usage, Read, Memory, Write}
 
@@ -16,6 +16,7 @@ WasRead reader reader' bytes = Consumes reader reader' bytes × IsAtEnd reader'
 -- the input of a command is all that the reader gave, or empty where the command reads none
 abbrev pub WasTaken : Command → Option (List ℕ) → Option (List ℕ) → List ℕ → Type 0
 WasTaken (Page first second third) reader reader' input = Keeps reader reader' × (input ≡ [])
+WasTaken (Form form) reader reader' input = Keeps reader reader' × (input ≡ [])
 WasTaken other reader reader' input = WasRead reader reader' input
 
 -- a fault that reading can end in

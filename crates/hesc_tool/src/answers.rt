@@ -1,15 +1,25 @@
 //! What each command answers to an input, made in memory.
-ghost use Rattle.std.specs.Prelude.{◌≡◌, Ok};
+ghost use Rattle.std.specs.Prelude.{◌≡◌, map, Ok};
 ghost use Rattle.html_escape.specs.Operations.{operation_text};
+ghost use Rattle.hesc_places.specs.FormReadings.{form_reading};
 ghost use Rattle.hesc_places.specs.PageReadings.{page_reading};
-ghost use Rattle.hesc_tool.specs.Answers.{Answers, AnswersText, enclosing, lines_of, page_of};
+ghost use Rattle.hesc_tool.specs.Answers.{
+  Answers,
+  AnswersForm,
+  AnswersText,
+  enclosing,
+  form_lines_of,
+  lines_of,
+  page_of,
+};
 ghost use Rattle.hesc_tool.specs.Steps.{IsMade};
 
 use crate::commands::Command;
 use crate::faults::Fault;
-use crate::lines::read_lines;
+use crate::form_words::{FormWords, attributes_of};
+use crate::lines::{read_form_lines, read_lines};
 use hesc_core::forms::append_to_string;
-use hesc_places::{Place, PlaceFault, append_enclosed, append_page};
+use hesc_places::{FormFault, Place, PlaceFault, append_enclosed, append_form, append_page};
 use html_escape::{Encoder, Operation};
 use std::alloc::{AllocError, Allocator};
 use std::str;
@@ -27,6 +37,8 @@ pub fn made<A: Allocator + Clone>(
         Command::Enclose(encoder, place) => enclosed(alloc, encoder, place, input),
         Command::Page(first, second, third) => page(alloc, first, second, third),
         Command::ReadPage => lines(alloc, input),
+        Command::Form(words) => form(alloc, words),
+        Command::ReadForm => form_lines(alloc, input),
     }
 }
 
@@ -84,6 +96,37 @@ fn lines<A: Allocator + Clone>(alloc: A, input: &[u8]) -> Result<Vec<u8, A>, Fau
 {
     match read_lines(alloc, input) {
         Ok(Some(lines)) => Ok(lines),
+        Ok(None) => Err(Fault::NoPage),
+        Err(AllocError) => Err(Fault::Memory),
+    }
+}
+
+// The form of the attributes that the words name, if nothing is wrong with them.
+fn form<A: Allocator + Clone>(alloc: A, words: FormWords<'_>) -> Result<Vec<u8, A>, Fault>
+    ensures { IsMade (AnswersForm words.entry.script.now
+        (map (λ word. word.now) words.entry.attributes.now)) result }
+{
+    let Ok(own) = alloc.clone() else {
+        return Err(Fault::Memory);
+    };
+    let Ok(attributes) = attributes_of(own, words) else {
+        return Err(Fault::Memory);
+    };
+    let mut output = String::new(alloc);
+    match append_form(&mut output, attributes.as_slice(), words.script) {
+        Ok(()) => Ok(output.into_bytes()),
+        Err(FormFault::BadName(_)) => Err(Fault::BadName),
+        Err(FormFault::EmptyUnquoted(_)) => Err(Fault::EmptyUnquoted),
+        Err(FormFault::Memory) => Err(Fault::Memory),
+    }
+}
+
+// The lines of the form that is read, if there is one.
+fn form_lines<A: Allocator + Clone>(alloc: A, input: &[u8]) -> Result<Vec<u8, A>, Fault>
+    ensures { IsMade (λ answer. form_lines_of (form_reading input.now) ≡ answer) result }
+{
+    match read_form_lines(alloc, input) {
+        Ok(Some(form)) => Ok(form),
         Ok(None) => Err(Fault::NoPage),
         Err(AllocError) => Err(Fault::Memory),
     }

@@ -1,7 +1,8 @@
 //! The commands, and the words that name them.
 ghost use Rattle.std.specs.Prelude.{◌≡◌, map, MatchOption};
-ghost use Rattle.hesc_tool.specs.Commands.{NamesNoCommand, words_of};
+ghost use Rattle.hesc_tool.specs.Commands.{NamesNoCommand, NamesNoneOfFew, words_of};
 
+use crate::form_words::{FormWords, form_of};
 use crate::names::{encoder_named, operation_named, place_named};
 use hesc_places::Place;
 use html_escape::{Encoder, Operation};
@@ -17,14 +18,33 @@ pub enum Command<'w> {
     Page(&'w str, &'w str, &'w str),
     /// `read-page`: the three texts that are read from a page, each behind its length.
     ReadPage,
+    /// `form SCRIPT [NAME QUOTING VALUE]..`: the form of these attributes. It reads no input.
+    Form(FormWords<'w>),
+    /// `read-form`: the attributes that are read from a form, and its script string.
+    ReadForm,
 }
 
 /// The command that the words after the program's name name, `None` where they name none.
-pub fn command_of<'w>(words: &[&'w str]) -> Option<Command<'w>>
+pub fn command_of<'w>(words: &'w [&'w str]) -> Option<Command<'w>>
     ensures { MatchOption result (NamesNoCommand (map (λ word. word.now) words.now))
         (λ command. words_of command ≡ map (λ word. word.now) words.now) }
 {
+    let ["form", script, attributes @ ..] = words else {
+        return command_of_few(words);
+    };
+    match form_of(script, attributes) {
+        Some(form) => Some(Command::Form(form)),
+        None => None,
+    }
+}
+
+// The same without forms, which alone have any number of words.
+fn command_of_few<'w>(words: &[&'w str]) -> Option<Command<'w>>
+    ensures { MatchOption result (NamesNoneOfFew (map (λ word. word.now) words.now))
+        (λ command. words_of command ≡ map (λ word. word.now) words.now) }
+{
     match words {
+        ["read-form"] => Some(Command::ReadForm),
         ["read-page"] => Some(Command::ReadPage),
         ["page", first, second, third] => Some(Command::Page(first, second, third)),
         [name] => match operation_named(name) {

@@ -17,6 +17,8 @@ pub enum Fault {
     NotForPlace,
     /// The text of an unquoted value is empty.
     EmptyUnquoted,
+    /// The name of an attribute is no name, or that of an earlier one.
+    BadName,
     /// No memory was found.
     Memory,
     /// The output cannot be written.
@@ -35,6 +37,7 @@ impl Fault {
             | Fault::NoPage
             | Fault::NotForPlace
             | Fault::EmptyUnquoted
+            | Fault::BadName
             | Fault::Memory
             | Fault::Write => 1,
         }
@@ -51,6 +54,7 @@ impl Fault {
             Fault::NoPage => "hesc: no page",
             Fault::NotForPlace => "hesc: encoder does not suit the place",
             Fault::EmptyUnquoted => "hesc: empty unquoted value",
+            Fault::BadName => "hesc: bad attribute name",
             Fault::Memory => "hesc: out of memory",
             Fault::Write => "hesc: output cannot be written",
         }

@@ -10,6 +10,7 @@ ghost use Rattle.hesc_tool.specs.Run.{RanAs};
 mod answers;
 mod commands;
 mod faults;
+mod form_words;
 mod lines;
 mod names;
 mod steps;

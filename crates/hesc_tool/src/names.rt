@@ -1,5 +1,6 @@
-//! The words that name the operations, the encoders among them, and the places.
-ghost use Rattle.std.specs.Prelude.{◌≡◌, MatchOption};
+//! The words that name the operations, the encoders among them, the places, and how a value is
+//! quoted.
+ghost use Rattle.std.specs.Prelude.{◌≡◌, [], ◌∷◌, MatchOption};
 ghost use Rattle.hesc_tool.specs.Names.{
   IsNameOf,
   IsNoNameBy,
@@ -7,9 +8,10 @@ ghost use Rattle.hesc_tool.specs.Names.{
   encoder_name,
   operation_name,
   place_name,
+  quoting_name,
 };
 
-use hesc_places::{End, Place};
+use hesc_places::{End, Place, Quoting};
 use html_escape::{Decoder, Encoder, Operation};
 
 /// The operation of this name, `None` where it is none.
@@ -90,5 +92,29 @@ pub fn place_named(word: &str) -> Option<Place>
         "script-body" => Some(Place::ScriptBody),
         "style-body" => Some(Place::StyleBody),
         _ => None,
+    }
+}
+
+/// How a value of this letter is quoted, `None` where it is no such letter.
+pub fn quoting_named(word: &str) -> Option<Quoting>
+    ensures { MatchOption result (IsNoNameBy quoting_name word.now)
+        (IsNameOf quoting_name word.now) }
+{
+    match word {
+        "u" => Some(Quoting::Unquoted),
+        "s" => Some(Quoting::Single),
+        "d" => Some(Quoting::Double),
+        _ => None,
+    }
+}
+
+/// The letter for how a value is quoted.
+pub fn quoting_letter(quoting: Quoting) -> u8
+    ensures { quoting_name quoting ≡ result ∷ [] }
+{
+    match quoting {
+        Quoting::Unquoted => b'u',
+        Quoting::Single => b's',
+        Quoting::Double => b'd',
     }
 }

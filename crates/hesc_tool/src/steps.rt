@@ -55,10 +55,9 @@ pub fn input_of<A: Allocator, R: Read>(
     ensures fault { IfErr result (IsTakingFault command.entry) }
 {
     match command {
-        Command::Page(..) => Ok(Vec::new(alloc)),
-        Command::Operation(_) | Command::Enclose(..) | Command::ReadPage => {
-            read_whole(alloc, input)
-        }
+        Command::Page(..) | Command::Form(_) => Ok(Vec::new(alloc)),
+        Command::Operation(_) | Command::Enclose(..) | Command::ReadPage | Command::ReadForm =>
+            read_whole(alloc, input),
     }
 }
 
