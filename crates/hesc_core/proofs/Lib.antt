@@ -6,6 +6,6 @@ pub mod HandsOn
 pub mod HandsOnTable
 mod OpeningSearch
 mod Progress
-mod Seam
+pub mod Seam
 mod StringEscapes
 mod Told

@@ -3,9 +3,10 @@ use Rattle.std.proofs.Common.{ℕ, zero, suc, ◌≡◌, ◌+◌, ◌<◌, ◌�
 use Rattle.std.proofs.lemmas.Bool.{cases_Bool, cases_eq, cases_lt, and_parts, eqb-true}
 use Rattle.std.proofs.lemmas.Bool.Decides.{nat_tests}
 use Rattle.std.proofs.lemmas.List.{take-append-drop, length-take-le, take_all}
+use Rattle.std.proofs.lemmas.Str.{IsCharBoundary-from_drop, IsUtf8-from_ascii}
 use Rattle.std.specs.Char.{to_ascii_lowercase}
 use Rattle.std.specs.Prelude.{codes}
-use Rattle.std.specs.Str.{IsAscii}
+use Rattle.std.specs.Str.{IsAscii, IsCharBoundary}
 use Rattle.hesc_specs.specs.Ascii.{slash, less_than}
 use Rattle.hesc_specs.specs.Elements.{element_name}
 use Rattle.hesc_specs.specs.Openings.{is_opening}
@@ -14,7 +15,7 @@ use Rattle.hesc_specs.specs.Words.{is_beginning_in_any_case}
 use Rattle.hesc_specs.specs.declared.elements.Element.{Element}
 use Rattle.hesc_specs.specs.declared.elements.Element.TheVariants.{Script, Style}
 use Rattle.hesc_specs.proofs.OpeningLemmas.{HasNoLessThan, name-no_less_than}
-use Rattle.hesc_specs.proofs.SettledBodies.{is_opening-decided}
+use Rattle.hesc_specs.proofs.SettledBodies.{is_opening-decided, undecided_end-undecided}
 
 -- the longest is `<`, `/` and the element's name
 abbrev pub longest_held : ℕ
@@ -138,3 +139,28 @@ decided-front element text decided = (
   ap (is_opening element) (sym (take-append-drop (longest_held + 1) text))
       ∙ is_opening-decided element (take (longest_held + 1) text) (drop (longest_held + 1) text) decided,
 )
+
+-- a character begins where a text is undecided from there on
+pub undecided-boundary : (element : Element) (text : List ℕ) (place : ℕ) → place ≤ length text → is_undecided element (drop place text) ≡ true → IsCharBoundary text place
+undecided-boundary element text place within undecided =
+    IsCharBoundary-from_drop text place within (IsUtf8-from_ascii (drop place text) (undecided-ascii element (drop place text) undecided))
+
+-- bytes that are decided are some
+pub decided-some : (element : Element) (bytes : List ℕ) → is_undecided element bytes ≡ false → 0 < length bytes
+decided-some element [] decided = absurd (cc)
+decided-some element (b ∷ bytes) decided = omega arith
+
+-- what is given out with a piece, by the first bytes of what was held and of the piece
+pub released-front : (element : Element) (held piece front : List ℕ) (opens : Bool) → is_undecided element held ≡ true → front ≡ take (longest_held + 1) (held ++ piece)
+    → is_undecided element front ≡ false → (length held ≡ 0 → opens ≡ false) → (0 < length held → opens ≡ is_opening element front)
+    → (settled_encoding element (held ++ piece) ≡ released opens held ++ settled_encoding element piece) × (undecided_end element (held ++ piece) ≡ undecided_end element piece)
+released-front element held piece front opens undecided is decided none some =
+    let decides = decided-front element (held ++ piece) (rw is at decided) in (
+      settled-released element held piece opens undecided decides.0 none (λ more. some more ∙ rw is (sym decides.1)),
+      undecided_end-released element held piece undecided decides.0,
+    )
+
+-- all that is held is among the first bytes
+pub undecided_end-front : (element : Element) (text : List ℕ) → take (longest_held + 1) (undecided_end element text) ≡ undecided_end element text
+undecided_end-front element text =
+    take_all (longest_held + 1) (undecided_end element text) (omega (arith, undecided-short element (undecided_end element text) (undecided_end-undecided element text)))
