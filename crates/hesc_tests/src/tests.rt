@@ -1,6 +1,10 @@
 //! What no contract says: that the definitions give the values that other programs give, that calls
 //! succeed where memory is there, and how often memory is asked for.
 mod answers;
+mod calls;
+mod commands;
+mod enclosings;
+mod hostile;
 mod memory;
 mod operations;
 mod pages;
@@ -12,6 +16,8 @@ mod readings;
 mod references;
 mod refusing;
 mod rows;
+mod runs;
 mod streams;
 mod tool;
+mod words;
 mod writers;

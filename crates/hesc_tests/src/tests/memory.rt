@@ -1,8 +1,9 @@
 //! Refused memory: the answer is Memory and the output is as it was, or the answer is right.
 use crate::Refusing;
-use crate::tests::operations::{OPERATIONS, make, make_to_string, make_to_vec};
-use crate::tests::rows::{Held, Row, rows};
-use html_escape::Operation;
+use crate::tests::calls::{Call, fuller_rows, rows_of, to_cow, to_string, to_vec};
+use crate::tests::operations::OPERATIONS;
+use crate::tests::rows::{Held, Row};
+use html_escape::EntityTable;
 use std::alloc::{AllocError, Allocator, Global};
 use std::process::Abort;
 use std::test::Fail;
@@ -13,30 +14,44 @@ const REFUSED_REQUESTS: u64 = 2;
 #[test]
 fn every_request_is_refused_in_turn(rt: HostRuntime) -> Result<(), Fail> {
     for operation in OPERATIONS {
-        for row in rows(operation) {
-            for number in 1..=REFUSED_REQUESTS {
-                let is_right = survives_cow(rt.alloc(), operation, *row, number)
-                    && survives_strings(rt.alloc(), operation, *row, number)?
-                    && survives_vecs(rt.alloc(), operation, *row, number)?;
-                assert!(rt; is_right, "{operation:?} of {:?}", row.0);
-            }
-        }
+        let wrong = first_wrong(rt.alloc(), Call::Of(operation))?;
+        assert_eq!(rt; wrong, None, "{operation:?}");
     }
+    let rows = fuller_rows(rt.alloc())?;
+    let Ok(table) = EntityTable::new(rows.as_slice()) else {
+        panic!(rt; "the fuller rows are a table");
+    };
+    assert_eq!(rt; first_wrong(rt.alloc(), Call::By(&table))?, None);
     Ok(())
 }
 
+// The first text of the call that a form does not survive.
+fn first_wrong(alloc: Global, of: Call<'_>) -> Result<Option<&'static str>, AllocError> {
+    for row in rows_of(of) {
+        for number in 1..=REFUSED_REQUESTS {
+            if !survives_cow(alloc, of, *row, number)
+                || !survives_strings(alloc, of, *row, number)?
+                || !survives_vecs(alloc, of, *row, number)?
+            {
+                return Ok(Some(row.0));
+            }
+        }
+    }
+    Ok(None)
+}
+
 // The `Cow` form asks once where something changes, and else not at all.
-fn survives_cow(alloc: Global, operation: Operation, row: Row, number: u64) -> bool {
+fn survives_cow(alloc: Global, of: Call<'_>, row: Row, number: u64) -> bool {
     let (text, made, held) = row;
     let heap = Refusing::new(alloc, number);
-    let is_ok = gives_cow(&heap, operation, text, made);
+    let is_ok = gives_cow(&heap, of, text, made);
     let requests = if held == Held::Borrowed { 0 } else { 1 };
     heap.asked(number) == requests && is_ok == (requests < number)
 }
 
 // Whether the call answers, and then rightly.
-fn gives_cow<A: Allocator>(alloc: A, operation: Operation, text: &str, made: &str) -> bool {
-    match make(operation, alloc, text) {
+fn gives_cow<A: Allocator>(alloc: A, of: Call<'_>, text: &str, made: &str) -> bool {
+    match to_cow(of, alloc, text) {
         Ok(cow) => cow.as_str() == made,
         Err(AllocError) => false,
     }
@@ -50,18 +65,18 @@ fn requests(made: &str, room: usize) -> u64 {
 // The string form without room for what it adds, and with enough of it.
 fn survives_strings(
     alloc: Global,
-    operation: Operation,
+    of: Call<'_>,
     row: Row,
     number: u64,
 ) -> Result<bool, AllocError> {
-    let without = survives_string(alloc, operation, row, 0, number)?;
-    let within = survives_string(alloc, operation, row, row.1.len(), number)?;
+    let without = survives_string(alloc, of, row, 0, number)?;
+    let within = survives_string(alloc, of, row, row.1.len(), number)?;
     Ok(without && within)
 }
 
 fn survives_string(
     alloc: Global,
-    operation: Operation,
+    of: Call<'_>,
     row: Row,
     room: usize,
     number: u64,
@@ -71,7 +86,7 @@ fn survives_string(
     let mut output = String::with_capacity(&heap, room.saturating_add(1))?;
     output.push('x')?;
     heap.refuse(number);
-    let is_ok = match make_to_string(operation, text, &mut output) {
+    let is_ok = match to_string(of, text, &mut output) {
         Ok(added) => is_same(added.as_bytes(), made),
         Err(AllocError) => false,
     };
@@ -85,20 +100,15 @@ fn survives_string(
 }
 
 // The vector form likewise.
-fn survives_vecs(
-    alloc: Global,
-    operation: Operation,
-    row: Row,
-    number: u64,
-) -> Result<bool, AllocError> {
-    let without = survives_vec(alloc, operation, row, 0, number)?;
-    let within = survives_vec(alloc, operation, row, row.1.len(), number)?;
+fn survives_vecs(alloc: Global, of: Call<'_>, row: Row, number: u64) -> Result<bool, AllocError> {
+    let without = survives_vec(alloc, of, row, 0, number)?;
+    let within = survives_vec(alloc, of, row, row.1.len(), number)?;
     Ok(without && within)
 }
 
 fn survives_vec(
     alloc: Global,
-    operation: Operation,
+    of: Call<'_>,
     row: Row,
     room: usize,
     number: u64,
@@ -108,7 +118,7 @@ fn survives_vec(
     let mut output = Vec::with_capacity(&heap, room.saturating_add(1))?;
     output.push(b'x')?;
     heap.refuse(number);
-    let is_ok = match make_to_vec(operation, text, &mut output) {
+    let is_ok = match to_vec(of, text, &mut output) {
         Ok(added) => is_same(added, made),
         Err(AllocError) => false,
     };

@@ -1,4 +1,6 @@
 //! The operations by their values, and the four forms of each.
+ghost use Rattle.std.specs.Prelude.{◌≡◌, ◌<◌, get_or};
+
 use html_escape::*;
 use std::alloc::{AllocError, Allocator};
 use std::borrow::CowStr;
@@ -30,6 +32,43 @@ pub const OPERATIONS: [Operation; 24] = [
     Operation::Decode(Decoder::StyleDoubleQuoted),
     Operation::Decode(Decoder::StyleQuoted),
 ];
+
+/// Where an operation stands among them, so that none can be forgotten.
+pub fn number_of(operation: Operation) -> usize
+    ensures stands { get_or OPERATIONS result operation ≡ operation }
+    ensures within { result < 24 }
+{
+    match operation {
+        Operation::Encode(encoder) => match encoder {
+            Encoder::TextMinimal => 0,
+            Encoder::Text => 1,
+            Encoder::DoubleQuotedAttribute => 2,
+            Encoder::SingleQuotedAttribute => 3,
+            Encoder::QuotedAttribute => 4,
+            Encoder::Safe => 5,
+            Encoder::UnquotedAttribute => 6,
+            Encoder::Script => 7,
+            Encoder::Style => 8,
+            Encoder::ScriptSingleQuoted => 9,
+            Encoder::ScriptDoubleQuoted => 10,
+            Encoder::ScriptQuoted => 11,
+            Encoder::StyleSingleQuoted => 12,
+            Encoder::StyleDoubleQuoted => 13,
+            Encoder::StyleQuoted => 14,
+        },
+        Operation::Decode(decoder) => match decoder {
+            Decoder::HtmlEntities => 15,
+            Decoder::Script => 16,
+            Decoder::Style => 17,
+            Decoder::ScriptSingleQuoted => 18,
+            Decoder::ScriptDoubleQuoted => 19,
+            Decoder::ScriptQuoted => 20,
+            Decoder::StyleSingleQuoted => 21,
+            Decoder::StyleDoubleQuoted => 22,
+            Decoder::StyleQuoted => 23,
+        },
+    }
+}
 
 /// The `Cow` form.
 pub fn make<'t, A: Allocator>(

@@ -34,8 +34,8 @@ fn each_place_is_read_up_to_its_mark(rt: HostRuntime) {
 }
 
 // Whether memory was found, and then whether the reading is this one.
-fn reads<A: Allocator>(alloc: A, place: Place, row: Read) -> Result<bool, AllocError> {
-    let (bytes, value, end) = row;
+fn reads<A: Allocator>(alloc: A, place: Place, read: Read<'_>) -> Result<bool, AllocError> {
+    let (bytes, value, end) = read;
     match read_place(alloc, place, bytes)? {
         Some(found) => Ok(found.value.as_slice() == value && found.end == end),
         None => Ok(false),
@@ -50,32 +50,33 @@ fn reads_nothing(alloc: Global, place: Place, bytes: &[u8]) -> bool {
     }
 }
 
-// More requests than the reading of a row makes.
-const REQUESTS: u64 = 8;
-
 #[test]
 fn every_request_of_a_reader_is_refused_in_turn(rt: HostRuntime) {
     for place in PLACES {
         for row in read_in(place) {
-            for number in 1..=REQUESTS {
-                assert!(rt;
-                    survives(rt.alloc(), place, *row, number),
-                    "{place:?}: {:?}",
-                    row.0
-                );
-            }
+            assert!(rt;
+                survives_reading(rt.alloc(), place, *row),
+                "{place:?}: {:?}",
+                row.0
+            );
         }
     }
 }
 
-// The reading is right, or a request was refused and the answer is Memory; the last time none was.
-fn survives(alloc: Global, place: Place, row: Read, number: u64) -> bool {
-    let heap = Refusing::new(alloc, number);
-    let answer = reads(&heap, place, row);
-    let was_refused = heap.asked(number) >= number;
-    if was_refused {
-        answer.is_err() && number < REQUESTS
-    } else {
-        answer == Ok(true)
+// More requests than a reading makes.
+const REQUESTS: u64 = 16;
+
+/// Whether the answer is Memory where a request is refused, whichever it is, and else the reading.
+pub fn survives_reading(alloc: Global, place: Place, read: Read<'_>) -> bool {
+    for number in 1..=REQUESTS {
+        let heap = Refusing::new(alloc, number);
+        let answer = reads(&heap, place, read);
+        if heap.asked(number) < number {
+            return answer == Ok(true);
+        }
+        if answer.is_ok() {
+            return false;
+        }
     }
+    false
 }

@@ -2,7 +2,7 @@
 use hesc_places::{End, Place};
 
 /// Bytes that have a reading, its value, and its end.
-pub type Read = (&'static [u8], &'static [u8], usize);
+pub type Read<'b> = (&'b [u8], &'b [u8], usize);
 
 pub const PLACES: [Place; 14] = [
     Place::Text,
@@ -22,7 +22,7 @@ pub const PLACES: [Place; 14] = [
 ];
 
 /// Bytes that have a reading in the place.
-pub fn read_in(place: Place) -> &'static [Read] {
+pub fn read_in(place: Place) -> &'static [Read<'static>] {
     match place {
         Place::Text => &READ_TEXT,
         Place::DoubleAttribute => &READ_DOUBLE_ATTRIBUTE,
@@ -61,7 +61,7 @@ pub fn unread_in(place: Place) -> &'static [&'static [u8]] {
     }
 }
 
-const READ_TEXT: [Read; 5] = [
+const READ_TEXT: [Read<'static>; 5] = [
     (b"&#0;<", b"\xef\xbf\xbd", 4),
     (b"&#x41;\x0c\\u2028<script'\n\x00<", b"A\x0c\\u2028", 13),
     (
@@ -83,7 +83,7 @@ const UNREAD_TEXT: [&[u8]; 7] = [
     b"&#x41;\\n/&copy;<'\x0c<",
 ];
 
-const READ_DOUBLE_ATTRIBUTE: [Read; 4] = [
+const READ_DOUBLE_ATTRIBUTE: [Read<'static>; 4] = [
     (
         b"-->&#0;\\x41'\\\\3C <script\"",
         b"-->\xef\xbf\xbd\\x41'\\\\3C <script",
@@ -101,7 +101,7 @@ const UNREAD_DOUBLE_ATTRIBUTE: [&[u8]; 4] = [
     b"\\n<script\\u2028 `&\"",
 ];
 
-const READ_SINGLE_ATTRIBUTE: [Read; 4] = [
+const READ_SINGLE_ATTRIBUTE: [Read<'static>; 4] = [
     (b"amp;\\u2028&quot;=`\r'\\x41", b"amp;\\u2028\"=`\r", 19),
     (b"\\3C <!--'</script&copy;\x0c'", b"\\3C <!--", 8),
     (b"\x0c\n\n&quot;\r\\n'<script", b"\x0c\n\n\"\r\\n", 12),
@@ -115,7 +115,7 @@ const UNREAD_SINGLE_ATTRIBUTE: [&[u8]; 4] = [
     b"<\x00\\3C &copy;=\x0b\t'",
 ];
 
-const READ_UNQUOTED_TAB: [Read; 2] = [
+const READ_UNQUOTED_TAB: [Read<'static>; 2] = [
     (b"\\u2028\t\r&copy;\r\\000026B\"", b"\\u2028", 6),
     (b"amp&#x3B;amp&#x3B;&lt;\t>", b"amp;amp;<", 22),
 ];
@@ -125,7 +125,7 @@ const UNREAD_UNQUOTED_TAB: [&[u8]; 2] = [
     b"\xe2\x80\xa8&#0;/\\n<script\t",
 ];
 
-const READ_UNQUOTED_LINE_FEED: [Read; 2] = [
+const READ_UNQUOTED_LINE_FEED: [Read<'static>; 2] = [
     (b"&amp;&#x23;x41&#x3B;\n\\u2028", b"&#x41;", 20),
     (b"&#x41;\n<scriptamp;\n", b"A", 6),
 ];
@@ -135,7 +135,7 @@ const UNREAD_UNQUOTED_LINE_FEED: [&[u8]; 2] = [
     b">`\\x41</style&copy;",
 ];
 
-const READ_UNQUOTED_FORM_FEED: [Read; 2] = [
+const READ_UNQUOTED_FORM_FEED: [Read<'static>; 2] = [
     (b"&amp;&#x23;0&#x3B;\x0c</style", b"&#0;", 18),
     (b"amp;\x0c</script\\x41\xff\\x41\xff\x0c", b"amp;", 4),
 ];
@@ -145,7 +145,7 @@ const UNREAD_UNQUOTED_FORM_FEED: [&[u8]; 2] = [
     b" >\\x41&copy;\xe2\x80\xa8/\"\x0c",
 ];
 
-const READ_UNQUOTED_SPACE: [Read; 3] = [
+const READ_UNQUOTED_SPACE: [Read<'static>; 3] = [
     (b"&#x00; ", b"\xef\xbf\xbd", 6),
     (b"&#x5C;x41&#x0C;&lt; <script", b"\\x41\x0c<", 19),
     (b"\\\\000026B\r\\3C </style", b"\\\\000026B\r\\3C", 13),
@@ -157,7 +157,7 @@ const UNREAD_UNQUOTED_SPACE: [&[u8]; 3] = [
     b"=amp;\x0b\\3C <script>",
 ];
 
-const READ_UNQUOTED_GREATER: [Read; 3] = [
+const READ_UNQUOTED_GREATER: [Read<'static>; 3] = [
     (b"a&#x20;b>", b"a b", 8),
     (b"&amp;copy&#x3B;>\\000026B", b"&copy;", 15),
     (b"&#x5C;x41></script", b"\\x41", 9),
@@ -169,7 +169,7 @@ const UNREAD_UNQUOTED_GREATER: [&[u8]; 3] = [
     b"\t</script\xe2\x80\xa8&#0;>",
 ];
 
-const READ_SCRIPT_SINGLE: [Read; 5] = [
+const READ_SCRIPT_SINGLE: [Read<'static>; 5] = [
     (b"\\x41\\u0042'", b"AB", 10),
     (
         b"-->\xff</style\\u2028amp;>'",
@@ -203,7 +203,7 @@ const UNREAD_SCRIPT_SINGLE: [&[u8]; 7] = [
     b">\t\\x41</style\xff`",
 ];
 
-const READ_SCRIPT_DOUBLE: [Read; 4] = [
+const READ_SCRIPT_DOUBLE: [Read<'static>; 4] = [
     (
         b"\x00amp;aamp;</style=\\u2028\"",
         b"\x00amp;aamp;</style=\xe2\x80\xa8",
@@ -225,7 +225,7 @@ const UNREAD_SCRIPT_DOUBLE: [&[u8]; 4] = [
     b"&#0;</style\n\\n\x0b<\x0c\"",
 ];
 
-const READ_STYLE_SINGLE: [Read; 6] = [
+const READ_STYLE_SINGLE: [Read<'static>; 6] = [
     (b"\\3C  a'", b"< a", 6),
     (b"\\000026B'", b"&B", 8),
     (b"\\3C \t\x0b=</script-->/'", b"<\t\x0b=</script-->/", 19),
@@ -241,7 +241,7 @@ const UNREAD_STYLE_SINGLE: [&[u8]; 4] = [
     b"</style&#0;\x00\xe2\x80\xa8",
 ];
 
-const READ_STYLE_DOUBLE: [Read; 4] = [
+const READ_STYLE_DOUBLE: [Read<'static>; 4] = [
     (
         b"</style&#x41;\xff\xe2\x80\xa8\\n \"",
         b"</style&#x41;\xff\xe2\x80\xa8n ",
@@ -263,7 +263,7 @@ const UNREAD_STYLE_DOUBLE: [&[u8]; 4] = [
     b"\\u2028\\\x0c<script\\n=>",
 ];
 
-const READ_SCRIPT_BODY: [Read; 8] = [
+const READ_SCRIPT_BODY: [Read<'static>; 8] = [
     (b"<\\!--<script></script>x", b"<\\!--<script>", 13),
     (
         b"<!--<script></script></script>",
@@ -301,7 +301,7 @@ const UNREAD_SCRIPT_BODY: [&[u8]; 4] = [
     b">\"&#x41;<!--\x0bamp;",
 ];
 
-const READ_STYLE_BODY: [Read; 5] = [
+const READ_STYLE_BODY: [Read<'static>; 5] = [
     (b"</style\x0b</style>", b"</style\x0b", 8),
     (
         b"&#0;\\u2028\x0c==\\x41</style>\x00",

@@ -1,36 +1,7 @@
-//! Tables of entities: a fuller one names more, in each form; rows make a table or have their fault.
-use html_escape::*;
+//! Tables of entities: each name has its value, and rows make a table or have their first fault.
+use html_escape::{EntityTable, TableFault};
 use std::process::Abort;
 use std::test::Fail;
-
-const TEXT: &str = "&amp;lt;&AMP;&Amp;&copy;";
-
-const DECODED_WITH_COPY: &str = "&lt;&&Amp;\u{A9}";
-
-// Where `copy` stands among the names of the built-in table.
-const PLACE_OF_COPY: usize = 73;
-
-#[test]
-fn a_fuller_table_names_more(rt: HostRuntime) -> Result<(), Fail> {
-    let mut rows = NAMED_ENTITIES.to_vec(rt.alloc())?;
-    rows.insert(PLACE_OF_COPY, (b"copy", "\u{A9}"))?;
-    let table = match EntityTable::new(rows.as_slice()) {
-        Ok(table) => table,
-        Err(fault) => panic!(rt; "{fault:?}"),
-    };
-    let cow = decode_html_entities_with(rt.alloc(), &table, TEXT)?;
-    assert_eq!(rt; cow.as_str(), DECODED_WITH_COPY);
-    let mut string = String::new(rt.alloc());
-    let part = decode_html_entities_with_to_string(&table, TEXT, &mut string)?;
-    assert_eq!(rt; part, DECODED_WITH_COPY);
-    let mut vec = Vec::new(rt.alloc());
-    let part = decode_html_entities_with_to_vec(&table, TEXT, &mut vec)?;
-    assert_eq!(rt; part, DECODED_WITH_COPY.as_bytes());
-    let mut written = Vec::new(rt.alloc());
-    decode_html_entities_with_to_writer(&table, TEXT, &mut written)?;
-    assert_eq!(rt; written.as_slice(), DECODED_WITH_COPY.as_bytes());
-    Ok(())
-}
 
 #[test]
 fn each_name_has_its_value(rt: HostRuntime) {
@@ -70,4 +41,54 @@ fn rows_have_their_first_fault(rt: HostRuntime) {
     for (rows, fault) in FAULTS {
         assert_eq!(rt; EntityTable::new(rows).err(), Some(fault));
     }
+}
+
+// The rows that every table has.
+const COMMON: [(&[u8], &str); 6] = [
+    (b"amp", "&"),
+    (b"apos", "'"),
+    (b"gt", ">"),
+    (b"lt", "<"),
+    (b"nbsp", "\u{A0}"),
+    (b"quot", "\""),
+];
+
+// The fault of the common rows with another row in the place of one.
+fn fault_with(at: usize, row: (&'static [u8], &'static str)) -> Option<TableFault> {
+    let mut rows = COMMON;
+    match rows.get_mut(at) {
+        Some(place) => *place = row,
+        None => return None,
+    }
+    EntityTable::new(&rows).err()
+}
+
+#[test]
+fn each_fault_is_found_at_any_row(rt: HostRuntime) {
+    assert!(rt; EntityTable::new(&COMMON).is_ok());
+    for at in [0usize, 3, 5] {
+        assert_eq!(rt; fault_with(at, (b"", "x")), Some(TableFault::EmptyName(at)));
+        assert_eq!(rt;
+            fault_with(at, (b"a-b", "x")),
+            Some(TableFault::BadName(at))
+        );
+        let wrong = Some(TableFault::WrongCommon(at));
+        assert_eq!(rt; fault_with(at, (COMMON[at].0, "x")), wrong);
+    }
+    for at in [1usize, 3, 5] {
+        let unordered = Some(TableFault::NotAscending(at));
+        assert_eq!(rt; fault_with(at, COMMON[at - 1]), unordered);
+        assert_eq!(rt; fault_with(at, (b"ZZ", "x")), unordered);
+    }
+}
+
+#[test]
+fn each_common_name_is_missed(rt: HostRuntime) -> Result<(), Fail> {
+    for missing in 0..COMMON.len() {
+        let mut rows = COMMON.to_vec(rt.alloc())?;
+        rows.remove(missing);
+        let fault = EntityTable::new(rows.as_slice()).err();
+        assert_eq!(rt; fault, Some(TableFault::MissingCommon(missing)));
+    }
+    Ok(())
 }

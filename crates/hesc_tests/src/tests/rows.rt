@@ -1,7 +1,7 @@
 //! Texts and what each operation makes of them: worked by hand, or as the Rust crate answers them.
 mod bodies;
 mod html;
-mod references;
+pub mod references;
 mod script_strings;
 mod style_strings;
 

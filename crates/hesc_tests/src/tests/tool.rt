@@ -1,18 +1,17 @@
-//! Runs of the tool: what it answers and writes, also over streams and memory that fail.
-use crate::{Refusing, Trouble, WeakReader, WeakWriter, Weakness};
-use hesc_tool::{Fault, run};
-use std::alloc::{Allocator, Global};
+//! Runs of the tool: what each command answers and writes, also over streams and memory that fail.
+use crate::tests::runs::{Run, is_right, survives_readers, survives_refusals, survives_writers};
+use hesc_tool::Fault;
 use std::process::Abort;
 
 // Words, an input, the answer, and what is written.
-type Run = (
+type Row = (
     &'static [&'static str],
     &'static [u8],
     Result<(), Fault>,
     &'static [u8],
 );
 
-const RUNS: [Run; 17] = [
+const RUNS: [Row; 17] = [
     (
         &["encode_text"],
         b"a > b && a < c",
@@ -76,92 +75,47 @@ const PAGE_LINES: &[u8] = b"12 Hello world!\n\
 36 The default value is \"Hello world!\".\n\
 31 <script>'s end tag is </script>\n";
 
-const ENCODE_TEXT: &[&str] = &["encode_text"];
-
-const INPUT: &[u8] = b"a > b";
-
-const TEXT: &[u8] = b"a &gt; b";
-
-fn weakness(at: u64, trouble: Trouble) -> Weakness {
-    Weakness {
-        step: 1,
-        at,
-        trouble,
+fn run_of(row: Row) -> Run<'static> {
+    let (words, input, answer, written) = row;
+    Run {
+        words,
+        input,
+        answer,
+        written,
     }
 }
 
 #[test]
 fn each_command_line_has_its_answer(rt: HostRuntime) {
-    for (words, bytes, answer, written) in RUNS {
-        let mut input = WeakReader::new(bytes, weakness(0, Trouble::Calm));
-        let mut output = WeakWriter::new(rt.alloc(), weakness(0, Trouble::Calm));
-        assert_eq!(rt;
-            run(rt.alloc(), words, &mut input, &mut output),
-            answer,
-            "{words:?}"
-        );
-        assert_eq!(rt; output.taken.as_slice(), written, "{words:?}");
-        if answer == Err(Fault::Usage) {
-            assert_eq!(rt; input.calls, 0, "{words:?}");
-        }
+    for row in RUNS {
+        assert!(rt; is_right(rt.alloc(), run_of(row)), "{:?}", row.0);
     }
 }
 
 #[test]
+fn every_request_of_a_run_is_refused_in_turn(rt: HostRuntime) {
+    for row in RUNS {
+        assert!(rt; survives_refusals(rt.alloc(), run_of(row)), "{:?}", row.0);
+    }
+}
+
+// Whether the run comes to read its input.
+fn reads(row: Row) -> bool {
+    row.2 != Err(Fault::Usage) && row.0.first() != Some(&"page")
+}
+
+#[test]
 fn a_failed_read_is_answered_and_nothing_written(rt: HostRuntime) {
-    for trouble in [Trouble::Fails, Trouble::Interrupted] {
-        for at in 1..=INPUT.len() as u64 + 1 {
-            let mut input = WeakReader::new(INPUT, weakness(at, trouble));
-            let mut output = WeakWriter::new(rt.alloc(), weakness(0, Trouble::Calm));
-            let answer = run(rt.alloc(), ENCODE_TEXT, &mut input, &mut output);
-            assert_eq!(rt; answer, Err(Fault::Read), "{trouble:?} at {at}");
-            assert_eq!(rt; output.calls, 0, "{trouble:?} at {at}");
+    for row in RUNS {
+        if reads(row) {
+            assert!(rt; survives_readers(rt.alloc(), run_of(row)), "{:?}", row.0);
         }
     }
 }
 
 #[test]
 fn a_failed_write_leaves_a_beginning(rt: HostRuntime) {
-    for trouble in [Trouble::Fails, Trouble::Interrupted, Trouble::Idle] {
-        for at in 1..=TEXT.len() as u64 {
-            let mut input = WeakReader::new(INPUT, weakness(0, Trouble::Calm));
-            let mut output = WeakWriter::new(rt.alloc(), weakness(at, trouble));
-            let answer = run(rt.alloc(), ENCODE_TEXT, &mut input, &mut output);
-            assert_eq!(rt; answer, Err(Fault::Write), "{trouble:?} at {at}");
-            assert_eq!(rt; output.calls, at, "{trouble:?} at {at}");
-            assert_eq!(rt; output.taken.len() as u64 + 1, at, "{trouble:?} at {at}");
-            assert!(rt;
-                TEXT.starts_with(output.taken.as_slice()),
-                "{trouble:?} at {at}"
-            );
-        }
+    for row in RUNS {
+        assert!(rt; survives_writers(rt.alloc(), run_of(row)), "{:?}", row.0);
     }
-}
-
-#[test]
-fn every_request_of_a_run_is_refused_in_turn(rt: HostRuntime) {
-    for number in 1..=3u64 {
-        let heap = Refusing::new(rt.alloc(), number);
-        let is_ok = runs_over(&rt, &heap, rt.alloc());
-        assert_eq!(rt; is_ok, heap.asked(number) < number, "{number}");
-    }
-    // The input, and the text that is made of it.
-    let heap = Refusing::new(rt.alloc(), 0);
-    assert!(rt; runs_over(&rt, &heap, rt.alloc()));
-    assert_eq!(rt; heap.asked(0), 2);
-}
-
-// Whether the run succeeds, and then with its text; else it answers Memory and writes nothing.
-fn runs_over<A: Allocator>(rt: &impl Abort, heap: A, alloc: Global) -> bool {
-    let mut input = WeakReader::new(INPUT, weakness(0, Trouble::Calm));
-    let mut output = WeakWriter::new(alloc, weakness(0, Trouble::Calm));
-    let answer = run(heap, ENCODE_TEXT, &mut input, &mut output);
-    let is_ok = answer == Ok(());
-    if is_ok {
-        assert_eq!(rt; output.taken.as_slice(), TEXT);
-    } else {
-        assert_eq!(rt; answer, Err(Fault::Memory));
-        assert_eq!(rt; output.calls, 0);
-    }
-    is_ok
 }

@@ -1,11 +1,13 @@
 //! The writer forms over a writer that takes one byte a call, and has its trouble at one call.
-use crate::tests::operations::{OPERATIONS, make_to_writer};
-use crate::tests::rows::{Row, rows};
+use crate::tests::calls::{Call, fuller_rows, rows_of, to_writer};
+use crate::tests::operations::OPERATIONS;
+use crate::tests::rows::Row;
 use crate::{Trouble, WeakWriter, Weakness};
-use html_escape::{Operation, encode_text_to_writer};
+use html_escape::{EntityTable, encode_text_to_writer};
 use std::alloc::Global;
 use std::io::{self, ErrorKind};
 use std::process::Abort;
+use std::test::Fail;
 
 // A trouble of the writer, and the kind of the fault that is then answered.
 const TROUBLES: [(Trouble, ErrorKind); 3] = [
@@ -23,45 +25,50 @@ fn weakness(at: u64, trouble: Trouble) -> Weakness {
 }
 
 #[test]
-fn a_trouble_at_any_call_is_handed_on(rt: HostRuntime) {
+fn a_trouble_at_any_call_is_handed_on(rt: HostRuntime) -> Result<(), Fail> {
     for operation in OPERATIONS {
-        for row in rows(operation) {
-            assert!(rt;
-                writes_all(rt.alloc(), operation, *row),
-                "{operation:?} of {:?}",
-                row.0
-            );
-            for (trouble, kind) in TROUBLES {
-                for at in 1..=row.1.len() as u64 {
-                    let weakness = weakness(at, trouble);
-                    let is_right = hands_on(rt.alloc(), operation, *row, weakness, kind);
-                    assert!(rt; is_right, "{operation:?} of {:?}, {weakness:?}", row.0);
+        let wrong = first_wrong(rt.alloc(), Call::Of(operation));
+        assert_eq!(rt; wrong, None, "{operation:?}");
+    }
+    let rows = fuller_rows(rt.alloc())?;
+    let Ok(table) = EntityTable::new(rows.as_slice()) else {
+        panic!(rt; "the fuller rows are a table");
+    };
+    assert_eq!(rt; first_wrong(rt.alloc(), Call::By(&table)), None);
+    Ok(())
+}
+
+// The first text of the call that it does not write rightly.
+fn first_wrong(alloc: Global, of: Call<'_>) -> Option<&'static str> {
+    for row in rows_of(of) {
+        if !writes_all(alloc, of, *row) {
+            return Some(row.0);
+        }
+        for (trouble, kind) in TROUBLES {
+            for at in 1..=row.1.len() as u64 {
+                if !hands_on(alloc, of, *row, weakness(at, trouble), kind) {
+                    return Some(row.0);
                 }
             }
         }
     }
+    None
 }
 
 // Each byte is one call.
-fn writes_all(alloc: Global, operation: Operation, row: Row) -> bool {
+fn writes_all(alloc: Global, of: Call<'_>, row: Row) -> bool {
     let (text, made, _) = row;
     let mut output = WeakWriter::new(alloc, weakness(0, Trouble::Calm));
-    make_to_writer(operation, text, &mut output).is_ok()
+    to_writer(of, text, &mut output).is_ok()
         && output.taken.as_slice() == made.as_bytes()
         && output.calls == made.len() as u64
 }
 
 // The bytes before the troubled call have gone out, and there is no call after it.
-fn hands_on(
-    alloc: Global,
-    operation: Operation,
-    row: Row,
-    weakness: Weakness,
-    kind: ErrorKind,
-) -> bool {
+fn hands_on(alloc: Global, of: Call<'_>, row: Row, weakness: Weakness, kind: ErrorKind) -> bool {
     let (text, made, _) = row;
     let mut output = WeakWriter::new(alloc, weakness);
-    let written = make_to_writer(operation, text, &mut output);
+    let written = to_writer(of, text, &mut output);
     has_kind(written, kind)
         && made.as_bytes().starts_with(output.taken.as_slice())
         && output.taken.len() as u64 + 1 == weakness.at

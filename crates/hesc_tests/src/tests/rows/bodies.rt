@@ -2,7 +2,7 @@
 use crate::tests::rows::Held::{Borrowed, Owned};
 use crate::tests::rows::Row;
 
-pub const ENCODED_SCRIPTS: [Row; 28] = [
+pub const ENCODED_SCRIPTS: [Row; 35] = [
     ("", "", Borrowed),
     ("<", "<", Borrowed),
     ("<<", "<<", Borrowed),
@@ -31,9 +31,16 @@ pub const ENCODED_SCRIPTS: [Row; 28] = [
     ("<!--<script>", "<\\!--<script>", Owned),
     ("<\\/script>", "<\\/script>", Borrowed),
     ("</script\u{b}", "<\\/script\u{b}", Owned),
+    ("\"/'&<>", "\"/'&<>", Borrowed),
+    ("\u{7f}", "\u{7f}", Borrowed),
+    ("é", "é", Borrowed),
+    ("a b", "a b", Borrowed),
+    ("it's \"<b>\"", "it's \"<b>\"", Borrowed),
+    ("\u{0}a", "\u{0}a", Borrowed),
+    ("</style\u{b}", "</style\u{b}", Borrowed),
 ];
 
-pub const ENCODED_STYLES: [Row; 28] = [
+pub const ENCODED_STYLES: [Row; 37] = [
     ("", "", Borrowed),
     ("<", "<", Borrowed),
     ("<<", "<<", Borrowed),
@@ -62,9 +69,18 @@ pub const ENCODED_STYLES: [Row; 28] = [
     ("<!--<style>", "<\\!--<style>", Owned),
     ("<\\/style>", "<\\/style>", Borrowed),
     ("</style\u{b}", "<\\/style\u{b}", Owned),
+    ("\"/'&<>", "\"/'&<>", Borrowed),
+    ("\u{7f}", "\u{7f}", Borrowed),
+    ("é", "é", Borrowed),
+    ("a b", "a b", Borrowed),
+    ("it's \"<b>\"", "it's \"<b>\"", Borrowed),
+    ("\u{0}a", "\u{0}a", Borrowed),
+    ("</script", "</script", Borrowed),
+    ("</scripts>", "</scripts>", Borrowed),
+    ("</script<", "</script<", Borrowed),
 ];
 
-pub const DECODED_SCRIPTS: [Row; 27] = [
+pub const DECODED_SCRIPTS: [Row; 36] = [
     ("", "", Borrowed),
     ("<", "<", Borrowed),
     ("<<", "<<", Borrowed),
@@ -96,9 +112,18 @@ pub const DECODED_SCRIPTS: [Row; 27] = [
         Owned,
     ),
     ("</script>", "</script>", Borrowed),
+    ("\"/'&<>", "\"/'&<>", Borrowed),
+    ("\u{7f}", "\u{7f}", Borrowed),
+    ("é", "é", Borrowed),
+    ("a b", "a b", Borrowed),
+    ("it's \"<b>\"", "it's \"<b>\"", Borrowed),
+    ("\u{0}a", "\u{0}a", Borrowed),
+    ("</scripts>", "</scripts>", Borrowed),
+    ("</script<", "</script<", Borrowed),
+    ("</style\u{b}", "</style\u{b}", Borrowed),
 ];
 
-pub const DECODED_STYLES: [Row; 27] = [
+pub const DECODED_STYLES: [Row; 37] = [
     ("", "", Borrowed),
     ("<", "<", Borrowed),
     ("<<", "<<", Borrowed),
@@ -130,4 +155,14 @@ pub const DECODED_STYLES: [Row; 27] = [
         Owned,
     ),
     ("</style>", "</style>", Borrowed),
+    ("\"/'&<>", "\"/'&<>", Borrowed),
+    ("\u{7f}", "\u{7f}", Borrowed),
+    ("é", "é", Borrowed),
+    ("a b", "a b", Borrowed),
+    ("it's \"<b>\"", "it's \"<b>\"", Borrowed),
+    ("\u{0}a", "\u{0}a", Borrowed),
+    ("</script", "</script", Borrowed),
+    ("</scripts>", "</scripts>", Borrowed),
+    ("</script<", "</script<", Borrowed),
+    ("<\\/style\u{b}", "</style\u{b}", Owned),
 ];

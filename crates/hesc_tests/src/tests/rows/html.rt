@@ -2,7 +2,7 @@
 use crate::tests::rows::Held::{Borrowed, Owned};
 use crate::tests::rows::Row;
 
-pub const TEXT_MINIMAL: [Row; 9] = [
+pub const TEXT_MINIMAL: [Row; 18] = [
     ("", "", Borrowed),
     (">a>", ">a>", Borrowed),
     ("\u{0}é\u{0}", "\u{0}é\u{0}", Borrowed),
@@ -12,9 +12,18 @@ pub const TEXT_MINIMAL: [Row; 9] = [
     ("<'\u{0}\u{0}\u{0}<", "&lt;'\u{0}\u{0}\u{0}&lt;", Owned),
     ("\u{2029};&\u{2028}", "\u{2029};&amp;\u{2028}", Owned),
     ("\"/'&<>", "\"/'&amp;&lt;>", Owned),
+    ("\u{7f}", "\u{7f}", Borrowed),
+    ("é", "é", Borrowed),
+    ("a b", "a b", Borrowed),
+    ("it's \"<b>\"", "it's \"&lt;b>\"", Owned),
+    ("\u{0}a", "\u{0}a", Borrowed),
+    ("</script", "&lt;/script", Owned),
+    ("</scripts>", "&lt;/scripts>", Owned),
+    ("</script<", "&lt;/script&lt;", Owned),
+    ("</style\u{b}", "&lt;/style\u{b}", Owned),
 ];
 
-pub const TEXT: [Row; 13] = [
+pub const TEXT: [Row; 22] = [
     ("", "", Borrowed),
     ("\"a\"", "\"a\"", Borrowed),
     (";/ ;' ", ";/ ;' ", Borrowed),
@@ -28,9 +37,18 @@ pub const TEXT: [Row; 13] = [
     ("a > b", "a &gt; b", Owned),
     ("a > b && a < c", "a &gt; b &amp;&amp; a &lt; c", Owned),
     ("\"/'&<>", "\"/'&amp;&lt;&gt;", Owned),
+    ("\u{7f}", "\u{7f}", Borrowed),
+    ("é", "é", Borrowed),
+    ("a b", "a b", Borrowed),
+    ("it's \"<b>\"", "it's \"&lt;b&gt;\"", Owned),
+    ("\u{0}a", "\u{0}a", Borrowed),
+    ("</script", "&lt;/script", Owned),
+    ("</scripts>", "&lt;/scripts&gt;", Owned),
+    ("</script<", "&lt;/script&lt;", Owned),
+    ("</style\u{b}", "&lt;/style\u{b}", Owned),
 ];
 
-pub const DOUBLE_QUOTED_ATTRIBUTE: [Row; 9] = [
+pub const DOUBLE_QUOTED_ATTRIBUTE: [Row; 18] = [
     ("", "", Borrowed),
     ("'a'", "'a'", Borrowed),
     ("/", "/", Borrowed),
@@ -44,9 +62,18 @@ pub const DOUBLE_QUOTED_ATTRIBUTE: [Row; 9] = [
         Owned,
     ),
     ("\"/'&<>", "&quot;/'&amp;&lt;&gt;", Owned),
+    ("\u{7f}", "\u{7f}", Borrowed),
+    ("é", "é", Borrowed),
+    ("a b", "a b", Borrowed),
+    ("it's \"<b>\"", "it's &quot;&lt;b&gt;&quot;", Owned),
+    ("\u{0}a", "\u{0}a", Borrowed),
+    ("</script", "&lt;/script", Owned),
+    ("</scripts>", "&lt;/scripts&gt;", Owned),
+    ("</script<", "&lt;/script&lt;", Owned),
+    ("</style\u{b}", "&lt;/style\u{b}", Owned),
 ];
 
-pub const SINGLE_QUOTED_ATTRIBUTE: [Row; 9] = [
+pub const SINGLE_QUOTED_ATTRIBUTE: [Row; 18] = [
     ("", "", Borrowed),
     ("\"a\"", "\"a\"", Borrowed),
     ("/a/", "/a/", Borrowed),
@@ -60,9 +87,18 @@ pub const SINGLE_QUOTED_ATTRIBUTE: [Row; 9] = [
         Owned,
     ),
     ("\"/'&<>", "\"/&#x27;&amp;&lt;&gt;", Owned),
+    ("\u{7f}", "\u{7f}", Borrowed),
+    ("é", "é", Borrowed),
+    ("a b", "a b", Borrowed),
+    ("it's \"<b>\"", "it&#x27;s \"&lt;b&gt;\"", Owned),
+    ("\u{0}a", "\u{0}a", Borrowed),
+    ("</script", "&lt;/script", Owned),
+    ("</scripts>", "&lt;/scripts&gt;", Owned),
+    ("</script<", "&lt;/script&lt;", Owned),
+    ("</style\u{b}", "&lt;/style\u{b}", Owned),
 ];
 
-pub const QUOTED_ATTRIBUTE: [Row; 9] = [
+pub const QUOTED_ATTRIBUTE: [Row; 18] = [
     ("", "", Borrowed),
     ("/a/", "/a/", Borrowed),
     ("\u{0}/", "\u{0}/", Borrowed),
@@ -76,9 +112,18 @@ pub const QUOTED_ATTRIBUTE: [Row; 9] = [
         Owned,
     ),
     ("\"/'&<>", "&quot;/&#x27;&amp;&lt;&gt;", Owned),
+    ("\u{7f}", "\u{7f}", Borrowed),
+    ("é", "é", Borrowed),
+    ("a b", "a b", Borrowed),
+    ("it's \"<b>\"", "it&#x27;s &quot;&lt;b&gt;&quot;", Owned),
+    ("\u{0}a", "\u{0}a", Borrowed),
+    ("</script", "&lt;/script", Owned),
+    ("</scripts>", "&lt;/scripts&gt;", Owned),
+    ("</script<", "&lt;/script&lt;", Owned),
+    ("</style\u{b}", "&lt;/style\u{b}", Owned),
 ];
 
-pub const SAFE: [Row; 9] = [
+pub const SAFE: [Row; 18] = [
     ("", "", Borrowed),
     ("aaaaaxaaaaa!", "aaaaaxaaaaa!", Borrowed),
     (
@@ -96,9 +141,18 @@ pub const SAFE: [Row; 9] = [
     ("\\\u{2026}'\\", "\\\u{2026}&#x27;\\", Owned),
     ("\t\"\\", "\t&quot;\\", Owned),
     ("\"/'&<>", "&quot;&#x2F;&#x27;&amp;&lt;&gt;", Owned),
+    ("\u{7f}", "\u{7f}", Borrowed),
+    ("é", "é", Borrowed),
+    ("a b", "a b", Borrowed),
+    ("it's \"<b>\"", "it&#x27;s &quot;&lt;b&gt;&quot;", Owned),
+    ("\u{0}a", "\u{0}a", Borrowed),
+    ("</script", "&lt;&#x2F;script", Owned),
+    ("</scripts>", "&lt;&#x2F;scripts&gt;", Owned),
+    ("</script<", "&lt;&#x2F;script&lt;", Owned),
+    ("</style\u{b}", "&lt;&#x2F;style\u{b}", Owned),
 ];
 
-pub const UNQUOTED_ATTRIBUTE: [Row; 19] = [
+pub const UNQUOTED_ATTRIBUTE: [Row; 26] = [
     ("", "", Borrowed),
     ("plain", "plain", Borrowed),
     ("é", "é", Borrowed),
@@ -118,4 +172,15 @@ pub const UNQUOTED_ATTRIBUTE: [Row; 19] = [
     ("😀#😀<-#", "😀&#x23;😀&lt;&#x2D;&#x23;", Owned),
     (";\u{1c}é\t", "&#x3B;&#x1C;é&#x09;", Owned),
     ("\"/'&<>", "&quot;&#x2F;&#x27;&amp;&lt;&gt;", Owned),
+    ("a b", "a&#x20;b", Owned),
+    (
+        "it's \"<b>\"",
+        "it&#x27;s&#x20;&quot;&lt;b&gt;&quot;",
+        Owned,
+    ),
+    ("\u{0}a", "&#x00;a", Owned),
+    ("</script", "&lt;&#x2F;script", Owned),
+    ("</scripts>", "&lt;&#x2F;scripts&gt;", Owned),
+    ("</script<", "&lt;&#x2F;script&lt;", Owned),
+    ("</style\u{b}", "&lt;&#x2F;style&#x0B;", Owned),
 ];

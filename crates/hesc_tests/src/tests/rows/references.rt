@@ -2,7 +2,7 @@
 use crate::tests::rows::Held::{Borrowed, Owned};
 use crate::tests::rows::Row;
 
-pub const DECODED_REFERENCES: [Row; 46] = [
+pub const DECODED_REFERENCES: [Row; 56] = [
     ("", "", Borrowed),
     ("plain", "plain", Borrowed),
     ("&#+65;&#0;&&amp;", "&#+65;&#0;&&", Owned),
@@ -58,4 +58,33 @@ pub const DECODED_REFERENCES: [Row; 46] = [
     ("&amp;amp;", "&amp;", Owned),
     ("&&&&amp;", "&&&&", Owned),
     ("&CounterClockwiseContourIntegral;", "\u{2233}", Owned),
+    ("\"/'&amp;&lt;&gt;", "\"/'&<>", Owned),
+    ("\u{7f}", "\u{7f}", Borrowed),
+    ("é", "é", Borrowed),
+    ("a b", "a b", Borrowed),
+    ("it's \"&lt;b&gt;\"", "it's \"<b>\"", Owned),
+    ("\u{0}a", "\u{0}a", Borrowed),
+    ("&lt;/script", "</script", Owned),
+    ("&lt;/scripts&gt;", "</scripts>", Owned),
+    ("&lt;/script&lt;", "</script<", Owned),
+    ("&lt;/style\u{b}", "</style\u{b}", Owned),
+];
+
+/// The same, by a table that has a row for `copy` too.
+pub const DECODED_BY_THE_FULLER_TABLE: [Row; 15] = [
+    ("", "", Borrowed),
+    ("plain", "plain", Borrowed),
+    ("&amp;lt;&AMP;&Amp;&copy;", "&lt;&&Amp;\u{a9}", Owned),
+    ("&cop;&copyy;&copy", "&cop;&copyy;&copy", Borrowed),
+    ("&&copy;&&apos;&gt;", "&\u{a9}&'>", Owned),
+    ("\"/'&amp;&lt;&gt;", "\"/'&<>", Owned),
+    ("\u{7f}", "\u{7f}", Borrowed),
+    ("é", "é", Borrowed),
+    ("a b", "a b", Borrowed),
+    ("it's \"&lt;b&gt;\"", "it's \"<b>\"", Owned),
+    ("\u{0}a", "\u{0}a", Borrowed),
+    ("&lt;/script", "</script", Owned),
+    ("&lt;/scripts&gt;", "</scripts>", Owned),
+    ("&lt;/script&lt;", "</script<", Owned),
+    ("&lt;/style\u{b}", "</style\u{b}", Owned),
 ];

@@ -2,7 +2,7 @@
 use crate::tests::rows::Held::{Borrowed, Owned};
 use crate::tests::rows::Row;
 
-pub const ENCODED_SINGLE: [Row; 14] = [
+pub const ENCODED_SINGLE: [Row; 25] = [
     ("\\>&;\t>", "\\\\>&;\\x09>", Owned),
     ("\u{0}< ", "\\x00\\x3C ", Owned),
     ("'a'", "\\'a\\'", Owned),
@@ -21,9 +21,20 @@ pub const ENCODED_SINGLE: [Row; 14] = [
     ("\\a\\", "\\\\a\\\\", Owned),
     ("\"a\"", "\"a\"", Borrowed),
     ("<a<", "\\x3Ca\\x3C", Owned),
+    ("", "", Borrowed),
+    ("\"/'&<>", "\"/\\'&\\x3C>", Owned),
+    ("\u{7f}", "\u{7f}", Borrowed),
+    ("é", "é", Borrowed),
+    ("a b", "a b", Borrowed),
+    ("it's \"<b>\"", "it\\'s \"\\x3Cb>\"", Owned),
+    ("\u{0}a", "\\x00a", Owned),
+    ("</script", "\\x3C/script", Owned),
+    ("</scripts>", "\\x3C/scripts>", Owned),
+    ("</script<", "\\x3C/script\\x3C", Owned),
+    ("</style\u{b}", "\\x3C/style\\x0B", Owned),
 ];
 
-pub const ENCODED_DOUBLE: [Row; 14] = [
+pub const ENCODED_DOUBLE: [Row; 25] = [
     (" \u{b};\u{b};';0'", " \\x0B;\\x0B;';0'", Owned),
     ("##\u{b}\t\t<", "##\\x0B\\x09\\x09\\x3C", Owned),
     ("0&&x\u{2029}\\\u{b}&&", "0&&x\\u2029\\\\\\x0B&&", Owned),
@@ -42,9 +53,20 @@ pub const ENCODED_DOUBLE: [Row; 14] = [
     ),
     ("<a<", "\\x3Ca\\x3C", Owned),
     ("\u{2027}", "\u{2027}", Borrowed),
+    ("", "", Borrowed),
+    ("\"/'&<>", "\\\"/'&\\x3C>", Owned),
+    ("\u{7f}", "\u{7f}", Borrowed),
+    ("é", "é", Borrowed),
+    ("a b", "a b", Borrowed),
+    ("it's \"<b>\"", "it's \\\"\\x3Cb>\\\"", Owned),
+    ("\u{0}a", "\\x00a", Owned),
+    ("</script", "\\x3C/script", Owned),
+    ("</scripts>", "\\x3C/scripts>", Owned),
+    ("</script<", "\\x3C/script\\x3C", Owned),
+    ("</style\u{b}", "\\x3C/style\\x0B", Owned),
 ];
 
-pub const ENCODED_BOTH: [Row; 26] = [
+pub const ENCODED_BOTH: [Row; 36] = [
     (";\\;//\"", ";\\\\;//\\\"", Owned),
     ("'a'", "\\'a\\'", Owned),
     ("é&>", "é&>", Borrowed),
@@ -75,9 +97,19 @@ pub const ENCODED_BOTH: [Row; 26] = [
     ("éé!<", "éé!\\x3C", Owned),
     ("''>'ss", "\\'\\'>\\'ss", Owned),
     ("\u{2026}  '", "\u{2026}  \\'", Owned),
+    ("\"/'&<>", "\\\"/\\'&\\x3C>", Owned),
+    ("\u{7f}", "\u{7f}", Borrowed),
+    ("é", "é", Borrowed),
+    ("a b", "a b", Borrowed),
+    ("it's \"<b>\"", "it\\'s \\\"\\x3Cb>\\\"", Owned),
+    ("\u{0}a", "\\x00a", Owned),
+    ("</script", "\\x3C/script", Owned),
+    ("</scripts>", "\\x3C/scripts>", Owned),
+    ("</script<", "\\x3C/script\\x3C", Owned),
+    ("</style\u{b}", "\\x3C/style\\x0B", Owned),
 ];
 
-pub const DECODED_SINGLE: [Row; 24] = [
+pub const DECODED_SINGLE: [Row; 34] = [
     ("\\\\", "\\", Owned),
     ("", "", Borrowed),
     ("<\\!-", "<\\!-", Borrowed),
@@ -106,9 +138,19 @@ pub const DECODED_SINGLE: [Row; 24] = [
     ),
     ("<\\/script>", "</script>", Owned),
     ("SCRIPT\\3C \u{b}", "SCRIPT\\3C \u{b}", Borrowed),
+    ("\"/\\'&\\x3C>", "\"/'&<>", Owned),
+    ("\u{7f}", "\u{7f}", Borrowed),
+    ("é", "é", Borrowed),
+    ("a b", "a b", Borrowed),
+    ("it\\'s \"\\x3Cb>\"", "it's \"<b>\"", Owned),
+    ("\\x00a", "\u{0}a", Owned),
+    ("\\x3C/script", "</script", Owned),
+    ("\\x3C/scripts>", "</scripts>", Owned),
+    ("\\x3C/script\\x3C", "</script<", Owned),
+    ("\\x3C/style\\x0B", "</style\u{b}", Owned),
 ];
 
-pub const DECODED_DOUBLE: [Row; 24] = [
+pub const DECODED_DOUBLE: [Row; 34] = [
     ("\\\\", "\\", Owned),
     ("<\\", "<\\", Borrowed),
     ("", "", Borrowed),
@@ -145,9 +187,19 @@ pub const DECODED_DOUBLE: [Row; 24] = [
         Borrowed,
     ),
     ("<\\/script>", "</script>", Owned),
+    ("\\\"/'&\\x3C>", "\"/'&<>", Owned),
+    ("\u{7f}", "\u{7f}", Borrowed),
+    ("é", "é", Borrowed),
+    ("a b", "a b", Borrowed),
+    ("it's \\\"\\x3Cb>\\\"", "it's \"<b>\"", Owned),
+    ("\\x00a", "\u{0}a", Owned),
+    ("\\x3C/script", "</script", Owned),
+    ("\\x3C/scripts>", "</scripts>", Owned),
+    ("\\x3C/script\\x3C", "</script<", Owned),
+    ("\\x3C/style\\x0B", "</style\u{b}", Owned),
 ];
 
-pub const DECODED_BOTH: [Row; 73] = [
+pub const DECODED_BOTH: [Row; 83] = [
     ("\\\\", "\\", Owned),
     ("", "", Borrowed),
     ("<\\\\!--", "<\\!--", Owned),
@@ -221,4 +273,14 @@ pub const DECODED_BOTH: [Row; 73] = [
     ("<\\/script\u{1e}\\\\", "</script\u{1e}\\", Owned),
     ("<\\/script\u{1f}\\\\", "</script\u{1f}\\", Owned),
     ("<\\/script!\\\\", "<\\/script!\\", Owned),
+    ("\\\"/\\'&\\x3C>", "\"/'&<>", Owned),
+    ("\u{7f}", "\u{7f}", Borrowed),
+    ("é", "é", Borrowed),
+    ("a b", "a b", Borrowed),
+    ("it\\'s \\\"\\x3Cb>\\\"", "it's \"<b>\"", Owned),
+    ("\\x00a", "\u{0}a", Owned),
+    ("\\x3C/script", "</script", Owned),
+    ("\\x3C/scripts>", "</scripts>", Owned),
+    ("\\x3C/script\\x3C", "</script<", Owned),
+    ("\\x3C/style\\x0B", "</style\u{b}", Owned),
 ];

@@ -2,7 +2,7 @@
 use crate::tests::rows::Held::{Borrowed, Owned};
 use crate::tests::rows::Row;
 
-pub const ENCODED_SINGLE: [Row; 14] = [
+pub const ENCODED_SINGLE: [Row; 25] = [
     ("\u{b}#<s", "\\0B #\\3C s", Owned),
     (
         "\u{0}'\\é'\u{0}\u{b}&é\\&--\u{0}",
@@ -29,9 +29,20 @@ pub const ENCODED_SINGLE: [Row; 14] = [
     ("\u{2028}", "\u{2028}", Borrowed),
     ("\u{2027}", "\u{2027}", Borrowed),
     ("\u{202a}", "\u{202a}", Borrowed),
+    ("", "", Borrowed),
+    ("\"/'&<>", "\"/\\'&\\3C >", Owned),
+    ("\u{7f}", "\u{7f}", Borrowed),
+    ("é", "é", Borrowed),
+    ("a b", "a b", Borrowed),
+    ("it's \"<b>\"", "it\\'s \"\\3C b>\"", Owned),
+    ("\u{0}a", "\u{fffd}a", Owned),
+    ("</script", "\\3C /script", Owned),
+    ("</scripts>", "\\3C /scripts>", Owned),
+    ("</script<", "\\3C /script\\3C ", Owned),
+    ("</style\u{b}", "\\3C /style\\0B ", Owned),
 ];
 
-pub const ENCODED_DOUBLE: [Row; 14] = [
+pub const ENCODED_DOUBLE: [Row; 25] = [
     ("0>\t/", "0>\\09 /", Owned),
     ("\t\\\u{0}", "\\09 \\\\\u{fffd}", Owned),
     ("; ", "; ", Borrowed),
@@ -46,9 +57,20 @@ pub const ENCODED_DOUBLE: [Row; 14] = [
     ("\\a\\", "\\\\a\\\\", Owned),
     ("/''/", "/''/", Borrowed),
     ("éé", "éé", Borrowed),
+    ("", "", Borrowed),
+    ("\"/'&<>", "\\\"/'&\\3C >", Owned),
+    ("\u{7f}", "\u{7f}", Borrowed),
+    ("é", "é", Borrowed),
+    ("a b", "a b", Borrowed),
+    ("it's \"<b>\"", "it's \\\"\\3C b>\\\"", Owned),
+    ("\u{0}a", "\u{fffd}a", Owned),
+    ("</script", "\\3C /script", Owned),
+    ("</scripts>", "\\3C /scripts>", Owned),
+    ("</script<", "\\3C /script\\3C ", Owned),
+    ("</style\u{b}", "\\3C /style\\0B ", Owned),
 ];
 
-pub const ENCODED_BOTH: [Row; 26] = [
+pub const ENCODED_BOTH: [Row; 36] = [
     ("\u{1c}!;\u{1c}", "\\1C !;\\1C ", Owned),
     ("'s&é", "\\'s&é", Owned),
     ("-\"", "-\\\"", Owned),
@@ -87,9 +109,19 @@ pub const ENCODED_BOTH: [Row; 26] = [
     ("a\u{202a}z", "a\u{202a}z", Borrowed),
     ("\\\\", "\\\\\\\\", Owned),
     ("<<", "\\3C \\3C ", Owned),
+    ("\"/'&<>", "\\\"/\\'&\\3C >", Owned),
+    ("\u{7f}", "\u{7f}", Borrowed),
+    ("é", "é", Borrowed),
+    ("a b", "a b", Borrowed),
+    ("it's \"<b>\"", "it\\'s \\\"\\3C b>\\\"", Owned),
+    ("\u{0}a", "\u{fffd}a", Owned),
+    ("</script", "\\3C /script", Owned),
+    ("</scripts>", "\\3C /scripts>", Owned),
+    ("</script<", "\\3C /script\\3C ", Owned),
+    ("</style\u{b}", "\\3C /style\\0B ", Owned),
 ];
 
-pub const DECODED_SINGLE: [Row; 24] = [
+pub const DECODED_SINGLE: [Row; 34] = [
     ("\\\\", "\\", Owned),
     ("", "", Borrowed),
     (
@@ -118,9 +150,19 @@ pub const DECODED_SINGLE: [Row; 24] = [
     ("\\STYLE '", "\\STYLE '", Borrowed),
     ("\\00003C ", "\\00003C ", Borrowed),
     ("\\/style>", "\\/style>", Borrowed),
+    ("\"/\\'&\\3C >", "\"/'&<>", Owned),
+    ("\u{7f}", "\u{7f}", Borrowed),
+    ("é", "é", Borrowed),
+    ("a b", "a b", Borrowed),
+    ("it\\'s \"\\3C b>\"", "it's \"<b>\"", Owned),
+    ("\u{fffd}a", "\u{fffd}a", Borrowed),
+    ("\\3C /script", "</script", Owned),
+    ("\\3C /scripts>", "</scripts>", Owned),
+    ("\\3C /script\\3C ", "</script<", Owned),
+    ("\\3C /style\\0B ", "</style\u{b}", Owned),
 ];
 
-pub const DECODED_DOUBLE: [Row; 24] = [
+pub const DECODED_DOUBLE: [Row; 34] = [
     ("\\\\", "\\", Owned),
     ("", "", Borrowed),
     ("<\\!--", "<!--", Owned),
@@ -145,9 +187,19 @@ pub const DECODED_DOUBLE: [Row; 24] = [
     ("<\\!--\\!--", "<!--\\!--", Owned),
     ("<\\/styles>", "<\\/styles>", Borrowed),
     ("<\\/style\u{c}\\\\", "</style\u{c}\\", Owned),
+    ("\\\"/'&\\3C >", "\"/'&<>", Owned),
+    ("\u{7f}", "\u{7f}", Borrowed),
+    ("é", "é", Borrowed),
+    ("a b", "a b", Borrowed),
+    ("it's \\\"\\3C b>\\\"", "it's \"<b>\"", Owned),
+    ("\u{fffd}a", "\u{fffd}a", Borrowed),
+    ("\\3C /script", "</script", Owned),
+    ("\\3C /scripts>", "</scripts>", Owned),
+    ("\\3C /script\\3C ", "</script<", Owned),
+    ("\\3C /style\\0B ", "</style\u{b}", Owned),
 ];
 
-pub const DECODED_BOTH: [Row; 73] = [
+pub const DECODED_BOTH: [Row; 83] = [
     ("\\\\", "\\", Owned),
     ("", "", Borrowed),
     ("<\\\\!--", "<\\!--", Owned),
@@ -225,4 +277,14 @@ pub const DECODED_BOTH: [Row; 73] = [
     ("<\\/style\u{1e}\\\\", "</style\u{1e}\\", Owned),
     ("<\\/style\u{1f}\\\\", "</style\u{1f}\\", Owned),
     ("<\\/style!\\\\", "<\\/style!\\", Owned),
+    ("\\\"/\\'&\\3C >", "\"/'&<>", Owned),
+    ("\u{7f}", "\u{7f}", Borrowed),
+    ("é", "é", Borrowed),
+    ("a b", "a b", Borrowed),
+    ("it\\'s \\\"\\3C b>\\\"", "it's \"<b>\"", Owned),
+    ("\u{fffd}a", "\u{fffd}a", Borrowed),
+    ("\\3C /script", "</script", Owned),
+    ("\\3C /scripts>", "</scripts>", Owned),
+    ("\\3C /script\\3C ", "</script<", Owned),
+    ("\\3C /style\\0B ", "</style\u{b}", Owned),
 ];
