@@ -56,7 +56,7 @@ pub fn input_of<A: Allocator, R: Read>(
 {
     match command {
         Command::Page(..) => Ok(Vec::new(alloc)),
-        Command::Operation(_) | Command::Enclose(..) | Command::ReadPage => {
+        Command::Operation(_) | Command::Lines(_) | Command::Enclose(..) | Command::ReadPage => {
             read_whole(alloc, input)
         }
     }
