@@ -17,6 +17,7 @@ mod references;
 mod refusing;
 mod rows;
 mod runs;
+mod sessions;
 mod streams;
 mod tool;
 mod words;
