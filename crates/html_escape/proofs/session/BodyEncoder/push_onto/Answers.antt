@@ -2,7 +2,6 @@ use Rattle.std.proofs.Common.{ap, length}
 use Rattle.std.specs.String.{string_bytes}
 use Rattle.std.proofs.lemmas.Str.{IsUtf8-string_bytes}
 use Rattle.hesc_core.proofs.Seam.{seam}
-use Rattle.html_escape.specs.BodyEncoders.{added_with}
 use Rattle.html_escape.proofs.session.BodyEncoder.push_onto.Goals as goal
 
 pub range_from-requires : goal.range_from-requires
