@@ -9,6 +9,6 @@ pub mod HandsOnTable
 mod LaneLemmas
 mod OpeningSearch
 mod Progress
-mod Seam
+pub mod Seam
 mod StringEscapes
 mod Told

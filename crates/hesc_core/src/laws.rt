@@ -1,5 +1,6 @@
 //! The laws of the operations: each is a function that does nothing and whose contract is the law.
-ghost use Rattle.std.specs.Prelude.{◌≡◌, ◌≢◌, ◌↔◌, ◌++◌, false, IsTrue};
+ghost use Rattle.std.specs.List.{concat};
+ghost use Rattle.std.specs.Prelude.{◌≡◌, ◌≢◌, ◌↔◌, ◌++◌, false, map, [], IsTrue};
 ghost use Rattle.hesc_specs.specs.Bodies.{
   EndsWithoutLessThan,
   body_decoding,
@@ -13,6 +14,7 @@ ghost use Rattle.hesc_specs.specs.Nul.{nul};
 ghost use Rattle.hesc_specs.specs.Openings.{HasNoEscapedOpening, HasNoOpening};
 ghost use Rattle.hesc_specs.specs.References.{decoded};
 ghost use Rattle.hesc_specs.specs.SameBody.{IsSameBody};
+ghost use Rattle.hesc_specs.specs.Sessions.{IsSession};
 ghost use Rattle.hesc_specs.specs.Strings.{IsPlain, string_encoding, string_value};
 ghost use Rattle.hesc_specs.specs.StringTokens.{knows, string_decoding};
 ghost use Rattle.hesc_specs.specs.declared.elements.Element.TheVariants.{Style};
@@ -112,4 +114,12 @@ pub fn joined_bodies(element: Element, a: &str, b: &str)
     requires { EndsWithoutLessThan element a.now }
     ensures { body_encoding element (a.now ++ b.now)
         ≡ body_encoding element a.now ++ body_encoding element b.now }
+{}
+
+/// All that a session adds, joined, is the encoding of its joined pieces, however they were cut:
+/// for any list of steps, also the empty one, that begins with nothing held, and a finish after
+/// them.
+pub fn joined_pieces(element: Element, pieces: &[&str], added: &str)
+    requires { IsSession element [] (map (λ piece. piece.now) pieces.now) added.now }
+    ensures { added.now ≡ body_encoding element (concat (map (λ piece. piece.now) pieces.now)) }
 {}

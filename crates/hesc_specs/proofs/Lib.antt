@@ -7,6 +7,7 @@ pub mod CharacterBytes
 pub mod DifferentStrings
 pub mod DifferentTexts
 pub mod EscapeChanges
+pub mod HeldBytes
 pub mod HexDigits
 pub mod HighBytes
 pub mod HtmlChanges
@@ -19,6 +20,8 @@ pub mod PartLemmas
 pub mod PlainStrings
 pub mod ReferencesUndone
 pub mod SameBodies
+pub mod SettledBodies
+pub mod SettledChanges
 pub mod SliceRanges
 pub mod StringDecodingChanges
 pub mod StringEncodingChanges

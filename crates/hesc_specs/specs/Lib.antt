@@ -20,6 +20,8 @@ pub mod Openings
 pub mod Bodies
 pub mod BodyChanges
 pub mod SameBody
+pub mod Sessions
+pub mod SettledChanges
 pub mod StringTokens
 pub mod StringChanges
 pub mod Escaped

@@ -19,6 +19,7 @@ mod refusing;
 mod rows;
 mod runs;
 mod scan;
+mod sessions;
 mod streams;
 mod tool;
 mod words;

@@ -1,6 +1,7 @@
 -- What a command answers to an input: its text, or the first refusal that applies.
 use Rattle.std.specs.Prelude.{◌≡◌, ℕ, Bool, true, false, if◌then◌else◌, List, [], ◌∷◌, map, Option, Some, None, Result, Ok, Err}
 use Rattle.std.specs.Str.{IsUtf8}
+use Rattle.hesc_specs.specs.Bodies.{body_encoding}
 use Rattle.html_escape.specs.Operations.{operation_text}
 use Rattle.html_escape.specs.declared.encoder.Encoder.{Encoder}
 use Rattle.hesc_places.specs.AttributeReadings.{Entry}
@@ -18,7 +19,7 @@ use Rattle.hesc_places.specs.declared.places.Place.TheVariants.{UnquotedAttribut
 use Rattle.hesc_tool.specs.FormWords.{AreWordsOf}
 use Rattle.hesc_tool.specs.Lines.{form_lines, page_lines}
 use Rattle.hesc_tool.specs.declared.commands.Command.{Command}
-use Rattle.hesc_tool.specs.declared.commands.Command.TheVariants.{Operation, Enclose, Page, ReadPage, Form, ReadForm}
+use Rattle.hesc_tool.specs.declared.commands.Command.TheVariants.{Operation, Lines, Enclose, Page, ReadPage, Form, ReadForm}
 use Rattle.hesc_tool.specs.declared.faults.Fault.{Fault}
 use Rattle.hesc_tool.specs.declared.faults.Fault.TheVariants.{NotUtf8, NoPage, NotForPlace, EmptyUnquoted, BadName, Memory}
 
@@ -75,6 +76,7 @@ AnswersText input wanted answer = IsUtf8 input × (wanted ≡ answer)
 -- what a command answers to an input
 abbrev pub Answers : Command → List ℕ → Result (List ℕ) Fault → Type 0
 Answers (Operation operation) input answer = AnswersText input (Ok (operation_text operation input)) answer
+Answers (Lines kind) input answer = AnswersText input (Ok (body_encoding kind input)) answer
 Answers (Enclose encoder place) input answer = AnswersText input (enclosing encoder place input) answer
 Answers (Page first second third) input answer = page_of first.now second.now third.now ≡ answer
 Answers ReadPage input answer = lines_of (page_reading input) ≡ answer

@@ -1,12 +1,13 @@
 -- The commands, and the words that name each.
 use Rattle.std.specs.Prelude.{◌≡◌, ⊤, ℕ, List, [], ◌∷◌, codes, map}
-use Rattle.hesc_tool.specs.Names.{encoder_name, operation_name, place_name}
+use Rattle.hesc_tool.specs.Names.{encoder_name, lines_name, operation_name, place_name}
 use Rattle.hesc_tool.specs.declared.commands.Command.{Command}
-use Rattle.hesc_tool.specs.declared.commands.Command.TheVariants.{Operation, Enclose, Page, ReadPage, Form, ReadForm}
+use Rattle.hesc_tool.specs.declared.commands.Command.TheVariants.{Operation, Lines, Enclose, Page, ReadPage, Form, ReadForm}
 
 -- the words that name a command
 abbrev pub words_of : Command → List (List ℕ)
 words_of (Operation operation) = operation_name operation ∷ []
+words_of (Lines kind) = lines_name kind ∷ []
 words_of (Enclose encoder place) = codes "enclose" ∷ (encoder_name encoder ∷ (place_name place ∷ []))
 words_of (Page first second third) = codes "page" ∷ (first.now ∷ (second.now ∷ (third.now ∷ [])))
 words_of ReadPage = codes "read-page" ∷ []

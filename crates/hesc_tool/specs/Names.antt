@@ -1,5 +1,7 @@
 -- The words that name the operations, the encoders among them, the places, and how a value is quoted.
 use Rattle.std.specs.Prelude.{◌≡◌, ℕ, List, codes}
+use Rattle.hesc_specs.specs.declared.elements.Element.{Element}
+use Rattle.hesc_specs.specs.declared.elements.Element.TheVariants as element
 use Rattle.html_escape.specs.declared.decoder.Decoder.{Decoder}
 use Rattle.html_escape.specs.declared.decoder.Decoder.TheVariants as decoder
 use Rattle.html_escape.specs.declared.encoder.Encoder.{Encoder}
@@ -46,6 +48,11 @@ decoder_name decoder.StyleQuoted = codes "decode_style_quoted_text"
 abbrev pub operation_name : Operation → List ℕ
 operation_name (Encode encoder) = encoder_name encoder
 operation_name (Decode decoder) = decoder_name decoder
+
+-- the word for a body by lines
+abbrev pub lines_name : Element → List ℕ
+lines_name element.Script = codes "lines-script"
+lines_name element.Style = codes "lines-style"
 
 -- the word for a place
 abbrev pub place_name : Place → List ℕ

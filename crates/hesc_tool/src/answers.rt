@@ -1,5 +1,6 @@
 //! What each command answers to an input, made in memory.
 ghost use Rattle.std.specs.Prelude.{◌≡◌, map, Ok};
+ghost use Rattle.hesc_specs.specs.Bodies.{body_encoding};
 ghost use Rattle.html_escape.specs.Operations.{operation_text};
 ghost use Rattle.hesc_places.specs.FormReadings.{form_reading};
 ghost use Rattle.hesc_places.specs.PageReadings.{page_reading};
@@ -14,13 +15,14 @@ ghost use Rattle.hesc_tool.specs.Answers.{
 };
 ghost use Rattle.hesc_tool.specs.Steps.{IsMade};
 
+use crate::body_lines::append_lines;
 use crate::commands::Command;
 use crate::faults::Fault;
 use crate::form_words::{FormWords, attributes_of};
 use crate::lines::{read_form_lines, read_lines};
 use hesc_core::forms::append_to_string;
 use hesc_places::{FormFault, Place, PlaceFault, append_enclosed, append_form, append_page};
-use html_escape::{Encoder, Operation};
+use html_escape::{BodyKind, Encoder, Operation};
 use std::alloc::{AllocError, Allocator};
 use std::str;
 
@@ -34,6 +36,7 @@ pub fn made<A: Allocator + Clone>(
 {
     match command {
         Command::Operation(operation) => operated(alloc, operation, input),
+        Command::Lines(kind) => encoded_by_lines(alloc, kind, input),
         Command::Enclose(encoder, place) => enclosed(alloc, encoder, place, input),
         Command::Page(first, second, third) => page(alloc, first, second, third),
         Command::ReadPage => lines(alloc, input),
@@ -51,6 +54,24 @@ fn operated<A: Allocator>(alloc: A, operation: Operation, input: &[u8]) -> Resul
     };
     let mut output = String::new(alloc);
     if append_to_string(&mut output, &operation, text).is_err() {
+        return Err(Fault::Memory);
+    }
+    Ok(output.into_bytes())
+}
+
+// The encoding of a body, by one session that gets each line.
+fn encoded_by_lines<A: Allocator>(
+    alloc: A,
+    kind: BodyKind,
+    input: &[u8],
+) -> Result<Vec<u8, A>, Fault>
+    ensures { IsMade (AnswersText input.now (Ok (body_encoding kind input.now))) result }
+{
+    let Ok(text) = str::from_utf8(input) else {
+        return Err(Fault::NotUtf8);
+    };
+    let mut output = String::new(alloc);
+    if append_lines(&mut output, kind, text).is_err() {
         return Err(Fault::Memory);
     }
     Ok(output.into_bytes())

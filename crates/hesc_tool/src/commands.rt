@@ -5,13 +5,15 @@ ghost use Rattle.hesc_tool.specs.Commands.{NamesNoCommand, NamesNoneOfFew, words
 use crate::form_words::{FormWords, form_of};
 use crate::names::{encoder_named, operation_named, place_named};
 use hesc_places::Place;
-use html_escape::{Encoder, Operation};
+use html_escape::{BodyKind, Encoder, Operation};
 
 /// What a list of words can name.
 #[derive(Clone, Copy)]
 pub enum Command<'w> {
     /// The name of an operation: what the operation makes of a text.
     Operation(Operation),
+    /// `lines-script` or `lines-style`: the encoding of a body, by one session that gets each line.
+    Lines(BodyKind),
     /// `enclose ENCODER PLACE`: the encoding of a text between the marks of a place.
     Enclose(Encoder, Place),
     /// `page A B C`: the page of these three texts. It reads no input.
@@ -47,6 +49,8 @@ fn command_of_few<'w>(words: &[&'w str]) -> Option<Command<'w>>
         ["read-form"] => Some(Command::ReadForm),
         ["read-page"] => Some(Command::ReadPage),
         ["page", first, second, third] => Some(Command::Page(first, second, third)),
+        ["lines-script"] => Some(Command::Lines(BodyKind::Script)),
+        ["lines-style"] => Some(Command::Lines(BodyKind::Style)),
         [name] => match operation_named(name) {
             Some(operation) => Some(Command::Operation(operation)),
             None => None,

@@ -8,6 +8,7 @@ ghost use Rattle.std.specs.Prelude.{map};
 ghost use Rattle.hesc_tool.specs.Run.{RanAs};
 
 mod answers;
+mod body_lines;
 mod commands;
 mod faults;
 mod form_words;

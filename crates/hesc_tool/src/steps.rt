@@ -56,8 +56,11 @@ pub fn input_of<A: Allocator, R: Read>(
 {
     match command {
         Command::Page(..) | Command::Form(_) => Ok(Vec::new(alloc)),
-        Command::Operation(_) | Command::Enclose(..) | Command::ReadPage | Command::ReadForm =>
-            read_whole(alloc, input),
+        Command::Operation(_)
+        | Command::Lines(_)
+        | Command::Enclose(..)
+        | Command::ReadPage
+        | Command::ReadForm => read_whole(alloc, input),
     }
 }
 

@@ -1,3 +1,5 @@
 pub mod Encoders
 pub mod Decoders
 pub mod Operations
+pub mod Held
+pub mod BodyEncoders

@@ -9,12 +9,19 @@
 
 pub mod decoder;
 pub mod encoder;
+mod few_bytes;
 pub mod operation;
+mod released;
+pub mod session;
+mod settled;
+mod undecided;
 
 pub use crate::decoder::Decoder;
 pub use crate::encoder::Encoder;
 pub use crate::operation::Operation;
 pub use crate::operation::pieces;
+pub use crate::session::BodyEncoder;
+pub use hesc_core::Element as BodyKind;
 pub use hesc_core::EntityTable;
 pub use hesc_core::NAMED_ENTITIES;
 pub use hesc_core::Piece;
