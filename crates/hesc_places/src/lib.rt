@@ -3,8 +3,9 @@
 //! A place begins behind its opening mark. Its grammar, which comes from a public standard, says
 //! where it ends and what it holds. The law of places ties the two sides: what a suiting encoder
 //! wrote ends exactly at the closing mark, whatever follows, and is read as the text. [`enclose`]
-//! writes a text for a place, marks and all, or says why it cannot. A page has three such places:
-//! [`build_page`] writes it, and [`read_page`] reads it back.
+//! writes a text for a place, marks and all, or says why it cannot. A form has such places, one for
+//! each attribute and one for a script's string: [`build_form`] writes it, and [`read_form`] reads it
+//! back. A page is a form of two attributes: [`build_page`] and [`read_page`].
 #![tactic(auto)]
 
 mod attribute;

@@ -107,37 +107,41 @@ fn attributes_of(
 #[test]
 fn forms_are_built_and_read_back(rt: HostRuntime) -> Result<(), Fail> {
     for row in FORMS {
-        assert!(rt; builds(rt.alloc(), row)?, "{}", row.2);
+        assert!(rt; builds(rt.alloc(), row.0, row.1, row.2)?, "{}", row.2);
         assert!(rt; reads_back(rt.alloc(), row) == Ok(true), "{}", row.2);
     }
     Ok(())
 }
 
 // Whether the form is answered and appended, and asks for memory once, or not at all within room.
-fn builds(alloc: Global, row: Row) -> Result<bool, AllocError> {
-    let without = survives_building(alloc, row, 0, 2)?;
-    let within = survives_building(alloc, row, row.2.len(), 1)?;
-    let refused = survives_building(alloc, row, 0, 1)?;
+fn builds(
+    alloc: Global,
+    entries: &'static [Entry],
+    script: &str,
+    form: &str,
+) -> Result<bool, AllocError> {
+    let attributes = attributes_of(alloc, entries)?;
+    let attributes = attributes.as_slice();
+    let without = survives_building(alloc, attributes, script, form, 0, 2)?;
+    let within = survives_building(alloc, attributes, script, form, form.len(), 1)?;
+    let refused = survives_building(alloc, attributes, script, form, 0, 1)?;
     Ok(without && within && refused)
 }
 
 // Whether the output is right with so much room, where the request of that number is refused.
 fn survives_building(
     alloc: Global,
-    row: Row,
+    attributes: &[Attribute],
+    script: &str,
+    form: &str,
     room: usize,
     number: u64,
 ) -> Result<bool, AllocError> {
-    let (entries, script, form) = row;
-    let attributes = attributes_of(alloc, entries)?;
     let heap = Refusing::new(alloc, 0);
     let mut output = String::with_capacity(&heap, room.saturating_add(1))?;
     output.push('x')?;
     heap.refuse(number);
-    let is_ok = match build_form(attributes.as_slice(), script, &mut output) {
-        Ok(part) => part == form,
-        Err(_) => false,
-    };
+    let is_ok = answers_form(attributes, script, &mut output, form);
     let requests = if room < form.len() { 1 } else { 0 };
     let added = if is_ok { form } else { "" };
     Ok(
@@ -145,6 +149,18 @@ fn survives_building(
             && heap.asked(number) == requests
             && output.strip_prefix("x") == Some(added),
     )
+}
+
+fn answers_form<A: Allocator>(
+    attributes: &[Attribute],
+    script: &str,
+    output: &mut String<A>,
+    form: &str,
+) -> bool {
+    match build_form(attributes, script, output) {
+        Ok(part) => part == form,
+        Err(_) => false,
+    }
 }
 
 // Whether memory was found, and then whether the form is that of the row.
