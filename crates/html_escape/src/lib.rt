@@ -4,7 +4,7 @@
 //! `encode_text_to_string` and `encode_text_to_vec` append, and `encode_text_to_writer` writes. An
 //! [`Operation`] is an [`Encoder`] or a [`Decoder`] as a value, and [`pieces`] hands out what it makes
 //! of a text piece by piece. References are decoded by the built-in table of names, or by an
-//! [`EntityTable`] that is handed in.
+//! [`EntityTable`] that is handed in. A [`BodyEncoder`] encodes a body that itself comes in pieces.
 #![tactic(auto)]
 
 pub mod decoder;
