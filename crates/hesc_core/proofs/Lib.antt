@@ -3,6 +3,7 @@ mod ChunkSearch
 mod EscapeSearch
 mod FlagTable
 mod FoundBytes
+mod GrowthSums
 mod Halving
 pub mod HandsOn
 pub mod HandsOnTable

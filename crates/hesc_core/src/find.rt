@@ -6,6 +6,7 @@ ghost use Rattle.hesc_specs.specs.FirstPlace.{IsFirstPlace};
 use memchr::{memchr, memchr2};
 
 /// The least place at or after `from` with this byte, or the length where there is none.
+#[inline(always)]
 pub fn first_byte(byte: u8, bytes: &[u8], from: usize) -> usize
     requires { from ≤ length bytes.now }
     ensures { IsFirstPlace (is_byte byte) bytes.now from result }
@@ -17,6 +18,7 @@ pub fn first_byte(byte: u8, bytes: &[u8], from: usize) -> usize
 }
 
 /// The least place at or after `from` with one of these bytes, or the length where there is none.
+#[inline(always)]
 pub fn first_of_two(one: u8, other: u8, bytes: &[u8], from: usize) -> usize
     requires { from ≤ length bytes.now }
     ensures { IsFirstPlace (is_byte2 one other) bytes.now from result }

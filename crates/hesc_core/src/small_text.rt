@@ -19,6 +19,7 @@ impl SmallText {
     ghost use Rattle.hesc_core.specs.Text.{small_text_bytes};
 
     /// The text, which has at most six bytes.
+    #[inline(always)]
     pub fn new(text: &str) -> SmallText
         requires { length text.now ≤ 6 }
         ensures { small_text_bytes result ≡ text.now }
@@ -32,6 +33,7 @@ impl SmallText {
     }
 
     /// The text of six ASCII bytes.
+    #[inline(always)]
     pub fn from_ascii(bytes: [u8; 6]) -> SmallText
         requires { IsAscii bytes }
         ensures { small_text_bytes result ≡ bytes }
@@ -40,6 +42,7 @@ impl SmallText {
     }
 
     /// The text of four ASCII bytes.
+    #[inline(always)]
     pub fn from_four_ascii(bytes: [u8; 4]) -> SmallText
         requires { IsAscii bytes }
         ensures { small_text_bytes result ≡ bytes }
@@ -52,6 +55,7 @@ impl SmallText {
     }
 
     /// The text.
+    #[inline(always)]
     pub fn as_str(&self) -> &str
         ensures { result.now ≡ small_text_bytes self.now }
     {

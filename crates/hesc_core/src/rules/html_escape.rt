@@ -14,6 +14,7 @@ use crate::small_text::SmallText;
 use hesc_specs::Class;
 
 /// The first byte of the class at or after `from`, a character boundary, and its reference.
+#[inline(always)]
 pub fn next_html_escape(class: Class, text: &str, from: usize) -> Option<Found<'static>>
     requires boundary { IsCharBoundary text.now from }
     requires html { IsHtml class }
@@ -32,7 +33,8 @@ pub fn next_html_escape(class: Class, text: &str, from: usize) -> Option<Found<'
     })
 }
 
-fn reference(byte: u8) -> Replacement<'static>
+#[inline(always)]
+pub(crate) fn reference(byte: u8) -> Replacement<'static>
     requires { byte < 128 }
     ensures { replacement_bytes result ≡ reference_to byte }
 {

@@ -1,6 +1,7 @@
 //! The sink that appends to a string.
-ghost use Rattle.std.specs.Prelude.{◌≡◌, [], ◌++◌, Some};
+ghost use Rattle.std.specs.Prelude.{◌≡◌, ◌≤◌, ◌+◌, [], ◌++◌, length, Some, IsOk, OnOk};
 ghost use Rattle.std.specs.String.{string_bytes};
+ghost use Rattle.hesc_core.specs.Forms.{Appended, string_room};
 
 use crate::sink::Sink;
 use crate::sinks::log::Log;
@@ -20,6 +21,7 @@ impl<'a, A: Allocator> StringSink<'a, A> {
     ghost use Rattle.hesc_core.specs.Sinks.{string_sink_output, string_sink_start, string_sink_taken};
 
     /// A sink over this output, which stays as it was.
+    #[inline(always)]
     pub fn new(output: &'a mut String<A>) -> StringSink<'a, A>
         ensures same_reference { (string_sink_output result).ghost_name ≡ output.entry.ghost_name }
         ensures start { string_sink_start result ≡ output.old }
@@ -35,6 +37,7 @@ impl<'a, A: Allocator> StringSink<'a, A> {
     }
 
     /// The output, to be used again: a caller knows of it only what is asked for here.
+    #[inline(always)]
     pub fn into_output(self) -> &'a mut String<A>
         ensures same_reference { result.ghost_name ≡ (string_sink_output self.entry).ghost_name }
         ensures value { result.now ≡ (string_sink_output self.entry).now }
@@ -44,7 +47,6 @@ impl<'a, A: Allocator> StringSink<'a, A> {
 }
 
 impl<A: Allocator> Sink for StringSink<'_, A> {
-    ghost use Rattle.hesc_core.specs.Forms.{string_room};
     ghost use Rattle.hesc_core.specs.Sinks.{
       string_sink_failures,
       string_sink_output,
@@ -64,8 +66,9 @@ impl<A: Allocator> Sink for StringSink<'_, A> {
 
     ghost before = { λ sink. Some (string_bytes (string_sink_start sink)) };
 
+    #[inline(always)]
     fn put(&mut self, piece: &str) -> Result<(), AllocError> {
-        match self.output.push_str(piece) {
+        match push(self.output, piece) {
             Ok(()) => {
                 self.log = self.log.after_taking(piece.as_bytes());
                 Ok(())
@@ -75,5 +78,25 @@ impl<A: Allocator> Sink for StringSink<'_, A> {
                 Err(fault)
             }
         }
+    }
+}
+
+// Short pieces are the many: each length has a copy of its own, with no loop.
+#[inline(always)]
+fn push<A: Allocator>(output: &mut String<A>, piece: &str) -> Result<(), AllocError>
+    ensures appended { Appended (string_bytes output.old) (string_bytes output.new)
+        piece.now result }
+    ensures fits { length piece.now ≤ string_room output.old → IsOk result }
+    ensures room { OnOk result
+        (string_room output.old ≤ string_room output.new + length piece.now) }
+{
+    match piece.len() {
+        1 => output.push_str(&piece[..1]),
+        2 => output.push_str(&piece[..2]),
+        3 => output.push_str(&piece[..3]),
+        4 => output.push_str(&piece[..4]),
+        5 => output.push_str(&piece[..5]),
+        6 => output.push_str(&piece[..6]),
+        _ => output.push_str(piece),
     }
 }
