@@ -10,6 +10,7 @@ pub mod HandsOnTable
 mod LaneLemmas
 mod OpeningSearch
 mod Progress
+mod ReferenceTable
 mod Seam
 mod StringEscapes
 mod Told

@@ -8,7 +8,7 @@ ghost use Rattle.hesc_specs.specs.Html.{encoding, image};
 
 use crate::flags::is_in;
 use crate::lanes::hits;
-use crate::rules::html_escape::reference;
+use crate::rules::html_references::reference;
 use hesc_specs::Class;
 use std::simd::prelude::*;
 
@@ -19,7 +19,12 @@ pub(crate) fn growth(class: Class, v: u8x32) -> usize
     requires html { IsHtml class }
     ensures { result + length v ≡ length (encoding class v) }
 {
-    let replaced = hits(class, v).count_ones() as usize;
+    let mask = hits(class, v);
+    // Most often nothing is replaced.
+    if mask == 0 {
+        return 0;
+    }
+    let replaced = mask.count_ones() as usize;
     // A reference has six bytes, but that to `&` has five, and those to `<` and `>` have four.
     5 * replaced - count(v, b'&') - 2 * count(v, b'<') - 2 * replaced_greater(class, v)
 }

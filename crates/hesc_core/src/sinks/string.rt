@@ -1,7 +1,6 @@
 //! The sink that appends to a string.
-ghost use Rattle.std.specs.Prelude.{◌≡◌, ◌≤◌, ◌+◌, [], ◌++◌, length, Some, IsOk, OnOk};
+ghost use Rattle.std.specs.Prelude.{◌≡◌, [], ◌++◌, Some};
 ghost use Rattle.std.specs.String.{string_bytes};
-ghost use Rattle.hesc_core.specs.Forms.{Appended, string_room};
 
 use crate::sink::Sink;
 use crate::sinks::log::Log;
@@ -47,6 +46,7 @@ impl<'a, A: Allocator> StringSink<'a, A> {
 }
 
 impl<A: Allocator> Sink for StringSink<'_, A> {
+    ghost use Rattle.hesc_core.specs.Forms.{string_room};
     ghost use Rattle.hesc_core.specs.Sinks.{
       string_sink_failures,
       string_sink_output,
@@ -68,7 +68,7 @@ impl<A: Allocator> Sink for StringSink<'_, A> {
 
     #[inline(always)]
     fn put(&mut self, piece: &str) -> Result<(), AllocError> {
-        match push(self.output, piece) {
+        match self.output.push_str(piece) {
             Ok(()) => {
                 self.log = self.log.after_taking(piece.as_bytes());
                 Ok(())
@@ -78,25 +78,5 @@ impl<A: Allocator> Sink for StringSink<'_, A> {
                 Err(fault)
             }
         }
-    }
-}
-
-// Short pieces are the many: each length has a copy of its own, with no loop.
-#[inline(always)]
-fn push<A: Allocator>(output: &mut String<A>, piece: &str) -> Result<(), AllocError>
-    ensures appended { Appended (string_bytes output.old) (string_bytes output.new)
-        piece.now result }
-    ensures fits { length piece.now ≤ string_room output.old → IsOk result }
-    ensures room { OnOk result
-        (string_room output.old ≤ string_room output.new + length piece.now) }
-{
-    match piece.len() {
-        1 => output.push_str(&piece[..1]),
-        2 => output.push_str(&piece[..2]),
-        3 => output.push_str(&piece[..3]),
-        4 => output.push_str(&piece[..4]),
-        5 => output.push_str(&piece[..5]),
-        6 => output.push_str(&piece[..6]),
-        _ => output.push_str(piece),
     }
 }

@@ -1,6 +1,5 @@
 //! The sink that appends to a vector of bytes.
-ghost use Rattle.std.specs.Prelude.{◌≡◌, ◌≤◌, ◌+◌, [], ◌++◌, length, Some, IsOk, OnOk};
-ghost use Rattle.hesc_core.specs.Forms.{Appended, vec_room};
+ghost use Rattle.std.specs.Prelude.{◌≡◌, [], ◌++◌, Some};
 
 use crate::sink::Sink;
 use crate::sinks::log::Log;
@@ -46,6 +45,7 @@ impl<'a, A: Allocator> VecSink<'a, A> {
 }
 
 impl<A: Allocator> Sink for VecSink<'_, A> {
+    ghost use Rattle.hesc_core.specs.Forms.{vec_room};
     ghost use Rattle.hesc_core.specs.Sinks.{
       vec_sink_failures,
       vec_sink_output,
@@ -67,7 +67,7 @@ impl<A: Allocator> Sink for VecSink<'_, A> {
 
     #[inline(always)]
     fn put(&mut self, piece: &str) -> Result<(), AllocError> {
-        match push(self.output, piece.as_bytes()) {
+        match self.output.extend_from_slice(piece.as_bytes()) {
             Ok(()) => {
                 self.log = self.log.after_taking(piece.as_bytes());
                 Ok(())
@@ -77,24 +77,5 @@ impl<A: Allocator> Sink for VecSink<'_, A> {
                 Err(fault)
             }
         }
-    }
-}
-
-// Short pieces are the many: each length has a copy of its own, with no loop.
-#[inline(always)]
-fn push<A: Allocator>(output: &mut Vec<u8, A>, piece: &[u8]) -> Result<(), AllocError>
-    ensures appended { Appended output.old.items output.new.items piece.now result }
-    ensures fits { length piece.now ≤ vec_room output.old → IsOk result }
-    ensures room { OnOk result
-        (vec_room output.old ≤ vec_room output.new + length piece.now) }
-{
-    match piece.len() {
-        1 => output.extend_from_slice(&piece[..1]),
-        2 => output.extend_from_slice(&piece[..2]),
-        3 => output.extend_from_slice(&piece[..3]),
-        4 => output.extend_from_slice(&piece[..4]),
-        5 => output.extend_from_slice(&piece[..5]),
-        6 => output.extend_from_slice(&piece[..6]),
-        _ => output.extend_from_slice(piece),
     }
 }
