@@ -15,7 +15,7 @@ pub struct SmallText {
 }
 
 impl SmallText {
-    ghost use Rattle.std.specs.Prelude.{◌≡◌, length};
+    ghost use Rattle.std.specs.Prelude.{◌≡◌, ◌<◌, [], ◌∷◌, encode_utf8, length};
     ghost use Rattle.hesc_core.specs.Text.{small_text_bytes};
 
     /// The text, which has at most six bytes.
@@ -29,6 +29,29 @@ impl SmallText {
         SmallText {
             bytes,
             len: text.len(),
+        }
+    }
+
+    /// The text of one character.
+    #[inline(always)]
+    pub fn from_char(character: char) -> SmallText
+        ensures { small_text_bytes result ≡ encode_utf8 character }
+    {
+        if character.is_ascii() {
+            SmallText::from_one_ascii(character as u8)
+        } else {
+            SmallText::new(character.encode_utf8(&mut [0; 4]))
+        }
+    }
+
+    #[inline(always)]
+    fn from_one_ascii(byte: u8) -> SmallText
+        requires { byte < 128 }
+        ensures { small_text_bytes result ≡ byte ∷ [] }
+    {
+        SmallText {
+            bytes: [byte, 0, 0, 0, 0, 0],
+            len: 1,
         }
     }
 

@@ -52,8 +52,7 @@ fn character(number: u32) -> Option<Replacement<'static>>
         return None;
     }
     let character = char::from_u32(number)?;
-    let mut bytes = [0; 4];
-    Some(Replacement::Small(SmallText::new(character.encode_utf8(&mut bytes))))
+    Some(Replacement::Small(SmallText::from_char(character)))
 }
 
 // Whether the number is of a C0 control other than tab, line feed, form feed, carriage return.

@@ -81,5 +81,5 @@ pub fn next_string_unescape(
 fn replacement(character: char) -> Replacement<'static>
     ensures { replacement_bytes result ≡ encode_utf8 character }
 {
-    Replacement::Small(SmallText::new(character.encode_utf8(&mut [0; 4])))
+    Replacement::Small(SmallText::from_char(character))
 }
