@@ -23,25 +23,28 @@ pub record StandsAt (bytes : List ℕ) (place : ℕ) (found : List ℕ) : Type 0
   pub bytes_there : found ≡ chunk place 32 bytes
 
 -- the chunks of the bytes from a place on
-module _ (bytes : List ℕ) (from : ℕ) (chunks : List (List ℕ)) (i : ℕ) (within : from ≤ length bytes)
-    (front : chunks ≡ first_chunks 32 (length (chunk from (length bytes - from) bytes) / 32) (chunk from (length bytes - from) bytes))
-    (many : length chunks ≡ length (chunk from (length bytes - from) bytes) / 32) (inside : i < length chunks) where
-  rest : chunk from (length bytes - from) bytes ≡ drop from bytes
-  rest = take_all (length bytes - from) (drop from bytes) (omega (arith, length-drop from bytes))
-
+module _ (bytes rest : List ℕ) (from : ℕ) (chunks : List (List ℕ)) (i : ℕ) (within : from ≤ length bytes) (from_there : rest ≡ drop from bytes)
+    (front : chunks ≡ first_chunks 32 (length rest / 32) rest) (many : length chunks ≡ length rest / 32) (inside : i < length chunks) where
   count : length chunks ≡ (length bytes - from) / 32
-  count = many ∙ ap (λ l. length l / 32) rest ∙ ap (λ n. n / 32) (length-drop from bytes)
+  count = many ∙ ap (λ l. length l / 32) from_there ∙ ap (λ n. n / 32) (length-drop from bytes)
 
   pub chunk_stands : (place : ℕ) → place ≡ from + 32 * i → StandsAt bytes place (get_or chunks i [])
   chunk_stands place is = record {
     room = omega (arith, is, count, inside, within);
     bytes_there =
         ap (λ l. get_or l i []) front
-        ∙ get_or-first_chunks 32 (length (chunk from (length bytes - from) bytes) / 32) i (chunk from (length bytes - from) bytes) (omega (arith, many, inside))
-        ∙ ap (λ l. chunk (32 * i) 32 l) rest
+        ∙ get_or-first_chunks 32 (length rest / 32) i rest (omega (arith, many, inside))
+        ∙ ap (λ l. chunk (32 * i) 32 l) from_there
         ∙ ap (chunk 0 32) (drop-drop (32 * i) from bytes)
         ∙ ap (λ at. chunk at 32 bytes) (sym is);
   }
+
+-- a slice from a place on, as a program writes it
+pub slice_rest : (bytes : List ℕ) (from : ℕ) → from ≤ length bytes → chunk from (length bytes - from) bytes ≡ drop from bytes
+slice_rest bytes from within = take_all (length bytes - from) (drop from bytes) (omega (arith, length-drop from bytes))
+
+pub chunk_long : (bytes found : List ℕ) (place : ℕ) → StandsAt bytes place found → length found ≡ 32
+chunk_long bytes found place stands = ap length stands.bytes_there ∙ length-chunk place 32 bytes stands.room
 
 pub below_256 : (bytes found : List ℕ) (place : ℕ) → ((k : ℕ) → Fits w8 (get_or bytes k 0)) → StandsAt bytes place found → Each1 (λ b. b < 256) found
 below_256 bytes found place fits stands = subst (Each1 (λ b. b < 256)) (sym stands.bytes_there) (below_from_Fits w8 _ (chunk-fits w8 place 32 bytes fits))

@@ -3,6 +3,7 @@ mod ChunkSearch
 mod EscapeSearch
 mod FlagTable
 mod FoundBytes
+mod GrowthSums
 mod Halving
 pub mod HandsOn
 pub mod HandsOnTable
@@ -10,5 +11,7 @@ mod LaneLemmas
 mod OpeningSearch
 mod Progress
 pub mod Seam
+mod ReferenceTable
+mod Seam
 mod StringEscapes
 mod Told

@@ -10,6 +10,7 @@ use crate::sink::Sink;
 ///
 /// On success the sink took exactly that. On the sink's fault, which is handed on at once, it took
 /// a beginning of it.
+#[inline(always)]
 pub fn run<R: Rule, S: Sink>(rule: &R, text: &str, sink: &mut S) -> Result<(), S::Fault>
     ensures ok_taken { OnOk result
         (S.taken sink.new ≡ S.taken sink.old ++ R.made rule.now text.now) }

@@ -15,6 +15,7 @@ impl Replacement<'_> {
     ghost use Rattle.hesc_core.specs.Text.{replacement_bytes};
 
     /// The text.
+    #[inline(always)]
     pub fn as_str(&self) -> &str
         ensures { result.now ≡ replacement_bytes self.now }
     {

@@ -11,6 +11,8 @@ pub mod find;
 mod flags;
 pub mod forms;
 pub mod found;
+mod html_growth;
+mod html_length;
 mod lanes;
 pub mod laws;
 pub mod openings;

@@ -19,6 +19,7 @@ impl Piece<'_> {
     ghost use Rattle.hesc_core.specs.Pieces.{part_of};
 
     /// The piece's text, which is not empty in a piece of `Pieces`.
+    #[inline(always)]
     pub fn as_str(&self) -> &str
         ensures { result.now ≡ part_bytes (part_of self.now) }
     {
@@ -50,6 +51,7 @@ impl<'t, R: Rule> Pieces<'t, R> {
     ghost use Rattle.hesc_core.specs.Pieces.{parts_left};
 
     /// The pieces of what `rule` makes of `text`.
+    #[inline(always)]
     pub fn new(rule: &'t R, text: &'t str) -> Pieces<'t, R>
         ensures pieces { parts_left result ≡ parts text.now 0 (R.changes_from rule.now text.now 0) }
         ensures joined { joined (parts text.now 0 (R.changes_from rule.now text.now 0))
@@ -77,6 +79,7 @@ impl<'t, R: Rule> Iterator for Pieces<'t, R> {
 
     ghost remaining = { item_count parts_left };
 
+    #[inline(always)]
     fn next(&mut self) -> Option<Piece<'t>> {
         if let Some(replacement) = self.pending {
             self.pending = None;

@@ -1,5 +1,5 @@
 //! Rules: an operation as the changes that it makes, one after another.
-ghost use Rattle.std.specs.Prelude.{◌≡◌, ℕ, List, [], IfNone, IfSome};
+ghost use Rattle.std.specs.Prelude.{◌≡◌, ◌<◌, ◌^◌, ℕ, List, [], length, IfNone, IfSome, IsSome};
 ghost use Rattle.std.specs.Str.{IsCharBoundary, IsUtf8};
 ghost use Rattle.hesc_specs.specs.Changes.{Change, applied};
 ghost use Rattle.hesc_core.specs.Next.{IsNext};
@@ -20,6 +20,32 @@ pub trait Rule {
         requires { IsCharBoundary text.now from }
         ensures none { IfNone result (changes_from self.now text.now from ≡ []) }
         ensures found { IfSome result (IsNext text.now from (changes_from self.now text.now)) };
+
+    /// How many bytes the rule's text has, or `None` where they pass the greatest `usize`.
+    #[inline(always)]
+    fn total(&self, text: &str) -> Option<usize>
+        ensures count { IfSome result (λ count. count ≡ length (made self.now text.now)) }
+        ensures fits { length (made self.now text.now) < 2 ^ 64 → IsSome result }
+    {
+        self.total_by_changes(text)
+    }
+
+    /// The same, by going from change to change.
+    #[inline(always)]
+    fn total_by_changes(&self, text: &str) -> Option<usize>
+        ensures count { IfSome result (λ count. count ≡ length (made self.now text.now)) }
+        ensures fits { length (made self.now text.now) < 2 ^ 64 → IsSome result }
+    {
+        let mut count: usize = 0;
+        let mut from = 0;
+        'counting: while let Some(found) = self.next(text, from) {
+            count = count
+                .checked_add(found.start - from)?
+                .checked_add(found.replacement.as_str().len())?;
+            from = found.end;
+        }
+        count.checked_add(text.len() - from)
+    }
 
     // The changes, made, are the rule's text.
     ghost makes: { (rule : Self) (source : List ℕ) → IsUtf8 source →

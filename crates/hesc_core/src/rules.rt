@@ -3,6 +3,7 @@ pub mod bodies;
 pub mod escape;
 mod hex_digits;
 pub mod html_escape;
+pub(crate) mod html_references;
 mod reference_values;
 pub mod references;
 pub mod string_escape;

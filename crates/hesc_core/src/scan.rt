@@ -15,11 +15,24 @@ use std::simd::prelude::*;
 
 /// The least place at or after `from` whose byte is in the class, or the length where there is
 /// none.
+#[inline(always)]
 pub fn first_in(class: Class, bytes: &[u8], from: usize) -> usize
     requires { from ≤ length bytes.now }
     ensures { IsFirstPlace (in_class class) bytes.now from result }
 {
-    // With each class named, each arm is a loop of that class's comparisons alone.
+    // Where much is replaced, the first byte often is.
+    if from < bytes.len() && is_in(class, bytes[from]) {
+        return from;
+    }
+    first_by_class(class, bytes, from)
+}
+
+// Each arm is a loop of the comparisons of its class alone.
+#[inline(never)]
+fn first_by_class(class: Class, bytes: &[u8], from: usize) -> usize
+    requires { from ≤ length bytes.now }
+    ensures { IsFirstPlace (in_class class) bytes.now from result }
+{
     match class {
         Class::TextMinimal => first_by_lanes(Class::TextMinimal, bytes, from),
         Class::Text => first_by_lanes(Class::Text, bytes, from),
@@ -42,10 +55,6 @@ fn first_by_lanes(class: Class, bytes: &[u8], from: usize) -> usize
     requires { from ≤ length bytes.now }
     ensures { IsFirstPlace (in_class class) bytes.now from result }
 {
-    // Where much is replaced, the first byte often is.
-    if from < bytes.len() && is_in(class, bytes[from]) {
-        return from;
-    }
     let (chunks, _) = bytes[from..].as_chunks::<32>();
     let mut place = from;
     for chunk in chunks {
@@ -73,6 +82,7 @@ fn first_by_one(class: Class, bytes: &[u8], from: usize) -> usize
 
 /// The least place at or after `from` where something begins that the encoder of the class
 /// replaces, or the length where there is none.
+#[inline(always)]
 pub fn first_escaped(class: Class, bytes: &[u8], from: usize) -> usize
     requires { from ≤ length bytes.now }
     ensures { IsFirstAt (escapes_at class bytes.now) from (length bytes.now) result }
@@ -87,6 +97,7 @@ pub fn first_escaped(class: Class, bytes: &[u8], from: usize) -> usize
     place
 }
 
+#[inline(always)]
 fn completes_separator(rest: &[u8]) -> bool
     ensures { result ≡ completes rest.now }
 {

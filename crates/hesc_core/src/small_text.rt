@@ -15,10 +15,11 @@ pub struct SmallText {
 }
 
 impl SmallText {
-    ghost use Rattle.std.specs.Prelude.{◌≡◌, length};
+    ghost use Rattle.std.specs.Prelude.{◌≡◌, ◌<◌, [], ◌∷◌, encode_utf8, length};
     ghost use Rattle.hesc_core.specs.Text.{small_text_bytes};
 
     /// The text, which has at most six bytes.
+    #[inline(always)]
     pub fn new(text: &str) -> SmallText
         requires { length text.now ≤ 6 }
         ensures { small_text_bytes result ≡ text.now }
@@ -31,7 +32,31 @@ impl SmallText {
         }
     }
 
+    /// The text of one character.
+    #[inline(always)]
+    pub fn from_char(character: char) -> SmallText
+        ensures { small_text_bytes result ≡ encode_utf8 character }
+    {
+        if character.is_ascii() {
+            SmallText::from_one_ascii(character as u8)
+        } else {
+            SmallText::new(character.encode_utf8(&mut [0; 4]))
+        }
+    }
+
+    #[inline(always)]
+    fn from_one_ascii(byte: u8) -> SmallText
+        requires { byte < 128 }
+        ensures { small_text_bytes result ≡ byte ∷ [] }
+    {
+        SmallText {
+            bytes: [byte, 0, 0, 0, 0, 0],
+            len: 1,
+        }
+    }
+
     /// The text of six ASCII bytes.
+    #[inline(always)]
     pub fn from_ascii(bytes: [u8; 6]) -> SmallText
         requires { IsAscii bytes }
         ensures { small_text_bytes result ≡ bytes }
@@ -40,6 +65,7 @@ impl SmallText {
     }
 
     /// The text of four ASCII bytes.
+    #[inline(always)]
     pub fn from_four_ascii(bytes: [u8; 4]) -> SmallText
         requires { IsAscii bytes }
         ensures { small_text_bytes result ≡ bytes }
@@ -52,6 +78,7 @@ impl SmallText {
     }
 
     /// The text.
+    #[inline(always)]
     pub fn as_str(&self) -> &str
         ensures { result.now ≡ small_text_bytes self.now }
     {

@@ -7,6 +7,7 @@ use std::alloc::{AllocError, Allocator};
 use std::borrow::CowStr;
 
 /// What `rule` makes of `text`: `text` itself where nothing changes, which takes no memory.
+#[inline(always)]
 pub fn to_cow<'t, R: Rule, A: Allocator>(
     alloc: A,
     rule: &R,

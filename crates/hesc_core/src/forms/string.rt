@@ -12,6 +12,7 @@ use crate::sinks::string::StringSink;
 use std::alloc::{AllocError, Allocator};
 
 /// Appends what `rule` makes of `text`, or leaves the output as it was.
+#[inline(always)]
 pub fn append_to_string<R: Rule, A: Allocator>(
     output: &mut String<A>,
     rule: &R,
@@ -36,6 +37,7 @@ pub fn append_to_string<R: Rule, A: Allocator>(
 
 /// Appends what `rule` makes of `text`, and answers the part that was added. On a refusal the
 /// output is as it was.
+#[inline(always)]
 pub fn onto_string<'o, R: Rule, A: Allocator>(
     output: &'o mut String<A>,
     rule: &R,
@@ -50,6 +52,7 @@ pub fn onto_string<'o, R: Rule, A: Allocator>(
     Ok(part_from(output, start))
 }
 
+#[inline(always)]
 fn part_from<A: Allocator>(output: &String<A>, start: usize) -> &str
     requires { IsCharBoundary (string_bytes output.now) start }
     ensures { result.now ≡ drop start (string_bytes output.now) }

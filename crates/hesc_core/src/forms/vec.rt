@@ -10,6 +10,7 @@ use crate::sinks::vec::VecSink;
 use std::alloc::{AllocError, Allocator};
 
 /// Appends what `rule` makes of `text`, or leaves the output as it was.
+#[inline(always)]
 pub fn append_to_vec<R: Rule, A: Allocator>(
     output: &mut Vec<u8, A>,
     rule: &R,
@@ -34,6 +35,7 @@ pub fn append_to_vec<R: Rule, A: Allocator>(
 
 /// Appends what `rule` makes of `text`, and answers the part that was added. On a refusal the
 /// output is as it was.
+#[inline(always)]
 pub fn onto_vec<'o, R: Rule, A: Allocator>(
     output: &'o mut Vec<u8, A>,
     rule: &R,

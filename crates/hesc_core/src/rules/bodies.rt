@@ -35,6 +35,7 @@ impl Rule for EncodeScript {
 
     ghost made = { λ rule. body_encoding Script };
 
+    #[inline(always)]
     fn next(&self, text: &str, from: usize) -> Option<Found<'_>> {
         next_body_escape(Element::Script, text, from)
     }
@@ -47,6 +48,7 @@ impl Rule for EncodeStyle {
 
     ghost made = { λ rule. body_encoding Style };
 
+    #[inline(always)]
     fn next(&self, text: &str, from: usize) -> Option<Found<'_>> {
         next_body_escape(Element::Style, text, from)
     }
@@ -59,6 +61,7 @@ impl Rule for DecodeScript {
 
     ghost made = { λ rule. body_decoding Script };
 
+    #[inline(always)]
     fn next(&self, text: &str, from: usize) -> Option<Found<'_>> {
         next_body_unescape(Element::Script, text, from)
     }
@@ -71,6 +74,7 @@ impl Rule for DecodeStyle {
 
     ghost made = { λ rule. body_decoding Style };
 
+    #[inline(always)]
     fn next(&self, text: &str, from: usize) -> Option<Found<'_>> {
         next_body_unescape(Element::Style, text, from)
     }
@@ -79,6 +83,7 @@ impl Rule for DecodeStyle {
 }
 
 /// The `\` that goes into the first opening at or after `from`, a character boundary.
+#[inline(always)]
 pub fn next_body_escape(element: Element, text: &str, from: usize) -> Option<Found<'static>>
     requires { IsCharBoundary text.now from }
     ensures none { IfNone result (body_encoding_changes element text.now from ≡ []) }
@@ -98,6 +103,7 @@ pub fn next_body_escape(element: Element, text: &str, from: usize) -> Option<Fou
 
 /// The first `\` at or after `from`, a character boundary, that an escaped opening loses. Its `<`
 /// may stand right before `from`.
+#[inline(always)]
 pub fn next_body_unescape(element: Element, text: &str, from: usize) -> Option<Found<'static>>
     requires { IsCharBoundary text.now from }
     ensures none { IfNone result (body_decoding_changes element text.now from ≡ []) }

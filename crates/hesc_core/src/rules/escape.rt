@@ -7,6 +7,7 @@ ghost use Rattle.hesc_specs.proofs.EscapeChanges.{applied-escape_changes};
 ghost use Rattle.hesc_core.specs.Next.{IsNext};
 
 use crate::found::Found;
+use crate::html_length::encoded_length;
 use crate::rule::Rule;
 use crate::rules::html_escape::next_html_escape;
 use crate::rules::string_escape::next_string_escape;
@@ -22,14 +23,25 @@ impl Rule for Escape {
 
     ghost made = { λ rule. escaped rule.0 };
 
+    #[inline(always)]
     fn next(&self, text: &str, from: usize) -> Option<Found<'_>> {
         next_escape(self.0, text, from)
+    }
+
+    // That of an HTML encoding needs no search.
+    #[inline(always)]
+    fn total(&self, text: &str) -> Option<usize> {
+        match string_class(self.0) {
+            Some(_) => self.total_by_changes(text),
+            None => encoded_length(self.0, text.as_bytes()),
+        }
     }
 
     ghost makes = { λ rule source text. applied-escape_changes rule.0 source text };
 }
 
 /// The first change of the encoder of the class at or after `from`, a character boundary.
+#[inline(always)]
 pub fn next_escape(class: Class, text: &str, from: usize) -> Option<Found<'static>>
     requires { IsCharBoundary text.now from }
     ensures none { IfNone result (escape_changes class text.now from ≡ []) }

@@ -3,6 +3,7 @@ ghost use Rattle.std.specs.Prelude.{◌≡◌, ◌<◌};
 ghost use Rattle.hesc_specs.specs.HexDigits.{hex_digit};
 
 /// A digit 0 to 15, as a digit or an upper-case letter.
+#[inline(always)]
 pub fn upper_hex_digit(digit: u8) -> u8
     requires { digit < 16 }
     ensures digit { result ≡ hex_digit digit }

@@ -1,6 +1,7 @@
 //! The value of a reference's body: of its number, or of its name.
 ghost use Rattle.std.specs.Prelude.{◌≡◌, ◌≤◌, ◌<◌, ◌+◌, ◌*◌};
 ghost use Rattle.std.specs.Option.{option_map};
+ghost use Rattle.hesc_specs.specs.Entities.{value_of};
 ghost use Rattle.hesc_specs.specs.References.{body_value, is_kept_control, number_of, numbered_value, numeral};
 ghost use Rattle.hesc_core.specs.Numbers.{base_of, capped};
 ghost use Rattle.hesc_core.specs.Table.{rows_of};
@@ -19,10 +20,27 @@ pub fn value_of_body<'a>(table: &EntityTable<'a>, body: &[u8]) -> Option<Replace
 {
     match number_of(body) {
         Some(number) => character(number),
-        None => match table.get(body) {
+        None => match value_of_name(table, body) {
             Some(value) => Some(Replacement::Borrowed(value)),
             None => None,
         },
+    }
+}
+
+// The value of a name. The common names, which most references have, are in every table.
+fn value_of_name<'a>(table: &EntityTable<'a>, name: &[u8]) -> Option<&'a str>
+    ensures { option_map (λ value. value.now) result ≡ value_of (rows_of table.now) name.now }
+{
+    if name == b"lt".as_slice() {
+        Some("<")
+    } else if name == b"gt".as_slice() {
+        Some(">")
+    } else if name == b"amp".as_slice() {
+        Some("&")
+    } else if name == b"quot".as_slice() {
+        Some("\"")
+    } else {
+        table.get(name)
     }
 }
 
@@ -34,8 +52,7 @@ fn character(number: u32) -> Option<Replacement<'static>>
         return None;
     }
     let character = char::from_u32(number)?;
-    let mut bytes = [0; 4];
-    Some(Replacement::Small(SmallText::new(character.encode_utf8(&mut bytes))))
+    Some(Replacement::Small(SmallText::from_char(character)))
 }
 
 // Whether the number is of a C0 control other than tab, line feed, form feed, carriage return.

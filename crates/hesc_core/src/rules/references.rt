@@ -22,6 +22,7 @@ impl Rule for References<'_> {
 
     ghost made = { λ rule. decoded (rows_of rule.0.now) };
 
+    #[inline(always)]
     fn next(&self, text: &str, from: usize) -> Option<Found<'_>> {
         next_references(self.0, text, from)
     }

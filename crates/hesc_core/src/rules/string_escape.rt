@@ -21,6 +21,7 @@ use hesc_specs::{Class, Element};
 
 /// The first character at or after `from`, a character boundary, that the encoder of the class
 /// replaces, and its escape.
+#[inline(always)]
 pub fn next_string_escape(
     class: Class,
     element: Element,
@@ -52,6 +53,7 @@ pub fn next_string_escape(
     })
 }
 
+#[inline(always)]
 fn separator_escape(last: u8) -> Replacement<'static>
     ensures { replacement_bytes result
         ≡ string_escape Script (if last == 0xA8 then line_separator else paragraph_separator) }
@@ -63,6 +65,7 @@ fn separator_escape(last: u8) -> Replacement<'static>
     }
 }
 
+#[inline(always)]
 fn ascii_escape(element: Element, byte: u8) -> Replacement<'static>
     requires { byte < 128 }
     ensures { replacement_bytes result ≡ string_escape element byte }
@@ -73,6 +76,7 @@ fn ascii_escape(element: Element, byte: u8) -> Replacement<'static>
     }
 }
 
+#[inline(always)]
 fn script_escape(byte: u8) -> Replacement<'static>
     requires { byte < 128 }
     ensures { replacement_bytes result ≡ string_escape Script byte }
@@ -90,6 +94,7 @@ fn script_escape(byte: u8) -> Replacement<'static>
     }
 }
 
+#[inline(always)]
 fn style_escape(byte: u8) -> Replacement<'static>
     requires { byte < 128 }
     ensures { replacement_bytes result ≡ string_escape Style byte }

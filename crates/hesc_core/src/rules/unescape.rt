@@ -25,6 +25,7 @@ impl Rule for Unescape {
 
     ghost made = { λ rule. unescaped rule.0 };
 
+    #[inline(always)]
     fn next(&self, text: &str, from: usize) -> Option<Found<'_>> {
         next_unescape(self.0, text, from)
     }
@@ -34,6 +35,7 @@ impl Rule for Unescape {
 
 /// The first escape at or after `from`, a character boundary, where the reading begins, and its
 /// character. In an HTML encoder's class there is none.
+#[inline(always)]
 pub fn next_unescape(class: Class, text: &str, from: usize) -> Option<Found<'static>>
     requires { IsCharBoundary text.now from }
     ensures none { IfNone result (unescape_changes class text.now from ≡ []) }
@@ -47,6 +49,7 @@ pub fn next_unescape(class: Class, text: &str, from: usize) -> Option<Found<'sta
 
 /// The first escape of an encoded string at or after `from`, a character boundary, where the
 /// reading begins, and its character.
+#[inline(always)]
 pub fn next_string_unescape(
     element: Element,
     quotes: Quotes,
@@ -74,8 +77,9 @@ pub fn next_string_unescape(
     None
 }
 
+#[inline(always)]
 fn replacement(character: char) -> Replacement<'static>
     ensures { replacement_bytes result ≡ encode_utf8 character }
 {
-    Replacement::Small(SmallText::new(character.encode_utf8(&mut [0; 4])))
+    Replacement::Small(SmallText::from_char(character))
 }

@@ -20,6 +20,7 @@ impl Counter {
     ghost use Rattle.hesc_core.specs.Sinks.{counted};
 
     /// Nothing taken yet.
+    #[inline(always)]
     pub fn new() -> Counter
         ensures { counted result ≡ [] }
     {
@@ -30,6 +31,7 @@ impl Counter {
     }
 
     /// The number of bytes taken.
+    #[inline(always)]
     pub fn count(&self) -> usize
         ensures { result ≡ length (counted self.now) }
     {
@@ -52,6 +54,7 @@ impl Sink for Counter {
 
     ghost before = { λ _. None };
 
+    #[inline(always)]
     fn put(&mut self, piece: &str) -> Result<(), CountOverflow> {
         match self.count.checked_add(piece.len()) {
             Some(count) => {

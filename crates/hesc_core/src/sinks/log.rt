@@ -19,6 +19,7 @@ impl Model for Log {
 
 impl Log {
     /// Nothing taken, and no failure.
+    #[inline(always)]
     pub fn new() -> Log
         ensures { (result.taken ≡ []) × (result.failures ≡ 0) }
     {
@@ -28,6 +29,7 @@ impl Log {
     }
 
     /// The log after `bytes` were taken too.
+    #[inline(always)]
     pub fn after_taking(&self, bytes: &[u8]) -> Log
         ensures taken { result.taken ≡ self.now.taken ++ bytes.now }
         ensures failures { result.failures ≡ self.now.failures }
@@ -36,6 +38,7 @@ impl Log {
     }
 
     /// The log after one more failure.
+    #[inline(always)]
     pub fn after_failing(&self) -> Log
         ensures taken { result.taken ≡ self.now.taken }
         ensures failures { result.failures ≡ self.now.failures + 1 }
@@ -44,6 +47,7 @@ impl Log {
     }
 
     // A log that says what its caller picks.
+    #[inline(always)]
     fn saying(_before: &Log, _piece: &[u8]) -> Log
         ghost said: { List ℕ × ℕ }
         ensures { (result.taken ≡ said.0) × (result.failures ≡ said.1) }

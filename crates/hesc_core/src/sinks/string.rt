@@ -20,6 +20,7 @@ impl<'a, A: Allocator> StringSink<'a, A> {
     ghost use Rattle.hesc_core.specs.Sinks.{string_sink_output, string_sink_start, string_sink_taken};
 
     /// A sink over this output, which stays as it was.
+    #[inline(always)]
     pub fn new(output: &'a mut String<A>) -> StringSink<'a, A>
         ensures same_reference { (string_sink_output result).ghost_name ≡ output.entry.ghost_name }
         ensures start { string_sink_start result ≡ output.old }
@@ -35,6 +36,7 @@ impl<'a, A: Allocator> StringSink<'a, A> {
     }
 
     /// The output, to be used again: a caller knows of it only what is asked for here.
+    #[inline(always)]
     pub fn into_output(self) -> &'a mut String<A>
         ensures same_reference { result.ghost_name ≡ (string_sink_output self.entry).ghost_name }
         ensures value { result.now ≡ (string_sink_output self.entry).now }
@@ -64,6 +66,7 @@ impl<A: Allocator> Sink for StringSink<'_, A> {
 
     ghost before = { λ sink. Some (string_bytes (string_sink_start sink)) };
 
+    #[inline(always)]
     fn put(&mut self, piece: &str) -> Result<(), AllocError> {
         match self.output.push_str(piece) {
             Ok(()) => {

@@ -19,6 +19,7 @@ impl<'a, A: Allocator> VecSink<'a, A> {
     ghost use Rattle.hesc_core.specs.Sinks.{vec_sink_output, vec_sink_start, vec_sink_taken};
 
     /// A sink over this output, which stays as it was.
+    #[inline(always)]
     pub fn new(output: &'a mut Vec<u8, A>) -> VecSink<'a, A>
         ensures same_reference { (vec_sink_output result).ghost_name ≡ output.entry.ghost_name }
         ensures start { vec_sink_start result ≡ output.old }
@@ -34,6 +35,7 @@ impl<'a, A: Allocator> VecSink<'a, A> {
     }
 
     /// The output, to be used again: a caller knows of it only what is asked for here.
+    #[inline(always)]
     pub fn into_output(self) -> &'a mut Vec<u8, A>
         ensures same_reference { result.ghost_name ≡ (vec_sink_output self.entry).ghost_name }
         ensures value { result.now ≡ (vec_sink_output self.entry).now }
@@ -63,6 +65,7 @@ impl<A: Allocator> Sink for VecSink<'_, A> {
 
     ghost before = { λ sink. Some (vec_sink_start sink).items };
 
+    #[inline(always)]
     fn put(&mut self, piece: &str) -> Result<(), AllocError> {
         match self.output.extend_from_slice(piece.as_bytes()) {
             Ok(()) => {

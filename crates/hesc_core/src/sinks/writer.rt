@@ -23,6 +23,7 @@ impl<'a, W: Write> WriterSink<'a, W> {
     ghost use Rattle.hesc_core.specs.Sinks.{writer_sink_output, writer_sink_start, writer_sink_taken};
 
     /// A sink over this output, which stays as it was.
+    #[inline(always)]
     pub fn new(output: &'a mut W) -> WriterSink<'a, W>
         ensures same_reference { (writer_sink_output result).ghost_name ≡ output.entry.ghost_name }
         ensures start { writer_sink_start result ≡ output.old }
@@ -38,6 +39,7 @@ impl<'a, W: Write> WriterSink<'a, W> {
     }
 
     /// The output, to be used again: a caller knows of it only what is asked for here.
+    #[inline(always)]
     pub fn into_output(self) -> &'a mut W
         ensures same_reference { result.ghost_name ≡ (writer_sink_output self.entry).ghost_name }
         ensures value { result.now ≡ (writer_sink_output self.entry).now }
@@ -66,6 +68,7 @@ impl<W: Write> Sink for WriterSink<'_, W> {
 
     ghost before = { λ sink. W.contents (writer_sink_start sink) };
 
+    #[inline(always)]
     fn put(&mut self, piece: &str) -> Result<(), io::Error> {
         let mut left = piece.as_bytes();
         'offering: while !left.is_empty() {

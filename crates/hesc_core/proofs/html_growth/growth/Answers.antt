@@ -1,0 +1,33 @@
+use Rattle.std.proofs.Common.{ℕ, true, [], ◌≡◌, ◌==◌, ◌+◌, ◌*◌, length, ap, ◌∙◌, arith}
+use Rattle.std.proofs.lemmas.Simd.{ones-mask_l}
+use Rattle.std.specs.Int.RustNames.{count_ones}
+use Rattle.std.specs.List.{count_by}
+use Rattle.hesc_specs.specs.Classes.{in_class}
+use Rattle.hesc_core.proofs.GrowthSums.{adds_up-all, no_shorter}
+use Rattle.hesc_core.proofs.html_growth.growth.Goals as goal
+
+pub overflow_sub-result : goal.overflow_sub-result
+overflow_sub-result c =
+    let ones = ap count_ones c.hits-mask.ensures ∙ ones-mask_l (in_class c.args.class) c.args.v in
+    omega (arith, ones, c.count.ensures, no_shorter c.args.class c.requires.html c.args.v c.requires.below, adds_up-all c.args.class c.requires.html c.args.v c.requires.below)
+
+pub overflow_sub-result-2 : goal.overflow_sub-result-2
+overflow_sub-result-2 c =
+    let ones = ap count_ones c.hits-mask.ensures ∙ ones-mask_l (in_class c.args.class) c.args.v in
+    omega (arith, ones, c.count.ensures, c.count-2.ensures, no_shorter c.args.class c.requires.html c.args.v c.requires.below, adds_up-all c.args.class c.requires.html c.args.v c.requires.below)
+
+pub overflow_sub-result-3 : goal.overflow_sub-result-3
+overflow_sub-result-3 c =
+    let ones = ap count_ones c.hits-mask.ensures ∙ ones-mask_l (in_class c.args.class) c.args.v in
+    omega (arith, ones, c.count.ensures, c.count-2.ensures, c.replaced_greater.ensures, no_shorter c.args.class c.requires.html c.args.v c.requires.below, adds_up-all c.args.class c.requires.html c.args.v c.requires.below)
+
+pub returns : goal.returns
+returns c =
+    let ones = ap count_ones c.hits-mask.ensures ∙ ones-mask_l (in_class c.args.class) c.args.v in
+    omega (arith, ones, c.count.ensures, c.count-2.ensures, c.replaced_greater.ensures, no_shorter c.args.class c.requires.html c.args.v c.requires.below, adds_up-all c.args.class c.requires.html c.args.v c.requires.below)
+
+pub returns-then-mask-eq0 : goal.returns-then-mask-eq0
+returns-then-mask-eq0 c =
+    let ones = ap count_ones c.hits-mask.ensures ∙ ones-mask_l (in_class c.args.class) c.args.v in
+    let none : count_ones c.hits-mask.result ≡ 0 = ap count_ones c.if-mask-eq0.true ∙ ones-mask_l {X = ℕ} (λ b. true) [] in
+    omega (arith, ones, none, no_shorter c.args.class c.requires.html c.args.v c.requires.below, adds_up-all c.args.class c.requires.html c.args.v c.requires.below)
