@@ -10,8 +10,7 @@ pub mod HandsOnTable
 mod LaneLemmas
 mod OpeningSearch
 mod Progress
-pub mod Seam
 mod ReferenceTable
-mod Seam
+pub mod Seam
 mod StringEscapes
 mod Told
