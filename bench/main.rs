@@ -8,7 +8,7 @@ use std::borrow::Cow;
 use std::hint::black_box;
 use std::time::{Duration, Instant};
 
-const TURNS: usize = 7;
+const TURNS: usize = 15;
 
 struct Operation {
     name: &'static str,

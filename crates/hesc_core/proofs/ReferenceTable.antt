@@ -1,6 +1,6 @@
 -- The table of references against the map: each of the 128 bytes, computed.
 use Rattle.std.proofs.Common.{◌≡◌, ℕ, ◌<◌, true, List, [], map, get_or, refl}
-use Rattle.std.proofs.lemmas.Bool.{agree_below, agree_below_at}
+use Rattle.std.proofs.lemmas.Bool.{agree_below_at}
 use Rattle.std.proofs.lemmas.Slice.Eq.{bytes_eq-Decides}
 use Rattle.std.specs.Str.{bytes_eq}
 use Rattle.hesc_specs.specs.Html.{reference_to}

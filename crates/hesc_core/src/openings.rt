@@ -17,6 +17,7 @@ use hesc_specs::Element;
 
 /// The least place at or after `from` at which an opening begins, or the length where there is
 /// none.
+#[inline(always)]
 pub fn first_opening(element: Element, bytes: &[u8], from: usize) -> usize
     requires { from ≤ length bytes.now }
     ensures { IsFirstAt (opens_at element bytes.now) from (length bytes.now) result }
@@ -33,6 +34,7 @@ pub fn first_opening(element: Element, bytes: &[u8], from: usize) -> usize
 
 /// The least place at or after `from` at which an escaped opening begins, or the length where
 /// there is none.
+#[inline(always)]
 pub fn first_escaped_opening(element: Element, bytes: &[u8], from: usize) -> usize
     requires { from ≤ length bytes.now }
     ensures { IsFirstAt (opens_escaped_at element bytes.now) from (length bytes.now) result }
@@ -47,6 +49,7 @@ pub fn first_escaped_opening(element: Element, bytes: &[u8], from: usize) -> usi
     place
 }
 
+#[inline(always)]
 fn completes_escaped_opening(element: Element, rest: &[u8]) -> bool
     ensures { result ≡ is_escaped_opening element (less_than ∷ rest.now) }
 {
@@ -56,6 +59,7 @@ fn completes_escaped_opening(element: Element, rest: &[u8]) -> bool
     }
 }
 
+#[inline(always)]
 fn completes_opening(element: Element, rest: &[u8]) -> bool
     ensures { result ≡ completes element rest.now }
 {

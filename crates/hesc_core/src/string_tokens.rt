@@ -23,6 +23,7 @@ use hesc_specs::{Element, Quotes};
 /// The escape that a `\` before these bytes begins, if any: how many bytes it has behind the `\`,
 /// and the character that it stands for. `behind_less` tells that a `<` stands right before the
 /// `\`.
+#[inline(always)]
 pub fn escape(
     element: Element,
     quotes: Quotes,
@@ -48,6 +49,7 @@ pub fn escape(
 }
 
 /// Whether the byte right before the place is `<`.
+#[inline(always)]
 pub fn is_behind_less(bytes: &[u8], place: usize) -> bool
     requires { place ≤ length bytes.now }
     ensures { result ≡ behind bytes.now place }
@@ -55,6 +57,7 @@ pub fn is_behind_less(bytes: &[u8], place: usize) -> bool
     place > 0 && bytes[place - 1] == b'<'
 }
 
+#[inline(always)]
 fn mark_escape(quotes: Quotes, bytes: &[u8]) -> Option<(usize, char)>
     ensures { result ≡ mark quotes bytes.now }
 {
@@ -64,6 +67,7 @@ fn mark_escape(quotes: Quotes, bytes: &[u8]) -> Option<(usize, char)>
     }
 }
 
+#[inline(always)]
 fn is_quote(quotes: Quotes, byte: u8) -> bool
     ensures { result ≡ among quotes byte }
 {
@@ -74,6 +78,7 @@ fn is_quote(quotes: Quotes, byte: u8) -> bool
     }
 }
 
+#[inline(always)]
 fn number_escape(element: Element, bytes: &[u8]) -> Option<(usize, char)>
     ensures { result ≡ number element bytes.now }
 {
@@ -88,6 +93,7 @@ fn number_escape(element: Element, bytes: &[u8]) -> Option<(usize, char)>
     }
 }
 
+#[inline(always)]
 fn is_pair(least: u8, high: u8, low: u8) -> bool
     ensures { result ≡ writes_pair least high low }
 {
@@ -98,6 +104,7 @@ fn is_pair(least: u8, high: u8, low: u8) -> bool
     least <= value && value < 32 || value == b'<'
 }
 
+#[inline(always)]
 fn pair_value(high: u8, low: u8) -> u8
     requires high { IsTrue (is_digit high) }
     requires low { IsTrue (is_digit low) }
@@ -106,12 +113,14 @@ fn pair_value(high: u8, low: u8) -> u8
     upper_hex_value(high) * 16 + upper_hex_value(low)
 }
 
+#[inline(always)]
 fn is_upper_hex(byte: u8) -> bool
     ensures { result ≡ is_digit byte }
 {
     matches!(byte, b'0'..=b'9' | b'A'..=b'F')
 }
 
+#[inline(always)]
 fn upper_hex_value(byte: u8) -> u8
     requires { IsTrue (is_digit byte) }
     ensures value { result ≡ value_of byte }
@@ -124,6 +133,7 @@ fn upper_hex_value(byte: u8) -> u8
     }
 }
 
+#[inline(always)]
 fn separator_escape(element: Element, bytes: &[u8]) -> Option<(usize, char)>
     ensures { result ≡ separator element bytes.now }
 {
@@ -134,6 +144,7 @@ fn separator_escape(element: Element, bytes: &[u8]) -> Option<(usize, char)>
     }
 }
 
+#[inline(always)]
 fn opening_escape(element: Element, bytes: &[u8]) -> Option<(usize, char)>
     ensures { result ≡ opening element bytes.now }
 {

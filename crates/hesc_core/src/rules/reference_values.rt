@@ -15,6 +15,7 @@ use crate::table::EntityTable;
 const PAST_CHARACTERS: u32 = 0x110000;
 
 /// The value of a body, if it has one.
+#[inline(always)]
 pub fn value_of_body<'a>(table: &EntityTable<'a>, body: &[u8]) -> Option<Replacement<'a>>
     ensures { option_map replacement_bytes result ≡ body_value (rows_of table.now) body.now }
 {
@@ -28,6 +29,7 @@ pub fn value_of_body<'a>(table: &EntityTable<'a>, body: &[u8]) -> Option<Replace
 }
 
 // The value of a name. The common names, which most references have, are in every table.
+#[inline(always)]
 fn value_of_name<'a>(table: &EntityTable<'a>, name: &[u8]) -> Option<&'a str>
     ensures { option_map (λ value. value.now) result ≡ value_of (rows_of table.now) name.now }
 {
@@ -45,6 +47,7 @@ fn value_of_name<'a>(table: &EntityTable<'a>, name: &[u8]) -> Option<&'a str>
 }
 
 // The character of a number, if a reference may stand for it.
+#[inline(always)]
 fn character(number: u32) -> Option<Replacement<'static>>
     ensures { option_map replacement_bytes result ≡ numbered_value number }
 {
@@ -56,6 +59,7 @@ fn character(number: u32) -> Option<Replacement<'static>>
 }
 
 // Whether the number is of a C0 control other than tab, line feed, form feed, carriage return.
+#[inline(always)]
 fn is_kept_control(number: u32) -> bool
     ensures { result ≡ is_kept_control number }
 {
@@ -63,6 +67,7 @@ fn is_kept_control(number: u32) -> bool
 }
 
 // The number of a body, if it is one.
+#[inline(always)]
 fn number_of(body: &[u8]) -> Option<u32>
     ensures { result ≡ option_map capped (number_of body.now) }
 {

@@ -1,7 +1,6 @@
-use Rattle.std.proofs.Common.{ℕ, true, [], ◌≡◌, ◌==◌, ◌+◌, ◌*◌, length, ap, ◌∙◌, arith}
+use Rattle.std.proofs.Common.{ℕ, true, [], ◌≡◌, ap, ◌∙◌, arith}
 use Rattle.std.proofs.lemmas.Simd.{ones-mask_l}
 use Rattle.std.specs.Int.RustNames.{count_ones}
-use Rattle.std.specs.List.{count_by}
 use Rattle.hesc_specs.specs.Classes.{in_class}
 use Rattle.hesc_core.proofs.GrowthSums.{adds_up-all, no_shorter}
 use Rattle.hesc_core.proofs.html_growth.growth.Goals as goal

@@ -1,4 +1,4 @@
-use Rattle.std.proofs.Common.{rules, ℕ, ◌<◌, ◌+◌, ◌^◌, refl, arith}
+use Rattle.std.proofs.Common.{rules, ◌<◌, ◌+◌, ◌^◌, refl, arith}
 use Rattle.hesc_core.proofs.ChunkSearch.{below_256, chunk_long, chunk_stands}
 use Rattle.hesc_core.proofs.GrowthSums.{encoding_chunk, rest_no_shorter}
 use Rattle.hesc_core.proofs.html_length.length_by_lanes.Goals as goal

@@ -1,4 +1,4 @@
-use Rattle.std.proofs.Common.{rules, ℕ, ◌<◌, ◌+◌, ◌^◌, arith}
+use Rattle.std.proofs.Common.{rules, ◌<◌, ◌+◌, ◌^◌, arith}
 use Rattle.hesc_core.proofs.GrowthSums.{encoding_here, rest_no_shorter}
 use Rattle.hesc_core.proofs.html_length.length_by_one.Goals as goal
 
