@@ -55,15 +55,6 @@ impl SmallText {
         }
     }
 
-    /// The text of six ASCII bytes.
-    #[inline(always)]
-    pub fn from_ascii(bytes: [u8; 6]) -> SmallText
-        requires { IsAscii bytes }
-        ensures { small_text_bytes result ≡ bytes }
-    {
-        SmallText { bytes, len: 6 }
-    }
-
     /// The text of four ASCII bytes.
     #[inline(always)]
     pub fn from_four_ascii(bytes: [u8; 4]) -> SmallText

@@ -81,5 +81,4 @@ fn a_small_text_is_the_text(rt: HostRuntime) {
         assert!(rt; text.len() <= 6);
         assert_eq!(rt; SmallText::new(text).as_str(), text);
     }
-    assert_eq!(rt; SmallText::from_ascii(*b"&#x00;").as_str(), "&#x00;");
 }
