@@ -2,21 +2,43 @@
 //! and a call answers how long the made text is, or `REFUSED` where there is none.
 #![tactic(auto)]
 
+ghost use Rattle.std.specs.Prelude.{◌≡◌, length, IfOk, IfSome, MatchResult};
+ghost use Rattle.std.specs.Cow.{cow_str_bytes};
+ghost use Rattle.std.specs.List.{slice_get};
 ghost use Rattle.std.specs.Str.{IsUtf8};
+ghost use Rattle.html_escape.specs.Operations.{operation_text};
+ghost use Rattle.hesc_speed.specs.Measured.{AnswersLength, CopiesText};
 
 use html_escape::*;
 use std::alloc::{AllocError, Global};
 use std::borrow::CowStr;
 use std::str;
 
+/// The operations that are measured: each number stands for the one at this place.
+pub const MEASURED: [Operation; 9] = [
+    Operation::Encode(Encoder::Text),
+    Operation::Encode(Encoder::DoubleQuotedAttribute),
+    Operation::Encode(Encoder::Safe),
+    Operation::Encode(Encoder::UnquotedAttribute),
+    Operation::Encode(Encoder::Script),
+    Operation::Encode(Encoder::ScriptQuoted),
+    Operation::Decode(Decoder::HtmlEntities),
+    Operation::Decode(Decoder::Script),
+    Operation::Decode(Decoder::ScriptQuoted),
+];
+
 /// What a call answers where the number names no operation, or memory was refused.
 pub const REFUSED: usize = usize::MAX;
 
 /// Makes the text that borrows where nothing changes.
 #[unsafe(no_mangle)]
-pub extern "C" fn hesc_cow(alloc: Global, operation: u32, text: &[u8]) -> usize
+pub extern "C" fn hesc_cow(alloc: Global, number: u32, text: &[u8]) -> usize
     requires { IsUtf8 text.now }
+    ensures { AnswersLength (slice_get MEASURED number) text.now REFUSED result }
 {
+    let Some(operation) = measured(number) else {
+        return REFUSED;
+    };
     // The caller owes it.
     let text = unsafe { str::from_utf8_unchecked(text) };
     match cow_of(alloc, operation, text) {
@@ -27,27 +49,32 @@ pub extern "C" fn hesc_cow(alloc: Global, operation: u32, text: &[u8]) -> usize
 
 /// Appends to a new string.
 #[unsafe(no_mangle)]
-pub extern "C" fn hesc_string(alloc: Global, operation: u32, text: &[u8]) -> usize
+pub extern "C" fn hesc_string(alloc: Global, number: u32, text: &[u8]) -> usize
     requires { IsUtf8 text.now }
+    ensures { AnswersLength (slice_get MEASURED number) text.now REFUSED result }
 {
+    let Some(operation) = measured(number) else {
+        return REFUSED;
+    };
     let text = unsafe { str::from_utf8_unchecked(text) };
     let mut output = String::new(alloc);
-    match append(operation, text, &mut output) {
-        Some(Ok(())) => output.as_str().len(),
-        _ => REFUSED,
-    }
+    append(operation, text, &mut output).unwrap_or(REFUSED)
 }
 
-/// Appends to a new string, and copies it into a buffer that is long enough.
+/// Makes the text and copies it into a buffer that is long enough.
 #[unsafe(no_mangle)]
-pub extern "C" fn hesc_copy(alloc: Global, operation: u32, text: &[u8], buffer: &mut [u8]) -> usize
+pub extern "C" fn hesc_copy(alloc: Global, number: u32, text: &[u8], buffer: &mut [u8]) -> usize
     requires { IsUtf8 text.now }
+    ensures length { AnswersLength (slice_get MEASURED number) text.now REFUSED result }
+    ensures copied { CopiesText (slice_get MEASURED number) text.now REFUSED result buffer.new }
 {
+    let Some(operation) = measured(number) else {
+        return REFUSED;
+    };
     let text = unsafe { str::from_utf8_unchecked(text) };
-    let mut output = String::new(alloc);
-    match append(operation, text, &mut output) {
-        Some(Ok(())) if output.as_str().len() <= buffer.len() => {
-            let made = output.as_str().as_bytes();
+    match cow_of(alloc, operation, text) {
+        Some(Ok(cow)) if cow.as_str().len() <= buffer.len() => {
+            let made = cow.as_str().as_bytes();
             buffer[..made.len()].copy_from_slice(made);
             made.len()
         }
@@ -55,41 +82,74 @@ pub extern "C" fn hesc_copy(alloc: Global, operation: u32, text: &[u8], buffer: 
     }
 }
 
+// The operation of a number.
+fn measured(number: u32) -> Option<Operation>
+    ensures { result ≡ slice_get MEASURED number }
+{
+    MEASURED.get(number as usize).copied()
+}
+
+// By the function of the operation's own name, which is what is measured.
 fn cow_of(
     alloc: Global,
-    operation: u32,
+    operation: Operation,
     text: &str,
-) -> Option<Result<CowStr<'_, Global>, AllocError>> {
+) -> Option<Result<CowStr<'_, Global>, AllocError>>
+    ensures { IfSome result (λ made. IfOk made
+        (λ cow. cow_str_bytes cow ≡ operation_text operation text.now)) }
+{
     match operation {
-        0 => Some(encode_text(alloc, text)),
-        1 => Some(encode_double_quoted_attribute(alloc, text)),
-        2 => Some(encode_safe(alloc, text)),
-        3 => Some(encode_unquoted_attribute(alloc, text)),
-        4 => Some(encode_script(alloc, text)),
-        5 => Some(encode_script_quoted_text(alloc, text)),
-        6 => Some(decode_html_entities(alloc, text)),
-        7 => Some(decode_script(alloc, text)),
-        8 => Some(decode_script_quoted_text(alloc, text)),
+        Operation::Encode(Encoder::Text) => Some(encode_text(alloc, text)),
+        Operation::Encode(Encoder::DoubleQuotedAttribute) => {
+            Some(encode_double_quoted_attribute(alloc, text))
+        }
+        Operation::Encode(Encoder::Safe) => Some(encode_safe(alloc, text)),
+        Operation::Encode(Encoder::UnquotedAttribute) => {
+            Some(encode_unquoted_attribute(alloc, text))
+        }
+        Operation::Encode(Encoder::Script) => Some(encode_script(alloc, text)),
+        Operation::Encode(Encoder::ScriptQuoted) => Some(encode_script_quoted_text(alloc, text)),
+        Operation::Decode(Decoder::HtmlEntities) => Some(decode_html_entities(alloc, text)),
+        Operation::Decode(Decoder::Script) => Some(decode_script(alloc, text)),
+        Operation::Decode(Decoder::ScriptQuoted) => Some(decode_script_quoted_text(alloc, text)),
         _ => None,
     }
 }
 
-fn append(
-    operation: u32,
-    text: &str,
-    output: &mut String<Global>,
-) -> Option<Result<(), AllocError>> {
-    let part = match operation {
-        0 => encode_text_to_string(text, output),
-        1 => encode_double_quoted_attribute_to_string(text, output),
-        2 => encode_safe_to_string(text, output),
-        3 => encode_unquoted_attribute_to_string(text, output),
-        4 => encode_script_to_string(text, output),
-        5 => encode_script_quoted_text_to_string(text, output),
-        6 => decode_html_entities_to_string(text, output),
-        7 => decode_script_to_string(text, output),
-        8 => decode_script_quoted_text_to_string(text, output),
-        _ => return None,
-    };
-    Some(part.map(|_| ()))
+// The length of the part that is appended, `None` where there is none.
+fn append(operation: Operation, text: &str, output: &mut String<Global>) -> Option<usize>
+    ensures { IfSome result (λ count. count ≡ length (operation_text operation text.now)) }
+{
+    match operation {
+        Operation::Encode(Encoder::Text) => length_of(encode_text_to_string(text, output)),
+        Operation::Encode(Encoder::DoubleQuotedAttribute) => {
+            length_of(encode_double_quoted_attribute_to_string(text, output))
+        }
+        Operation::Encode(Encoder::Safe) => length_of(encode_safe_to_string(text, output)),
+        Operation::Encode(Encoder::UnquotedAttribute) => {
+            length_of(encode_unquoted_attribute_to_string(text, output))
+        }
+        Operation::Encode(Encoder::Script) => length_of(encode_script_to_string(text, output)),
+        Operation::Encode(Encoder::ScriptQuoted) => {
+            length_of(encode_script_quoted_text_to_string(text, output))
+        }
+        Operation::Decode(Decoder::HtmlEntities) => {
+            length_of(decode_html_entities_to_string(text, output))
+        }
+        Operation::Decode(Decoder::Script) => length_of(decode_script_to_string(text, output)),
+        Operation::Decode(Decoder::ScriptQuoted) => {
+            length_of(decode_script_quoted_text_to_string(text, output))
+        }
+        _ => None,
+    }
+}
+
+fn length_of(part: Result<&str, AllocError>) -> Option<usize>
+    ensures { IfSome result
+        (λ count. MatchResult part.entry (λ text. count ≡ length text.now) (λ _. ⊥)) }
+{
+    match part {
+        Ok(text) => Some(text.len()),
+        Err(AllocError) => None,
+    }
 }
