@@ -14,3 +14,4 @@ mod ReferenceTable
 pub mod Seam
 mod StringEscapes
 mod Told
+mod Turns

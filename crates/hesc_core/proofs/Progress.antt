@@ -19,3 +19,19 @@ Progress-stop {old = old} progress piece later new first took =
 pub on_err : {T E P : Type 0} (result : Result T E) → P → OnErr result P
 on_err (Ok v) p = tt
 on_err (Err e) p = p
+
+-- a beginning of what comes first is a beginning of all
+pub TookBeginning-front : (old new first later : List ℕ) → TookBeginning old new first → TookBeginning old new (first ++ later)
+TookBeginning-front old new first later took =
+    let c = took.1.1.0 in
+    (took.0, (took.1.0, (c ++ later, sym (append_assoc took.0 c later) ∙ ap (λ (bytes : List ℕ). bytes ++ later) took.1.1.1)))
+
+-- and so is what comes first, taken whole, with a beginning of the rest
+pub TookBeginning-behind : (old now new first later : List ℕ) → now ≡ old ++ first → TookBeginning now new later → TookBeginning old new (first ++ later)
+TookBeginning-behind old now new first later whole took =
+    let a = took.0 in let c = took.1.1.0 in
+    (first ++ a, (took.1.0 ∙ rw whole (append_assoc old first a), (c, append_assoc first a c ∙ ap (λ (bytes : List ℕ). first ++ bytes) took.1.1.1)))
+
+pub then_on_err : {T E P Q : Type 0} (result : Result T E) → (P → Q) → OnErr result P → OnErr result Q
+then_on_err (Ok v) f p = tt
+then_on_err (Err e) f p = f p

@@ -30,6 +30,15 @@ impl Piece<'_> {
     }
 }
 
+/// A stretch of the source that starts at the byte `start` there, and the text behind it that
+/// stands for other bytes. Either may be empty.
+#[derive(Clone, Copy)]
+pub(crate) struct Turn<'t> {
+    pub(crate) start: usize,
+    pub(crate) kept: &'t str,
+    pub(crate) new: Replacement<'t>,
+}
+
 /// The pieces of a rule's text, in order and none of them empty: the stretches of the source
 /// before, between and after the changes, and the changes' replacements.
 ///
@@ -46,9 +55,22 @@ pub struct Pieces<'t, R: Rule> {
 }
 
 impl<'t, R: Rule> Pieces<'t, R> {
-    ghost use Rattle.std.specs.Prelude.{◌≡◌, ◌≤◌, ◌*◌, ◌+◌, length};
-    ghost use Rattle.hesc_specs.specs.Parts.{joined, parts};
-    ghost use Rattle.hesc_core.specs.Pieces.{parts_left};
+    ghost use Rattle.std.specs.Prelude.{
+      ◌≡◌,
+      ◌≤◌,
+      ◌<◌,
+      ◌*◌,
+      ◌+◌,
+      [],
+      ◌++◌,
+      length,
+      IfNone,
+      IfSome,
+      None,
+    };
+    ghost use Rattle.hesc_specs.specs.Parts.{joined, parts, renewed};
+    ghost use Rattle.hesc_core.specs.Pieces.{IsAtTurn, parts_left, stretch_of, turns_left};
+    ghost use Rattle.hesc_core.specs.Text.{replacement_bytes};
 
     /// The pieces of what `rule` makes of `text`.
     #[inline(always)]
@@ -58,6 +80,7 @@ impl<'t, R: Rule> Pieces<'t, R> {
             ≡ R.made rule.now text.now }
         ensures few { length (parts text.now 0 (R.changes_from rule.now text.now 0))
             ≤ 2 * length (R.changes_from rule.now text.now 0) + 1 }
+        ensures at_turn { IsAtTurn result }
     {
         Pieces {
             rule,
@@ -65,6 +88,41 @@ impl<'t, R: Rule> Pieces<'t, R> {
             from: 0,
             pending: None,
             is_done: false,
+        }
+    }
+
+    /// The next change and the stretch before it, or at last the stretch behind all changes. `None`
+    /// where nothing is left.
+    #[inline(always)]
+    pub(crate) fn turn(&mut self) -> Option<Turn<'t>>
+        requires { IsAtTurn self.old }
+        ensures none { IfNone result ((parts_left self.old ≡ []) × (parts_left self.new ≡ [])) }
+        ensures some { IfSome result (λ turn. parts_left self.old
+            ≡ stretch_of turn ++ (renewed (replacement_bytes turn.new) ++ parts_left self.new)) }
+        ensures less { IfSome result (λ turn. turns_left self.new < turns_left self.old) }
+        ensures at_turn { IsAtTurn self.new }
+    {
+        if self.is_done {
+            return None;
+        }
+        let start = self.from;
+        match self.rule.next(self.text, start) {
+            Some(found) => {
+                self.from = found.end;
+                Some(Turn {
+                    start,
+                    kept: &self.text[start..found.start],
+                    new: found.replacement,
+                })
+            }
+            None => {
+                self.is_done = true;
+                Some(Turn {
+                    start,
+                    kept: &self.text[start..],
+                    new: Replacement::Borrowed(""),
+                })
+            }
         }
     }
 }
@@ -85,33 +143,21 @@ impl<'t, R: Rule> Iterator for Pieces<'t, R> {
             self.pending = None;
             return Some(Piece::New(replacement));
         }
-        if self.is_done {
-            return None;
-        }
-        'finding: while let Some(found) = self.rule.next(self.text, self.from) {
-            let start = self.from;
-            self.from = found.end;
-            let is_empty = found.replacement.as_str().is_empty();
-            if start < found.start {
-                if !is_empty {
-                    self.pending = Some(found.replacement);
+        'finding: while let Some(turn) = self.turn() {
+            let is_new = !turn.new.as_str().is_empty();
+            if !turn.kept.is_empty() {
+                if is_new {
+                    self.pending = Some(turn.new);
                 }
                 return Some(Piece::Kept {
-                    start,
-                    text: &self.text[start..found.start],
+                    start: turn.start,
+                    text: turn.kept,
                 });
             }
-            if !is_empty {
-                return Some(Piece::New(found.replacement));
+            if is_new {
+                return Some(Piece::New(turn.new));
             }
         }
-        self.is_done = true;
-        if self.from == self.text.len() {
-            return None;
-        }
-        Some(Piece::Kept {
-            start: self.from,
-            text: &self.text[self.from..],
-        })
+        None
     }
 }
