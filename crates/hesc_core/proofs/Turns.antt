@@ -3,7 +3,7 @@ use Rattle.std.proofs.Common.{◌≡◌, ℕ, List, [], ◌∷◌, ◌++◌, ref
 use Rattle.hesc_specs.specs.Parts.{Part, joined, renewed}
 use Rattle.hesc_core.specs.Pieces.{kept_unless_empty, stretch_of, turn_bytes}
 use Rattle.hesc_core.specs.Text.{replacement_bytes}
-use Rattle.hesc_core.specs.declared.pieces.Turn.{Turn}
+use Rattle.hesc_core.specs.declared.turn.Turn.{Turn}
 
 joined-renewed : (new : List ℕ) (later : List Part) → joined (renewed new ++ later) ≡ new ++ joined later
 joined-renewed [] later = refl

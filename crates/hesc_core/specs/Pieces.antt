@@ -6,7 +6,7 @@ use Rattle.hesc_core.specs.declared.found.Replacement.{Replacement}
 use Rattle.hesc_core.specs.declared.pieces.Piece.{Piece}
 use Rattle.hesc_core.specs.declared.pieces.Piece.TheVariants.{Kept, New}
 use Rattle.hesc_core.specs.declared.pieces.Pieces.{Pieces}
-use Rattle.hesc_core.specs.declared.pieces.Turn.{Turn}
+use Rattle.hesc_core.specs.declared.turn.Turn.{Turn}
 use Rattle.hesc_core.specs.declared.rule.Rule.{Ghosts}
 
 -- a stretch with the place where it starts, unless it is empty

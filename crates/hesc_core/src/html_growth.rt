@@ -36,7 +36,7 @@ pub(crate) fn growth_of_one(class: Class, byte: u8) -> usize
     ensures { result + 1 ≡ length (image class byte) }
 {
     if is_in(class, byte) {
-        reference(byte).as_str().len() - 1
+        reference(byte).len() - 1
     } else {
         0
     }

@@ -27,6 +27,7 @@ pub mod small_text;
 mod string_classes;
 pub mod string_tokens;
 pub mod table;
+pub mod turn;
 
 pub use crate::engine::run;
 pub use crate::entities::NAMED_ENTITIES;
@@ -37,4 +38,5 @@ pub use crate::sink::Sink;
 pub use crate::sinks::{CountOverflow, Counter, StringSink, VecSink, WriterSink};
 pub use crate::small_text::SmallText;
 pub use crate::table::EntityTable;
+pub use crate::turn::Turn;
 pub use hesc_specs::{Class, Element, Quotes, TableFault};

@@ -3,6 +3,7 @@ ghost use Rattle.std.specs.Str.{IsCharBoundary};
 
 use crate::found::Replacement;
 use crate::rule::Rule;
+use crate::turn::Turn;
 
 /// A piece of a rule's text.
 #[derive(Clone, Copy)]
@@ -28,15 +29,6 @@ impl Piece<'_> {
             Piece::New(replacement) => replacement.as_str(),
         }
     }
-}
-
-/// A stretch of the source that starts at the byte `start` there, and the text behind it that
-/// stands for other bytes. Either may be empty.
-#[derive(Clone, Copy)]
-pub(crate) struct Turn<'t> {
-    pub(crate) start: usize,
-    pub(crate) kept: &'t str,
-    pub(crate) new: Replacement<'t>,
 }
 
 /// The pieces of a rule's text, in order and none of them empty: the stretches of the source
@@ -106,11 +98,13 @@ impl<'t, R: Rule> Pieces<'t, R> {
             return None;
         }
         let start = self.from;
+        let rest = &self.text.as_bytes()[start..];
         match self.rule.next(self.text, start) {
             Some(found) => {
                 self.from = found.end;
                 Some(Turn {
                     start,
+                    rest,
                     kept: &self.text[start..found.start],
                     new: found.replacement,
                 })
@@ -119,6 +113,7 @@ impl<'t, R: Rule> Pieces<'t, R> {
                 self.is_done = true;
                 Some(Turn {
                     start,
+                    rest,
                     kept: &self.text[start..],
                     new: Replacement::Borrowed(""),
                 })

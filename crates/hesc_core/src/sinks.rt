@@ -1,4 +1,5 @@
 //! The sinks: a count, a string, a vector, a writer.
+mod blocks;
 pub mod counter;
 pub mod log;
 pub mod string;

@@ -1,16 +1,16 @@
-//! A text of at most six bytes that owns them and takes no memory: what an escape or a reference
+//! A text of at most eight bytes that owns them and takes no memory: what an escape or a reference
 //! is written as.
 ghost use Rattle.std.specs.Prelude.{◌≤◌, take};
 ghost use Rattle.std.specs.Str.{IsAscii, IsUtf8};
 
 use std::str;
 
-/// At most six bytes of UTF-8.
+/// At most eight bytes of UTF-8, and behind them bytes that say nothing.
 #[derive(Clone, Copy)]
 pub struct SmallText {
-    bytes: [u8; 6],
+    bytes: [u8; 8],
     len: usize,
-    ghost short: { len ≤ 6 },
+    ghost short: { len ≤ 8 },
     ghost utf8: { ∥ IsUtf8 (take len bytes) ∥₁ },
 }
 
@@ -18,13 +18,13 @@ impl SmallText {
     ghost use Rattle.std.specs.Prelude.{◌≡◌, ◌<◌, [], ◌∷◌, encode_utf8, length};
     ghost use Rattle.hesc_core.specs.Text.{small_text_bytes};
 
-    /// The text, which has at most six bytes.
+    /// The text, which has at most eight bytes.
     #[inline(always)]
     pub fn new(text: &str) -> SmallText
-        requires { length text.now ≤ 6 }
+        requires { length text.now ≤ 8 }
         ensures { small_text_bytes result ≡ text.now }
     {
-        let mut bytes = [0; 6];
+        let mut bytes = [0; 8];
         bytes[..text.len()].copy_from_slice(text.as_bytes());
         SmallText {
             bytes,
@@ -50,22 +50,19 @@ impl SmallText {
         ensures { small_text_bytes result ≡ byte ∷ [] }
     {
         SmallText {
-            bytes: [byte, 0, 0, 0, 0, 0],
+            bytes: [byte, 0, 0, 0, 0, 0, 0, 0],
             len: 1,
         }
     }
 
-    /// The text of four ASCII bytes.
+    /// The text of the first of eight ASCII bytes.
     #[inline(always)]
-    pub fn from_four_ascii(bytes: [u8; 4]) -> SmallText
-        requires { IsAscii bytes }
-        ensures { small_text_bytes result ≡ bytes }
+    pub fn from_ascii(bytes: [u8; 8], len: usize) -> SmallText
+        requires short { len ≤ 8 }
+        requires ascii { IsAscii bytes }
+        ensures { small_text_bytes result ≡ take len bytes }
     {
-        let [a, b, c, d] = bytes;
-        SmallText {
-            bytes: [a, b, c, d, 0, 0],
-            len: 4,
-        }
+        SmallText { bytes, len }
     }
 
     /// The text.
@@ -75,5 +72,21 @@ impl SmallText {
     {
         // The bytes are UTF-8, as the ghost field `utf8` keeps.
         unsafe { str::from_utf8_unchecked(&self.bytes[..self.len]) }
+    }
+
+    /// The number of its bytes.
+    #[inline(always)]
+    pub fn len(&self) -> usize
+        ensures { result ≡ length (small_text_bytes self.now) }
+    {
+        self.len
+    }
+
+    /// The bytes of the text, and behind them bytes that say nothing.
+    #[inline(always)]
+    pub(crate) fn block(&self) -> [u8; 8]
+        ensures { take (length (small_text_bytes self.now)) result ≡ small_text_bytes self.now }
+    {
+        self.bytes
     }
 }

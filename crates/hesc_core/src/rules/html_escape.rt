@@ -5,7 +5,7 @@ ghost use Rattle.hesc_specs.specs.Changes.{html_changes};
 ghost use Rattle.hesc_specs.specs.Classes.{IsHtml};
 ghost use Rattle.hesc_core.specs.Next.{IsNext};
 
-use crate::found::Found;
+use crate::found::{Found, Replacement};
 use crate::rules::html_references::reference;
 use crate::scan::first_in;
 use hesc_specs::Class;
@@ -26,6 +26,6 @@ pub fn next_html_escape(class: Class, text: &str, from: usize) -> Option<Found<'
     Some(Found {
         start,
         end: start + 1,
-        replacement: reference(bytes[start]),
+        replacement: Replacement::Small(reference(bytes[start])),
     })
 }

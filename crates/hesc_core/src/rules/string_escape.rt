@@ -1,10 +1,11 @@
 //! Escaping by a string encoder's class: each character that the encoder replaces becomes its
 //! escape.
-ghost use Rattle.std.specs.Prelude.{◌≡◌, ◌<◌, ◌==◌, [], IfNone, IfSome, if◌then◌else◌};
-ghost use Rattle.std.specs.Str.{IsCharBoundary};
+ghost use Rattle.std.specs.Prelude.{◌≡◌, ◌≤◌, ◌<◌, ◌==◌, [], IfNone, IfSome, if◌then◌else◌, take};
+ghost use Rattle.std.specs.Str.{IsAscii, IsCharBoundary};
 ghost use Rattle.hesc_specs.specs.Classes.{element_of};
 ghost use Rattle.hesc_specs.specs.Escaped.{escape_changes};
 ghost use Rattle.hesc_specs.specs.Strings.{
+  is_mark as is_mark_of,
   line_separator,
   paragraph_separator,
   string_escape,
@@ -53,15 +54,32 @@ pub fn next_string_escape(
     })
 }
 
+// Whether the byte is written behind a `\`.
+#[inline(always)]
+fn is_mark(byte: u8) -> bool
+    ensures { result ≡ is_mark_of byte }
+{
+    matches!(byte, b'\\' | b'\'' | b'"')
+}
+
+#[inline(always)]
+fn ascii(bytes: [u8; 8], len: usize) -> Replacement<'static>
+    requires short { len ≤ 8 }
+    requires ascii { IsAscii bytes }
+    ensures { replacement_bytes result ≡ take len bytes }
+{
+    Replacement::Small(SmallText::from_ascii(bytes, len))
+}
+
 #[inline(always)]
 fn separator_escape(last: u8) -> Replacement<'static>
     ensures { replacement_bytes result
         ≡ string_escape Script (if last == 0xA8 then line_separator else paragraph_separator) }
 {
     if last == 0xA8 {
-        Replacement::Borrowed("\\u2028")
+        ascii(*b"\\u2028\0\0", 6)
     } else {
-        Replacement::Borrowed("\\u2029")
+        ascii(*b"\\u2029\0\0", 6)
     }
 }
 
@@ -81,17 +99,12 @@ fn script_escape(byte: u8) -> Replacement<'static>
     requires { byte < 128 }
     ensures { replacement_bytes result ≡ string_escape Script byte }
 {
-    match byte {
-        b'\\' => Replacement::Borrowed("\\\\"),
-        b'\'' => Replacement::Borrowed("\\'"),
-        b'"' => Replacement::Borrowed("\\\""),
-        _ => Replacement::Small(SmallText::from_four_ascii([
-            b'\\',
-            b'x',
-            upper_hex_digit(byte / 16),
-            upper_hex_digit(byte % 16),
-        ])),
+    if is_mark(byte) {
+        return ascii([b'\\', byte, 0, 0, 0, 0, 0, 0], 2);
     }
+    let high = upper_hex_digit(byte / 16);
+    let low = upper_hex_digit(byte % 16);
+    ascii([b'\\', b'x', high, low, 0, 0, 0, 0], 4)
 }
 
 #[inline(always)]
@@ -99,16 +112,13 @@ fn style_escape(byte: u8) -> Replacement<'static>
     requires { byte < 128 }
     ensures { replacement_bytes result ≡ string_escape Style byte }
 {
-    match byte {
-        0 => Replacement::Borrowed("\u{FFFD}"),
-        b'\\' => Replacement::Borrowed("\\\\"),
-        b'\'' => Replacement::Borrowed("\\'"),
-        b'"' => Replacement::Borrowed("\\\""),
-        _ => Replacement::Small(SmallText::from_four_ascii([
-            b'\\',
-            upper_hex_digit(byte / 16),
-            upper_hex_digit(byte % 16),
-            b' ',
-        ])),
+    if byte == 0 {
+        return Replacement::Borrowed("\u{FFFD}");
     }
+    if is_mark(byte) {
+        return ascii([b'\\', byte, 0, 0, 0, 0, 0, 0], 2);
+    }
+    let high = upper_hex_digit(byte / 16);
+    let low = upper_hex_digit(byte % 16);
+    ascii([b'\\', high, low, b' ', 0, 0, 0, 0], 4)
 }

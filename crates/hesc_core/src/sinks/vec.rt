@@ -1,8 +1,12 @@
 //! The sink that appends to a vector of bytes.
 ghost use Rattle.std.specs.Prelude.{◌≡◌, [], ◌++◌, Some};
 
+use crate::found::Replacement;
 use crate::sink::Sink;
+use crate::sinks::blocks::{append_first, append_small};
 use crate::sinks::log::Log;
+use crate::small_text::SmallText;
+use crate::turn::Turn;
 use std::alloc::{AllocError, Allocator};
 use std::snapshot::Snapshot;
 
@@ -16,7 +20,15 @@ pub struct VecSink<'a, A: Allocator> {
 }
 
 impl<'a, A: Allocator> VecSink<'a, A> {
-    ghost use Rattle.hesc_core.specs.Sinks.{vec_sink_output, vec_sink_start, vec_sink_taken};
+    ghost use Rattle.std.specs.Prelude.{◌≤◌, ◌+◌, IsOk, OnOk, OnErr, length};
+    ghost use Rattle.hesc_core.specs.Forms.{vec_room};
+    ghost use Rattle.hesc_core.specs.Sinks.{
+      vec_sink_failures,
+      vec_sink_output,
+      vec_sink_start,
+      vec_sink_taken,
+    };
+    ghost use Rattle.hesc_core.specs.Text.{small_text_bytes};
 
     /// A sink over this output, which stays as it was.
     #[inline(always)]
@@ -41,6 +53,62 @@ impl<'a, A: Allocator> VecSink<'a, A> {
         ensures value { result.now ≡ (vec_sink_output self.entry).now }
     {
         self.output
+    }
+
+    #[inline(always)]
+    fn put_stretch(&mut self, turn: Turn<'_>) -> Result<(), AllocError>
+        ensures ok_taken { OnOk result
+            (vec_sink_taken self.new ≡ vec_sink_taken self.old ++ turn.entry.kept.now) }
+        ensures ok_failures { OnOk result
+            (vec_sink_failures self.new ≡ vec_sink_failures self.old) }
+        ensures err_taken { OnErr result (vec_sink_taken self.new ≡ vec_sink_taken self.old) }
+        ensures err_failures { OnErr result
+            (vec_sink_failures self.new ≡ vec_sink_failures self.old + 1) }
+        ensures fits { length turn.entry.kept.now ≤ vec_room (vec_sink_output self.old).now → IsOk result }
+        ensures room { OnOk result (vec_room (vec_sink_output self.old).now
+            ≤ vec_room (vec_sink_output self.new).now + length turn.entry.kept.now) }
+        ensures same_reference { (vec_sink_output self.new).ghost_name
+            ≡ (vec_sink_output self.old).ghost_name }
+        ensures same_start { vec_sink_start self.new ≡ vec_sink_start self.old }
+    {
+        match append_first(self.output, turn.rest, turn.kept.len()) {
+            Ok(()) => {
+                self.log = self.log.after_taking(turn.kept.as_bytes());
+                Ok(())
+            }
+            Err(fault) => {
+                self.log = self.log.after_failing();
+                Err(fault)
+            }
+        }
+    }
+
+    #[inline(always)]
+    fn put_small(&mut self, text: SmallText) -> Result<(), AllocError>
+        ensures ok_taken { OnOk result
+            (vec_sink_taken self.new ≡ vec_sink_taken self.old ++ small_text_bytes text) }
+        ensures ok_failures { OnOk result
+            (vec_sink_failures self.new ≡ vec_sink_failures self.old) }
+        ensures err_taken { OnErr result (vec_sink_taken self.new ≡ vec_sink_taken self.old) }
+        ensures err_failures { OnErr result
+            (vec_sink_failures self.new ≡ vec_sink_failures self.old + 1) }
+        ensures fits { length (small_text_bytes text) ≤ vec_room (vec_sink_output self.old).now → IsOk result }
+        ensures room { OnOk result (vec_room (vec_sink_output self.old).now
+            ≤ vec_room (vec_sink_output self.new).now + length (small_text_bytes text)) }
+        ensures same_reference { (vec_sink_output self.new).ghost_name
+            ≡ (vec_sink_output self.old).ghost_name }
+        ensures same_start { vec_sink_start self.new ≡ vec_sink_start self.old }
+    {
+        match append_small(self.output, text) {
+            Ok(()) => {
+                self.log = self.log.after_taking(text.as_str().as_bytes());
+                Ok(())
+            }
+            Err(fault) => {
+                self.log = self.log.after_failing();
+                Err(fault)
+            }
+        }
     }
 }
 
@@ -76,6 +144,16 @@ impl<A: Allocator> Sink for VecSink<'_, A> {
                 self.log = self.log.after_failing();
                 Err(fault)
             }
+        }
+    }
+
+    // Most stretches and replacements are short.
+    #[inline(always)]
+    fn put_turn(&mut self, turn: Turn<'_>) -> Result<(), AllocError> {
+        self.put_stretch(turn)?;
+        match turn.new {
+            Replacement::Borrowed(text) => self.put_some(text),
+            Replacement::Small(text) => self.put_small(text),
         }
     }
 }

@@ -2,5 +2,5 @@ use Rattle.std.proofs.Common.{sym}
 use Rattle.hesc_specs.proofs.CharacterBytes.{encode-replacement_character}
 use Rattle.hesc_core.proofs.rules.string_escape.style_escape.Goals as goal
 
-pub returns-in-0 : goal.returns-in-0
-returns-in-0 c = rw c.in-0.is (sym encode-replacement_character)
+pub returns-then-byte-eq0 : goal.returns-then-byte-eq0
+returns-then-byte-eq0 c = rw c.if-byte-eq0.true (sym encode-replacement_character)

@@ -1,7 +1,7 @@
 use Rattle.std.proofs.Common.{◌≡◌}
 use Rattle.hesc_core.specs.Text.{replacement_bytes}
 use Rattle.hesc_core.proofs.Progress.{TookBeginning-front, TookBeginning-behind, on_err, then_on_err}
-use Rattle.hesc_core.proofs.engine.put_turn.Goals as goal
+use Rattle.hesc_core.proofs.sink.Sink.put_turn.Goals as goal
 
 pub returns-in_err-put_some-clause-err_taken : goal.returns-in_err-put_some-clause-err_taken
 returns-in_err-put_some-clause-err_taken g c = on_err c.from_residual.result (TookBeginning-front _ _ _ (replacement_bytes c.args.turn.new) c.in_err-put_some.ensures.err_taken)

@@ -1,0 +1,18 @@
+//! A turn of the engine: a stretch of the source, and the text behind it.
+ghost use Rattle.std.specs.Prelude.{◌≡◌, ◌≤◌, length, take};
+
+use crate::found::Replacement;
+
+/// A stretch of the source that starts at the byte `start` there, and the text behind it that
+/// stands for other bytes. Either may be empty.
+#[derive(Clone, Copy)]
+pub struct Turn<'t> {
+    pub(crate) start: usize,
+    // The stretch and all that follows it in the source: a copy of more than the stretch may be
+    // cheaper than one of it alone.
+    pub(crate) rest: &'t [u8],
+    pub(crate) kept: &'t str,
+    pub(crate) new: Replacement<'t>,
+    pub ghost within: { length kept.now ≤ length rest.now },
+    pub ghost begins: { take (length kept.now) rest.now ≡ kept.now },
+}
