@@ -1,3 +1,4 @@
+mod Blocks
 pub mod Capped
 mod ChunkSearch
 mod EscapeSearch
@@ -13,5 +14,6 @@ mod Progress
 mod ReferenceTable
 pub mod Seam
 mod StringEscapes
+mod TakenText
 mod Told
 mod Turns

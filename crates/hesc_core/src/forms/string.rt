@@ -5,11 +5,10 @@ ghost use Rattle.std.specs.Str.{IsCharBoundary};
 ghost use Rattle.std.specs.String.{string_bytes};
 ghost use Rattle.hesc_core.specs.Forms.{AnswersPart, Appended, StringAppended, string_room};
 
-use crate::engine::run;
-use crate::forms::measure::measure;
+use crate::forms::vec::append_to_vec;
 use crate::rule::Rule;
-use crate::sinks::string::StringSink;
 use std::alloc::{AllocError, Allocator};
+use core::mem::replace_with;
 
 /// Appends what `rule` makes of `text`, or leaves the output as it was.
 #[inline(always)]
@@ -22,17 +21,24 @@ pub fn append_to_string<R: Rule, A: Allocator>(
         (R.made rule.now text.now) result }
     ensures fits { length (R.made rule.now text.now) ≤ string_room output.old → IsOk result }
 {
-    let Ok(count) = measure(rule, text) else {
-        return Err(AllocError);
-    };
-    if count == 0 {
-        return Ok(());
-    }
-    output.reserve(count)?;
-    let mut sink = StringSink::new(output);
-    let outcome = run(rule, text, &mut sink);
-    let _output = sink.into_output();
-    outcome
+    replace_with(output, (rule, text), appended)
+}
+
+// The string with what `rule` makes of `text` behind it, or as it was.
+#[inline(always)]
+fn appended<R: Rule, A: Allocator>(
+    string: String<A>,
+    given: (&R, &str),
+) -> (String<A>, Result<(), AllocError>)
+    ensures appended { Appended (string_bytes string) (string_bytes result.0)
+        (R.made given.entry.0.now given.entry.1.now) result.1 }
+    ensures fits { length (R.made given.entry.0.now given.entry.1.now) ≤ string_room string → IsOk result.1 }
+{
+    let (rule, text) = given;
+    let mut bytes = string.into_bytes();
+    let outcome = append_to_vec(&mut bytes, rule, text);
+    // UTF-8 behind UTF-8 is UTF-8.
+    (unsafe { String::from_utf8_unchecked(bytes) }, outcome)
 }
 
 /// Appends what `rule` makes of `text`, and answers the part that was added. On a refusal the

@@ -1,6 +1,7 @@
 //! A rule's text appended to a vector of bytes.
-ghost use Rattle.std.specs.Prelude.{◌≤◌, IsOk, length};
+ghost use Rattle.std.specs.Prelude.{◌≤◌, IsOk, OnOk, length};
 ghost use Rattle.std.specs.Borrow.{sem};
+ghost use Rattle.std.specs.Str.{IsUtf8};
 ghost use Rattle.hesc_core.specs.Forms.{AnswersPart, Appended, VecAppended, vec_room};
 
 use crate::engine::run;
@@ -19,6 +20,7 @@ pub fn append_to_vec<R: Rule, A: Allocator>(
     ensures appended { Appended output.old.items output.new.items
         (R.made rule.now text.now) result }
     ensures fits { length (R.made rule.now text.now) ≤ vec_room output.old → IsOk result }
+    ensures utf8 { OnOk result (IsUtf8 (R.made rule.now text.now)) }
 {
     let Ok(count) = measure(rule, text) else {
         return Err(AllocError);

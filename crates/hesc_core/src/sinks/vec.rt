@@ -1,5 +1,6 @@
 //! The sink that appends to a vector of bytes.
 ghost use Rattle.std.specs.Prelude.{◌≡◌, [], ◌++◌, Some};
+ghost use Rattle.std.specs.Str.{IsUtf8};
 
 use crate::found::Replacement;
 use crate::sink::Sink;
@@ -17,6 +18,7 @@ pub struct VecSink<'a, A: Allocator> {
     start: Snapshot<Vec<u8, A>>,
     log: Log,
     pub ghost holds: { output.now.items ≡ start.value.items ++ log.taken },
+    pub ghost utf8: { ∥ IsUtf8 log.taken ∥₁ },
 }
 
 impl<'a, A: Allocator> VecSink<'a, A> {
@@ -51,6 +53,7 @@ impl<'a, A: Allocator> VecSink<'a, A> {
     pub fn into_output(self) -> &'a mut Vec<u8, A>
         ensures same_reference { result.ghost_name ≡ (vec_sink_output self.entry).ghost_name }
         ensures value { result.now ≡ (vec_sink_output self.entry).now }
+        ensures utf8 { IsUtf8 (vec_sink_taken self.entry) }
     {
         self.output
     }
