@@ -3,9 +3,9 @@ ghost use Rattle.std.specs.Prelude.{◌≤◌, length};
 ghost use Rattle.memchr.specs.Find.{is_byte, is_byte2};
 ghost use Rattle.hesc_specs.specs.FirstPlace.{IsFirstPlace};
 
+use crate::lanes::{hits_of_one, hits_of_two};
 use memchr::{memchr, memchr2};
-
-const NEAR: usize = 8;
+use std::simd::prelude::*;
 
 /// The least place at or after `from` with this byte, or the length where there is none.
 #[inline(always)]
@@ -13,10 +13,22 @@ pub fn first_byte(byte: u8, bytes: &[u8], from: usize) -> usize
     requires { from ≤ length bytes.now }
     ensures { IsFirstPlace (is_byte byte) bytes.now from result }
 {
-    // Where there are many, the next is often right here.
-    if from < bytes.len() && bytes[from] == byte {
-        return from;
+    // Where there are many, the next is often near, and no call is made for it.
+    let (chunks, _) = bytes[from..].as_chunks::<32>();
+    if !chunks.is_empty() {
+        let mask = hits_of_one(byte, u8x32::from_array(chunks[0]));
+        if mask != 0 {
+            return from + mask.trailing_zeros() as usize;
+        }
     }
+    first_byte_far(byte, bytes, from)
+}
+
+#[inline(never)]
+fn first_byte_far(byte: u8, bytes: &[u8], from: usize) -> usize
+    requires { from ≤ length bytes.now }
+    ensures { IsFirstPlace (is_byte byte) bytes.now from result }
+{
     match memchr(byte, &bytes[from..]) {
         Some(distance) => from + distance,
         None => bytes.len(),
@@ -29,16 +41,17 @@ pub fn first_of_two(one: u8, other: u8, bytes: &[u8], from: usize) -> usize
     requires { from ≤ length bytes.now }
     ensures { IsFirstPlace (is_byte2 one other) bytes.now from result }
 {
-    // It is often near.
-    let near = from + NEAR.min(bytes.len() - from);
-    for at in from..near {
-        if bytes[at] == one || bytes[at] == other {
-            return at;
+    let (chunks, _) = bytes[from..].as_chunks::<32>();
+    if !chunks.is_empty() {
+        let mask = hits_of_two(one, other, u8x32::from_array(chunks[0]));
+        if mask != 0 {
+            return from + mask.trailing_zeros() as usize;
         }
     }
-    first_of_two_far(one, other, bytes, near)
+    first_of_two_far(one, other, bytes, from)
 }
 
+#[inline(never)]
 fn first_of_two_far(one: u8, other: u8, bytes: &[u8], from: usize) -> usize
     requires { from ≤ length bytes.now }
     ensures { IsFirstPlace (is_byte2 one other) bytes.now from result }

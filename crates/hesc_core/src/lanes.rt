@@ -1,6 +1,7 @@
-//! Which of 32 bytes are in a class, by comparisons of all of them at once.
+//! Which of 32 bytes are in a class, or one or two given bytes, by comparisons of all of them at once.
 ghost use Rattle.std.specs.Prelude.{◌≡◌, ◌<◌, map};
 ghost use Rattle.std.specs.Simd.Lanes.{Each1, mask_l};
+ghost use Rattle.memchr.specs.Find.{is_byte, is_byte2};
 ghost use Rattle.hesc_specs.specs.Classes.{in_class};
 
 use hesc_specs::Class;
@@ -41,4 +42,22 @@ pub(crate) fn hits(class: Class, v: u8x32) -> u64
         Class::StyleDoubleQuoted => (string | double).to_bitmask(),
         Class::StyleQuoted => (string | single | double).to_bitmask(),
     }
+}
+
+/// Bit `k` of the answer is set exactly if byte `k` is this one.
+#[inline(always)]
+pub(crate) fn hits_of_one(byte: u8, v: u8x32) -> u64
+    requires { Each1 (λ b. b < 256) v }
+    ensures { result ≡ mask_l (map (is_byte byte) v) }
+{
+    v.simd_eq(u8x32::splat(byte)).to_bitmask()
+}
+
+/// Bit `k` of the answer is set exactly if byte `k` is one of the two.
+#[inline(always)]
+pub(crate) fn hits_of_two(one: u8, other: u8, v: u8x32) -> u64
+    requires { Each1 (λ b. b < 256) v }
+    ensures { result ≡ mask_l (map (is_byte2 one other) v) }
+{
+    (v.simd_eq(u8x32::splat(one)) | v.simd_eq(u8x32::splat(other))).to_bitmask()
 }

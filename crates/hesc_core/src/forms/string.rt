@@ -7,8 +7,8 @@ ghost use Rattle.hesc_core.specs.Forms.{AnswersPart, Appended, StringAppended, s
 
 use crate::forms::vec::append_to_vec;
 use crate::rule::Rule;
-use std::alloc::{AllocError, Allocator};
 use core::mem::replace_with;
+use std::alloc::{AllocError, Allocator};
 
 /// Appends what `rule` makes of `text`, or leaves the output as it was.
 #[inline(always)]

@@ -12,6 +12,7 @@ ghost use Rattle.hesc_core.specs.Next.{IsNext};
 use crate::found::{Found, Replacement};
 use crate::openings::{first_escaped_opening, first_opening};
 use crate::rule::Rule;
+use crate::small_text::SmallText;
 use hesc_specs::Element;
 
 /// The encoder of a script's body.
@@ -97,7 +98,7 @@ pub fn next_body_escape(element: Element, text: &str, from: usize) -> Option<Fou
     Some(Found {
         start: place + 1,
         end: place + 1,
-        replacement: Replacement::Borrowed("\\"),
+        replacement: Replacement::Small(SmallText::from_ascii([b'\\', 0, 0, 0, 0, 0, 0, 0], 1)),
     })
 }
 

@@ -39,7 +39,7 @@ pub(crate) fn append_small<A: Allocator>(
 ) -> Result<(), AllocError>
     ensures items { output.new.items
         ≡ (if is_ok result then output.old.items ++ small_text_bytes text
-          else output.old.items) }
+        else output.old.items) }
     ensures fits { length (small_text_bytes text) ≤ vec_room output.old → IsOk result }
     ensures room { OnOk result
         (vec_room output.old ≤ vec_room output.new + length (small_text_bytes text)) }

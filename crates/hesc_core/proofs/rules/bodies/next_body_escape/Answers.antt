@@ -26,5 +26,5 @@ returns-clause-found c =
       within = omega arith;
       start_boundary = IsCharBoundary-after_ascii text place c.utf8.text within ascii;
       end_boundary = IsCharBoundary-after_ascii text place c.utf8.text within ascii;
-      changes = next-body_encoding_changes c.args.element text c.args.from place first within;
+      changes = rw c.from_ascii.ensures (next-body_encoding_changes c.args.element text c.args.from place first within);
     }
