@@ -13,7 +13,10 @@ pub fn first_byte(byte: u8, bytes: &[u8], from: usize) -> usize
     requires { from ≤ length bytes.now }
     ensures { IsFirstPlace (is_byte byte) bytes.now from result }
 {
-    // Where there are many, the next is often near, and no call is made for it.
+    // Where there are many, the next is often right here, or else near, and no call is made for it.
+    if from < bytes.len() && bytes[from] == byte {
+        return from;
+    }
     let (chunks, _) = bytes[from..].as_chunks::<32>();
     if !chunks.is_empty() {
         let mask = hits_of_one(byte, u8x32::from_array(chunks[0]));
