@@ -1,3 +1,4 @@
+mod Bounds
 pub mod Capped
 mod ChunkSearch
 mod EscapeSearch

@@ -1,4 +1,5 @@
 pub mod AppliedReferences
+pub mod BodyBound
 pub mod BodyDecodingChanges
 pub mod BodyEncodingChanges
 pub mod BodySeam
