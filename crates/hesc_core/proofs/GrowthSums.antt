@@ -1,18 +1,17 @@
 -- How much longer an HTML encoding is than its text, by counts of bytes.
-use Rattle.std.proofs.Common.{◌≡◌, ℕ, ◌+◌, ◌-◌, ◌*◌, ◌≤◌, ◌<◌, Bool, true, false, ◌==◌, cond, List, [], ◌∷◌, length, refl, arith}
+use Rattle.std.proofs.Common.{◌≡◌, ℕ, ◌+◌, ◌-◌, ◌*◌, ◌<◌, Bool, true, ◌==◌, cond, List, [], ◌∷◌, length, refl, arith}
 use Rattle.std.proofs.lemmas.Bool.{agree_below, agree_below_at, eqb-true}
 use Rattle.std.proofs.lemmas.List.{length-append}
 use Rattle.std.proofs.lemmas.List.Sums.{sum_by-cons}
 use Rattle.std.specs.List.{count_by, sum_by}
 use Rattle.std.specs.Simd.Lanes.{Each1}
-use Rattle.hesc_specs.specs.Ascii.{ampersand, less_than, greater_than, double_quote}
+use Rattle.hesc_specs.specs.Ascii.{ampersand, less_than, greater_than}
 use Rattle.hesc_specs.specs.Classes.{in_class, IsHtml}
 use Rattle.hesc_specs.specs.Html.{encoding, image}
 use Rattle.hesc_specs.specs.declared.classes.Class.{Class}
 use Rattle.hesc_specs.specs.declared.classes.Class.TheVariants.{TextMinimal, Text, DoubleQuotedAttribute, SingleQuotedAttribute, QuotedAttribute, Safe, UnquotedAttribute, ScriptSingleQuoted, ScriptDoubleQuoted, ScriptQuoted, StyleSingleQuoted, StyleDoubleQuoted, StyleQuoted}
-
-abbrev one : Bool → ℕ
-one b = cond b 1 0
+use Rattle.hesc_specs.proofs.SomeImages.{some-image}
+use Rattle.hesc_core.proofs.CountSteps.{count-cons, count_if-cons, count_if-nil, one}
 
 -- how much longer the image of a byte is, and by how much the shorter references fall short of six bytes
 abbrev pub growth : Class → ℕ → ℕ
@@ -43,35 +42,14 @@ module _ (class : Class) (html : IsHtml class) where
   one_adds_up : (b : ℕ) → b < 256 → sum_of_one class b ≡ 5 * one (in_class class b)
   one_adds_up b below = eqb-true _ _ (agree_below_at (adds_up class) (λ _. true) 256 b (all_add_up class html) below)
 
-  count-cons : (test : ℕ → Bool) (b : ℕ) (v : List ℕ) → count_by test (b ∷ v) ≡ one (test b) + count_by test v
-  count-cons test b v = sum_by-cons (λ x. one (test x)) b v
-
-  cond-plus : (g : Bool) (x y : ℕ) → cond g (x + y) 0 ≡ cond g x 0 + cond g y 0
-  cond-plus true x y = refl
-  cond-plus false x y = refl
-
-  cond-zero : (g : Bool) → cond {A = ℕ} g 0 0 ≡ 0
-  cond-zero true = refl
-  cond-zero false = refl
-
   pub adds_up-all : (v : List ℕ) → Each1 (λ b. b < 256) v
       → sum_by (growth class) v + count_by (λ b. b == ampersand) v + 2 * count_by (λ b. b == less_than) v + 2 * cond (in_class class greater_than) (count_by (λ b. b == greater_than) v) 0
       ≡ 5 * count_by (in_class class) v
-  adds_up-all [] below = omega (arith, cond-zero (in_class class greater_than))
+  adds_up-all [] below = omega (arith, count_if-nil (in_class class greater_than))
   adds_up-all (b ∷ v) below =
-      let g = in_class class greater_than in
-      rw (count-cons (λ x. x == greater_than) b v) (
-      omega (arith, one_adds_up b below.0, adds_up-all v below.1, sum_by-cons (growth class) b v, count-cons (λ x. x == ampersand) b v, count-cons (λ x. x == less_than) b v, count-cons (in_class class) b v, cond-plus g (one (b == greater_than)) (count_by (λ x. x == greater_than) v)))
-
-some_if : (t : Bool) (x y : List ℕ) → 1 ≤ length x → 1 ≤ length y → 1 ≤ length (cond t x y)
-some_if true x y some_x some_y = some_x
-some_if false x y some_x some_y = some_y
-
-some_image : (class : Class) (b : ℕ) → 1 ≤ length (image class b)
-some_image class b =
-    some_if (in_class class b) _ _ (some_if (b == ampersand) _ _ (omega arith) (some_if (b == less_than) _ _ (omega arith) (some_if (b == greater_than) _ _ (omega arith) (some_if (b == double_quote) _ _ (omega arith) (omega arith))))) (omega arith)
+      omega (arith, one_adds_up b below.0, adds_up-all v below.1, sum_by-cons (growth class) b v, count-cons (λ x. x == ampersand) b v, count-cons (λ x. x == less_than) b v, count-cons (in_class class) b v, count_if-cons (in_class class greater_than) (λ x. x == greater_than) b v)
 
 pub length-encoding : (class : Class) (bytes : List ℕ) → length (encoding class bytes) ≡ length bytes + sum_by (growth class) bytes
 length-encoding class [] = refl
 length-encoding class (b ∷ bytes) =
-    omega (arith, length-append (image class b) (encoding class bytes), some_image class b, length-encoding class bytes, sum_by-cons (growth class) b bytes)
+    omega (arith, length-append (image class b) (encoding class bytes), some-image class b, length-encoding class bytes, sum_by-cons (growth class) b bytes)

@@ -1,6 +1,7 @@
 mod Bounds
 pub mod Capped
 mod ChunkSearch
+mod CountSteps
 mod EscapeSearch
 mod FlagTable
 mod FoundBytes
@@ -14,5 +15,6 @@ mod Progress
 mod ReferenceTable
 pub mod Seam
 mod StringEscapes
+mod StringGrowthSums
 mod Told
 mod Turns

@@ -27,6 +27,7 @@ pub mod scan;
 pub mod sink;
 pub mod sinks;
 pub mod small_text;
+mod string_bound;
 mod string_classes;
 pub mod string_tokens;
 pub mod table;

@@ -24,6 +24,8 @@ pub mod SameBodies
 pub mod SettledBodies
 pub mod SettledChanges
 pub mod SliceRanges
+pub mod SomeImages
+pub mod StringBound
 pub mod StringDecodingChanges
 pub mod StringEncodingChanges
 pub mod StringEscapeEnds
