@@ -1,6 +1,8 @@
 mod Blocks
+mod Bounds
 pub mod Capped
 mod ChunkSearch
+mod CountSteps
 mod EscapeSearch
 mod FlagTable
 mod FoundBytes
@@ -14,6 +16,7 @@ mod Progress
 mod ReferenceTable
 pub mod Seam
 mod StringEscapes
+mod StringGrowthSums
 mod TakenText
 mod Told
 mod Turns

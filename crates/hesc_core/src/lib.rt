@@ -5,12 +5,15 @@
 //! rule's text. The forms of an operation, for any rule, are in [`forms`].
 #![tactic(auto)]
 
+mod body_bound;
+mod counts;
 pub mod engine;
 pub mod entities;
 pub mod find;
 mod flags;
 pub mod forms;
 pub mod found;
+mod growth;
 mod html_growth;
 mod html_length;
 mod lanes;
@@ -24,6 +27,7 @@ pub mod scan;
 pub mod sink;
 pub mod sinks;
 pub mod small_text;
+mod string_bound;
 mod string_classes;
 pub mod string_tokens;
 pub mod table;

@@ -1,4 +1,5 @@
 pub mod AppliedReferences
+pub mod BodyBound
 pub mod BodyDecodingChanges
 pub mod BodyEncodingChanges
 pub mod BodySeam
@@ -23,6 +24,8 @@ pub mod SameBodies
 pub mod SettledBodies
 pub mod SettledChanges
 pub mod SliceRanges
+pub mod SomeImages
+pub mod StringBound
 pub mod StringDecodingChanges
 pub mod StringEncodingChanges
 pub mod StringEscapeEnds

@@ -9,6 +9,7 @@ ghost use Rattle.hesc_specs.proofs.BodyDecodingChanges.{applied-body_decoding_ch
 ghost use Rattle.hesc_specs.proofs.BodyEncodingChanges.{applied-body_encoding_changes};
 ghost use Rattle.hesc_core.specs.Next.{IsNext};
 
+use crate::body_bound::body_bound;
 use crate::found::{Found, Replacement};
 use crate::openings::{first_escaped_opening, first_opening};
 use crate::rule::Rule;
@@ -41,6 +42,11 @@ impl Rule for EncodeScript {
         next_body_escape(Element::Script, text, from)
     }
 
+    #[inline(always)]
+    fn bound(&self, text: &str) -> Option<usize> {
+        body_bound(text.as_bytes())
+    }
+
     ghost makes = { λ rule source _. applied-body_encoding_changes Script source };
 }
 
@@ -52,6 +58,11 @@ impl Rule for EncodeStyle {
     #[inline(always)]
     fn next(&self, text: &str, from: usize) -> Option<Found<'_>> {
         next_body_escape(Element::Style, text, from)
+    }
+
+    #[inline(always)]
+    fn bound(&self, text: &str) -> Option<usize> {
+        body_bound(text.as_bytes())
     }
 
     ghost makes = { λ rule source _. applied-body_encoding_changes Style source };

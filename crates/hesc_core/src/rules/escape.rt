@@ -11,6 +11,7 @@ use crate::html_length::encoded_length;
 use crate::rule::Rule;
 use crate::rules::html_escape::next_html_escape;
 use crate::rules::string_escape::next_string_escape;
+use crate::string_bound::string_bound;
 use crate::string_classes::string_class;
 use hesc_specs::{Class, Element};
 
@@ -33,6 +34,14 @@ impl Rule for Escape {
     fn total(&self, text: &str) -> Option<usize> {
         match string_class(self.0) {
             Some(_) => self.total_by_changes(text),
+            None => encoded_length(self.0, text.as_bytes()),
+        }
+    }
+
+    #[inline(always)]
+    fn bound(&self, text: &str) -> Option<usize> {
+        match string_class(self.0) {
+            Some(_) => string_bound(self.0, text),
             None => encoded_length(self.0, text.as_bytes()),
         }
     }

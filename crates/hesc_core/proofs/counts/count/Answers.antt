@@ -1,7 +1,7 @@
 use Rattle.std.proofs.Common.{◌==◌, w8, ap, ◌∙◌, arith}
 use Rattle.std.proofs.lemmas.Simd.{bitmask_splat, ones-mask_l}
 use Rattle.std.specs.Int.RustNames.{count_ones}
-use Rattle.hesc_core.proofs.html_growth.count.Goals as goal
+use Rattle.hesc_core.proofs.counts.count.Goals as goal
 
 pub returns : goal.returns
 returns c =
