@@ -1,5 +1,5 @@
 //! Rules: an operation as the changes that it makes, one after another.
-ghost use Rattle.std.specs.Prelude.{◌≡◌, ◌<◌, ◌^◌, ℕ, List, [], length, IfNone, IfSome, IsSome};
+ghost use Rattle.std.specs.Prelude.{◌≡◌, ◌<◌, ◌≤◌, ◌^◌, ℕ, List, [], length, IfNone, IfSome, IsSome};
 ghost use Rattle.std.specs.Str.{IsCharBoundary, IsUtf8};
 ghost use Rattle.hesc_specs.specs.Changes.{Change, applied};
 ghost use Rattle.hesc_core.specs.Next.{IsNext};
@@ -45,6 +45,16 @@ pub trait Rule {
             from = found.end;
         }
         count.checked_add(text.len() - from)
+    }
+
+    /// At least as many bytes as the rule's text has, told without going from change to change, and
+    /// 0 where it has none; or `None` where the rule knows of no such number.
+    #[inline(always)]
+    fn bound(&self, text: &str) -> Option<usize>
+        ensures enough { IfSome result (λ bound. length (made self.now text.now) ≤ bound) }
+        ensures empty { IfSome result (λ bound. made self.now text.now ≡ [] → bound ≡ 0) }
+    {
+        None
     }
 
     // The changes, made, are the rule's text.

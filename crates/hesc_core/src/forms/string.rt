@@ -6,7 +6,7 @@ ghost use Rattle.std.specs.String.{string_bytes};
 ghost use Rattle.hesc_core.specs.Forms.{AnswersPart, Appended, StringAppended, string_room};
 
 use crate::engine::run;
-use crate::forms::measure::measure;
+use crate::forms::measure::room_for;
 use crate::rule::Rule;
 use crate::sinks::string::StringSink;
 use std::alloc::{AllocError, Allocator};
@@ -22,13 +22,13 @@ pub fn append_to_string<R: Rule, A: Allocator>(
         (R.made rule.now text.now) result }
     ensures fits { length (R.made rule.now text.now) ≤ string_room output.old → IsOk result }
 {
-    let Ok(count) = measure(rule, text) else {
+    let Ok(room) = room_for(rule, text, output.capacity() - output.len()) else {
         return Err(AllocError);
     };
-    if count == 0 {
+    if room == 0 {
         return Ok(());
     }
-    output.reserve(count)?;
+    output.reserve(room)?;
     let mut sink = StringSink::new(output);
     let outcome = run(rule, text, &mut sink);
     let _output = sink.into_output();

@@ -4,7 +4,7 @@ ghost use Rattle.std.specs.Borrow.{sem};
 ghost use Rattle.hesc_core.specs.Forms.{AnswersPart, Appended, VecAppended, vec_room};
 
 use crate::engine::run;
-use crate::forms::measure::measure;
+use crate::forms::measure::room_for;
 use crate::rule::Rule;
 use crate::sinks::vec::VecSink;
 use std::alloc::{AllocError, Allocator};
@@ -20,13 +20,13 @@ pub fn append_to_vec<R: Rule, A: Allocator>(
         (R.made rule.now text.now) result }
     ensures fits { length (R.made rule.now text.now) ≤ vec_room output.old → IsOk result }
 {
-    let Ok(count) = measure(rule, text) else {
+    let Ok(room) = room_for(rule, text, output.capacity() - output.len()) else {
         return Err(AllocError);
     };
-    if count == 0 {
+    if room == 0 {
         return Ok(());
     }
-    output.reserve(count)?;
+    output.reserve(room)?;
     let mut sink = VecSink::new(output);
     let outcome = run(rule, text, &mut sink);
     let _output = sink.into_output();
