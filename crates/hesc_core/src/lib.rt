@@ -24,6 +24,7 @@ mod row_faults;
 pub mod rule;
 pub mod rules;
 pub mod scan;
+mod short_rows;
 pub mod sink;
 pub mod sinks;
 pub mod small_text;

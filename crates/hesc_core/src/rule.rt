@@ -47,8 +47,8 @@ pub trait Rule {
         count.checked_add(text.len() - from)
     }
 
-    /// As many bytes as the rule's text has or more, and 0 where it has none, by no search; or
-    /// `None`, where none is known or it would pass the greatest `usize`.
+    /// At least as many bytes as the rule's text has, told without going from change to change, and
+    /// 0 where it has none; or `None` where the rule knows of no such number.
     #[inline(always)]
     fn bound(&self, text: &str) -> Option<usize>
         ensures enough { IfSome result (λ bound. length (made self.now text.now) ≤ bound) }

@@ -1,12 +1,13 @@
 //! Tables of entities: which rows make one, and the value of a name.
 ghost use Rattle.std.specs.Prelude.{◌≡◌, IsTrue};
 ghost use Rattle.std.specs.Option.{option_map};
-ghost use Rattle.hesc_specs.specs.Entities.{value_of};
+ghost use Rattle.hesc_specs.specs.Entities.{are_short, value_of};
 ghost use Rattle.hesc_specs.specs.TableFaults.{is_table};
 ghost use Rattle.hesc_core.specs.Rows.{rows_in};
 
 use crate::entities::NAMED_ENTITIES;
 use crate::row_faults::{COMMON_ENTITIES, fault_of_row, first_value};
+use crate::short_rows::are_short;
 use hesc_specs::TableFault;
 use std::cmp::Ordering;
 
@@ -15,7 +16,9 @@ use std::cmp::Ordering;
 #[derive(Clone, Copy)]
 pub struct EntityTable<'a> {
     rows: &'a [(&'a [u8], &'a str)],
+    shortens: bool,
     ghost good: { IsTrue (is_table (rows_in rows.now)) },
+    ghost short: { shortens ≡ are_short (rows_in rows.now) },
 }
 
 impl EntityTable<'static> {
@@ -28,6 +31,7 @@ impl EntityTable<'static> {
     {
         EntityTable {
             rows: &NAMED_ENTITIES,
+            shortens: true,
         }
     }
 }
@@ -54,7 +58,8 @@ impl<'a> EntityTable<'a> {
                 return Err(TableFault::MissingCommon(k));
             }
         }
-        Ok(EntityTable { rows })
+        let shortens = are_short(rows);
+        Ok(EntityTable { rows, shortens })
     }
 
     /// The value of exactly this name, found by halving the rows.
@@ -72,6 +77,14 @@ impl<'a> EntityTable<'a> {
             }
         }
         None
+    }
+
+    /// Whether no value is empty or longer than its reference, so that no decoded text is longer
+    /// than its source.
+    pub(crate) fn shortens(&self) -> bool
+        ensures { result ≡ are_short (rows_of self.now) }
+    {
+        self.shortens
     }
 
     /// The rows that the table was made of, in order.

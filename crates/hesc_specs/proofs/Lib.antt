@@ -5,6 +5,9 @@ pub mod BodyEncodingChanges
 pub mod BodySeam
 pub mod CanonicalBodies
 pub mod CharacterBytes
+pub mod DecodedBodies
+pub mod DecodedReferences
+pub mod DecodedStrings
 pub mod DifferentStrings
 pub mod DifferentTexts
 pub mod EscapeChanges

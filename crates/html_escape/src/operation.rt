@@ -31,6 +31,14 @@ impl Rule for Operation {
         }
     }
 
+    /// The source's length for a decoder, which lengthens no text.
+    fn bound(&self, text: &str) -> Option<usize> {
+        match *self {
+            Operation::Encode(_) => None,
+            Operation::Decode(_) => Some(text.len()),
+        }
+    }
+
     ghost makes = { applied-operation_changes };
 }
 

@@ -1,5 +1,5 @@
 //! How long a rule's text is, before any of it is made.
-ghost use Rattle.std.specs.Prelude.{◌≡◌, ◌<◌, ◌^◌, length, IfOk, IsOk};
+ghost use Rattle.std.specs.Prelude.{◌≡◌, ◌<◌, ◌≤◌, ◌^◌, [], length, IfOk, IsOk};
 
 use crate::rule::Rule;
 use crate::sinks::counter::CountOverflow;
@@ -11,4 +11,23 @@ pub fn measure<R: Rule>(rule: &R, text: &str) -> Result<usize, CountOverflow>
     ensures fits { length (R.made rule.now text.now) < 2 ^ 64 → IsOk result }
 {
     rule.total(text).ok_or(CountOverflow)
+}
+
+/// How many bytes to have room for before what `rule` makes of `text` is appended to an output that
+/// has room for `spare`: at least as many as it has, none where it has none, and no more than
+/// `spare` where those suffice.
+///
+/// Where the rule tells a bound, the text is not gone over for it, unless the bound asks for memory
+/// that the length itself may not need.
+#[inline(always)]
+pub fn room_for<R: Rule>(rule: &R, text: &str, spare: usize) -> Result<usize, CountOverflow>
+    ensures enough { IfOk result (λ room. length (R.made rule.now text.now) ≤ room) }
+    ensures empty { R.made rule.now text.now ≡ [] → IfOk result (λ room. room ≡ 0) }
+    ensures spare { length (R.made rule.now text.now) ≤ spare → IfOk result (λ room. room ≤ spare) }
+    ensures fits { length (R.made rule.now text.now) < 2 ^ 64 → IsOk result }
+{
+    match rule.bound(text) {
+        Some(bound) if spare == 0 || bound <= spare => Ok(bound),
+        _ => measure(rule, text),
+    }
 }

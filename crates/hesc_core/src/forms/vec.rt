@@ -5,7 +5,7 @@ ghost use Rattle.std.specs.Str.{IsUtf8};
 ghost use Rattle.hesc_core.specs.Forms.{AnswersPart, Appended, VecAppended, vec_room};
 
 use crate::engine::run;
-use crate::forms::measure::measure;
+use crate::forms::measure::room_for;
 use crate::rule::Rule;
 use crate::sinks::vec::VecSink;
 use std::alloc::{AllocError, Allocator};
@@ -22,13 +22,13 @@ pub fn append_to_vec<R: Rule, A: Allocator>(
     ensures fits { length (R.made rule.now text.now) ≤ vec_room output.old → IsOk result }
     ensures utf8 { OnOk result (IsUtf8 (R.made rule.now text.now)) }
 {
-    let Ok(count) = measure(rule, text) else {
+    let Ok(room) = room_for(rule, text, output.capacity() - output.len()) else {
         return Err(AllocError);
     };
-    if count == 0 {
+    if room == 0 {
         return Ok(());
     }
-    output.reserve(count)?;
+    output.reserve(room)?;
     let mut sink = VecSink::new(output);
     let outcome = run(rule, text, &mut sink);
     let _output = sink.into_output();

@@ -78,6 +78,12 @@ impl Rule for DecodeScript {
         next_body_unescape(Element::Script, text, from)
     }
 
+    /// The source's length: nothing is put in.
+    #[inline(always)]
+    fn bound(&self, text: &str) -> Option<usize> {
+        Some(text.len())
+    }
+
     ghost makes = { λ rule source _. applied-body_decoding_changes Script source };
 }
 
@@ -89,6 +95,12 @@ impl Rule for DecodeStyle {
     #[inline(always)]
     fn next(&self, text: &str, from: usize) -> Option<Found<'_>> {
         next_body_unescape(Element::Style, text, from)
+    }
+
+    /// The source's length: nothing is put in.
+    #[inline(always)]
+    fn bound(&self, text: &str) -> Option<usize> {
+        Some(text.len())
     }
 
     ghost makes = { λ rule source _. applied-body_decoding_changes Style source };

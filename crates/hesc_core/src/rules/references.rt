@@ -27,6 +27,16 @@ impl Rule for References<'_> {
         next_references(self.0, text, from)
     }
 
+    /// The source's length, where the table has no value that is empty or longer than its reference.
+    #[inline(always)]
+    fn bound(&self, text: &str) -> Option<usize> {
+        if self.0.shortens() {
+            Some(text.len())
+        } else {
+            None
+        }
+    }
+
     ghost makes = { λ rule source _. applied-reference_changes (rows_of rule.0.now) source };
 }
 

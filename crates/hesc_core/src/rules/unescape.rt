@@ -30,6 +30,12 @@ impl Rule for Unescape {
         next_unescape(self.0, text, from)
     }
 
+    /// The source's length: no escape is shorter than its character.
+    #[inline(always)]
+    fn bound(&self, text: &str) -> Option<usize> {
+        Some(text.len())
+    }
+
     ghost makes = { λ rule source _. applied-unescape_changes rule.0 source };
 }
 

@@ -31,7 +31,7 @@ overflow_add-result-in-Some c =
     let told : c.escape.result ≡ escape c.args.element c.args.quotes (is_behind_less text start) (drop (start + 1) text) =
     rw (c.is_behind_less-behind_less.ensures, c.as_bytes-bytes.ensures.value, take_rest text (start + 1)) at c.escape.ensures in
     let escapes : escape c.args.element c.args.quotes (is_behind_less text start) (drop (start + 1) text) ≡ Some (c.in-Some.more, c.in-Some.character) = sym told ∙ c.in-Some.is in
-    let ends : EndsWithin (drop (start + 1) text) c.in-Some.more = escape-ends c.args.element c.args.quotes (is_behind_less text start) (drop (start + 1) text) c.in-Some.more c.in-Some.character escapes in
+    let ends : EndsWithin (drop (start + 1) text) c.in-Some.more c.in-Some.character = escape-ends c.args.element c.args.quotes (is_behind_less text start) (drop (start + 1) text) c.in-Some.more c.in-Some.character escapes in
     let within = ends.within in grind (arith, common_steps)
 
 pub returns-in-Some-clause-found : goal.returns-in-Some-clause-found
@@ -44,7 +44,7 @@ returns-in-Some-clause-found c =
     let told : c.escape.result ≡ escape c.args.element c.args.quotes (is_behind_less text start) (drop (start + 1) text) =
     rw (c.is_behind_less-behind_less.ensures, c.as_bytes-bytes.ensures.value, take_rest text (start + 1)) at c.escape.ensures in
     let escapes : escape c.args.element c.args.quotes (is_behind_less text start) (drop (start + 1) text) ≡ Some (more, c.in-Some.character) = sym told ∙ c.in-Some.is in
-    let ends : EndsWithin (drop (start + 1) text) more = escape-ends c.args.element c.args.quotes (is_behind_less text start) (drop (start + 1) text) more c.in-Some.character escapes in
+    let ends : EndsWithin (drop (start + 1) text) more c.in-Some.character = escape-ends c.args.element c.args.quotes (is_behind_less text start) (drop (start + 1) text) more c.in-Some.character escapes in
     let end : start + 1 + (more - 1) ≡ start + more = omega (arith, ends.some) in
     let last : slice_index text (start + more) < 128 = rw (get_or-drop (start + 1) text (more - 1) 0, end) at ends.ascii in
     let behind : start + more + 1 ≡ start + 1 + more = omega arith in

@@ -1,0 +1,10 @@
+use Rattle.std.proofs.Common.{ap, length}
+use Rattle.hesc_specs.specs.declared.elements.Element.TheVariants.{Style}
+use Rattle.hesc_specs.proofs.DecodedBodies.{body_decoding-empty, body_decoding-shorter}
+use Rattle.hesc_core.proofs.rules.bodies.DecodeStyleRule.bound.Goals as goal
+
+pub returns-clause-enough : goal.returns-clause-enough
+returns-clause-enough c = body_decoding-shorter Style c.args.text.now
+
+pub returns-clause-empty : goal.returns-clause-empty
+returns-clause-empty c nothing = ap length (body_decoding-empty Style c.args.text.now nothing)
