@@ -2,6 +2,7 @@ mod Blocks
 mod Bounds
 pub mod Capped
 mod ChunkSearch
+mod CommonNames
 mod CountSteps
 mod EscapeSearch
 mod FlagTable

@@ -1,10 +1,10 @@
 //! The value of a reference's body: of its number, or of its name.
-ghost use Rattle.std.specs.Prelude.{◌≡◌, ◌≤◌, ◌<◌, ◌+◌, ◌*◌};
+ghost use Rattle.std.specs.Prelude.{◌≡◌, ◌≤◌, ◌<◌, ◌+◌, ◌*◌, encode_utf8};
 ghost use Rattle.std.specs.Option.{option_map};
 ghost use Rattle.hesc_specs.specs.Entities.{value_of};
 ghost use Rattle.hesc_specs.specs.References.{body_value, is_kept_control, number_of, numbered_value, numeral};
 ghost use Rattle.hesc_core.specs.Numbers.{base_of, capped};
-ghost use Rattle.hesc_core.specs.Table.{rows_of};
+ghost use Rattle.hesc_core.specs.Table.{common_character as common_character_of, rows_of};
 ghost use Rattle.hesc_core.specs.Text.{replacement_bytes};
 
 use crate::found::Replacement;
@@ -21,29 +21,42 @@ pub fn value_of_body<'a>(table: &EntityTable<'a>, body: &[u8]) -> Option<Replace
 {
     match number_of(body) {
         Some(number) => character(number),
-        None => match value_of_name(table, body) {
+        None => value_of_name(table, body),
+    }
+}
+
+// The value of a name. The common names, which most references have, are in every table.
+#[inline(always)]
+fn value_of_name<'a>(table: &EntityTable<'a>, name: &[u8]) -> Option<Replacement<'a>>
+    ensures { option_map replacement_bytes result ≡ value_of (rows_of table.now) name.now }
+{
+    match common_character(name) {
+        Some(character) => Some(small(character)),
+        None => match table.get(name) {
             Some(value) => Some(Replacement::Borrowed(value)),
             None => None,
         },
     }
 }
 
-// The value of a name. The common names, which most references have, are in every table.
 #[inline(always)]
-fn value_of_name<'a>(table: &EntityTable<'a>, name: &[u8]) -> Option<&'a str>
-    ensures { option_map (λ value. value.now) result ≡ value_of (rows_of table.now) name.now }
+fn common_character(name: &[u8]) -> Option<char>
+    ensures { result ≡ common_character_of name.now }
 {
-    if name == b"lt".as_slice() {
-        Some("<")
-    } else if name == b"gt".as_slice() {
-        Some(">")
-    } else if name == b"amp".as_slice() {
-        Some("&")
-    } else if name == b"quot".as_slice() {
-        Some("\"")
-    } else {
-        table.get(name)
+    match name {
+        [b'l', b't'] => Some('<'),
+        [b'g', b't'] => Some('>'),
+        [b'a', b'm', b'p'] => Some('&'),
+        [b'q', b'u', b'o', b't'] => Some('"'),
+        _ => None,
     }
+}
+
+#[inline(always)]
+fn small(character: char) -> Replacement<'static>
+    ensures { replacement_bytes result ≡ encode_utf8 character }
+{
+    Replacement::Small(SmallText::from_char(character))
 }
 
 // The character of a number, if a reference may stand for it.
@@ -55,7 +68,7 @@ fn character(number: u32) -> Option<Replacement<'static>>
         return None;
     }
     let character = char::from_u32(number)?;
-    Some(Replacement::Small(SmallText::from_char(character)))
+    Some(small(character))
 }
 
 // Whether the number is of a C0 control other than tab, line feed, form feed, carriage return.

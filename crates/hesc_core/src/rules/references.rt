@@ -44,6 +44,7 @@ impl Rule for References<'_> {
 ///
 /// Each `&` is judged by itself: what follows it goes up to the next `&` or `;`, and no byte is
 /// searched twice for either.
+#[inline(always)]
 pub fn next_references<'a>(table: &EntityTable<'a>, text: &str, from: usize) -> Option<Found<'a>>
     requires { IsCharBoundary text.now from }
     ensures none { IfNone result (reference_changes (rows_of table.now) text.now from ≡ []) }
