@@ -87,12 +87,41 @@ pub fn first_escaped(class: Class, bytes: &[u8], from: usize) -> usize
     requires { from ≤ length bytes.now }
     ensures { IsFirstAt (escapes_at class bytes.now) from (length bytes.now) result }
 {
-    let mut place = first_in(class, bytes, from);
+    // Where much is replaced, the first byte often is.
+    if from < bytes.len() && is_in(class, bytes[from]) && bytes[from] != 0xE2 {
+        return from;
+    }
+    first_escaped_by_class(class, bytes, from)
+}
+
+// Each arm is a loop of the comparisons of its class alone.
+#[inline(never)]
+fn first_escaped_by_class(class: Class, bytes: &[u8], from: usize) -> usize
+    requires { from ≤ length bytes.now }
+    ensures { IsFirstAt (escapes_at class bytes.now) from (length bytes.now) result }
+{
+    match class {
+        Class::ScriptSingleQuoted => first_escaped_in(Class::ScriptSingleQuoted, bytes, from),
+        Class::ScriptDoubleQuoted => first_escaped_in(Class::ScriptDoubleQuoted, bytes, from),
+        Class::ScriptQuoted => first_escaped_in(Class::ScriptQuoted, bytes, from),
+        Class::StyleSingleQuoted => first_escaped_in(Class::StyleSingleQuoted, bytes, from),
+        Class::StyleDoubleQuoted => first_escaped_in(Class::StyleDoubleQuoted, bytes, from),
+        Class::StyleQuoted => first_escaped_in(Class::StyleQuoted, bytes, from),
+        _ => first_escaped_in(class, bytes, from),
+    }
+}
+
+#[inline(always)]
+fn first_escaped_in(class: Class, bytes: &[u8], from: usize) -> usize
+    requires { from ≤ length bytes.now }
+    ensures { IsFirstAt (escapes_at class bytes.now) from (length bytes.now) result }
+{
+    let mut place = first_by_lanes(class, bytes, from);
     'seeking: while place < bytes.len() {
         if bytes[place] != 0xE2 || completes_separator(&bytes[place + 1..]) {
             return place;
         }
-        place = first_in(class, bytes, place + 1);
+        place = first_by_lanes(class, bytes, place + 1);
     }
     place
 }

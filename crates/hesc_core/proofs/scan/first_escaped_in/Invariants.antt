@@ -1,7 +1,7 @@
 use Rattle.std.proofs.Common.{◌≡◌, ◌≤◌, ◌<◌, ◌-◌, ℕ, true, false, length, slice_index}
 use Rattle.hesc_specs.specs.Classes.{in_class}
 use Rattle.hesc_specs.specs.EscapedPlaces.{escapes_at}
-use Rattle.hesc_core.proofs.scan.first_escaped.Given as goal
+use Rattle.hesc_core.proofs.scan.first_escaped_in.Given as goal
 
 -- nothing that is replaced begins before the place, which is that of a byte of the class or the end
 abbrev pub invariant-seeking : goal.invariant-seeking
