@@ -2,9 +2,7 @@
 ghost use Rattle.std.specs.Prelude.{◌≡◌, ◌≢◌, ◌≤◌, [], None, length, if◌then◌else◌, IfSome};
 ghost use Rattle.hesc_specs.specs.Classes.{in_class, string_class};
 ghost use Rattle.hesc_specs.specs.Escaped.{escaped};
-ghost use Rattle.hesc_specs.specs.Strings.{is_mark};
 
-use crate::counts::count_in;
 use crate::flags::is_in;
 use crate::growth::{Growth, grown_length};
 use crate::lanes::hits;
@@ -39,37 +37,23 @@ fn bound_in(class: Class, text: &str) -> Option<usize>
     grown_length(&StringGrowth { class }, text.as_bytes())
 }
 
-// By how many bytes the escape of a byte of the class is longer at most: a `\` stands before a
-// mark, a C0 control or `<` becomes four bytes or three, and a separator's three bytes become six.
+// By how many bytes the escape of a byte of the class is longer at most: an ASCII character becomes
+// four bytes or fewer, and a separator's three become six.
 #[derive(Clone, Copy)]
 struct StringGrowth {
     class: Class,
 }
 
 impl Growth for StringGrowth {
-    ghost added = { λ growth b. if in_class growth.class b then (if is_mark b then 1 else 3) else 0 };
+    ghost added = { λ growth b. if in_class growth.class b then 3 else 0 };
 
     #[inline(always)]
     fn of_lanes(&self, v: u8x32) -> usize {
-        let mask = hits(self.class, v);
-        // Most often nothing is escaped.
-        if mask == 0 {
-            return 0;
-        }
-        3 * mask.count_ones() as usize
-            - 2 * count_in(self.class, v, b'\\')
-            - 2 * count_in(self.class, v, b'\'')
-            - 2 * count_in(self.class, v, b'"')
+        3 * hits(self.class, v).count_ones() as usize
     }
 
     #[inline(always)]
     fn of_byte(&self, byte: u8) -> usize {
-        if !is_in(self.class, byte) {
-            return 0;
-        }
-        match byte {
-            b'\\' | b'\'' | b'"' => 1,
-            _ => 3,
-        }
+        if is_in(self.class, byte) { 3 } else { 0 }
     }
 }
