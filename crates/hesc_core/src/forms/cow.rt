@@ -1,7 +1,7 @@
 //! A rule's text as a text that is borrowed where nothing changes.
 ghost use Rattle.hesc_core.specs.Forms.{AnswersText};
 
-use crate::forms::string::append_to_string;
+use crate::forms::vec::append_changed;
 use crate::rule::Rule;
 use std::alloc::{AllocError, Allocator};
 use std::borrow::CowStr;
@@ -19,7 +19,8 @@ pub fn to_cow<'t, R: Rule, A: Allocator>(
     if rule.next(text, 0).is_none() {
         return Ok(CowStr::Borrowed(text));
     }
-    let mut output = String::new(alloc);
-    append_to_string(&mut output, rule, text)?;
-    Ok(CowStr::Owned(output))
+    let mut bytes = Vec::new(alloc);
+    append_changed(&mut bytes, rule, text)?;
+    // What is made of a text is a text.
+    Ok(CowStr::Owned(unsafe { String::from_utf8_unchecked(bytes) }))
 }

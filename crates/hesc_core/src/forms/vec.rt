@@ -22,6 +22,25 @@ pub fn append_to_vec<R: Rule, A: Allocator>(
     ensures fits { length (R.made rule.now text.now) ≤ vec_room output.old → IsOk result }
     ensures utf8 { OnOk result (IsUtf8 (R.made rule.now text.now)) }
 {
+    // Most texts stay as they are.
+    if rule.next(text, 0).is_none() {
+        return output.extend_from_slice(text.as_bytes());
+    }
+    append_changed(output, rule, text)
+}
+
+/// The same, where something is known to change: it is not asked for first.
+#[inline(always)]
+pub(crate) fn append_changed<R: Rule, A: Allocator>(
+    output: &mut Vec<u8, A>,
+    rule: &R,
+    text: &str,
+) -> Result<(), AllocError>
+    ensures appended { Appended output.old.items output.new.items
+        (R.made rule.now text.now) result }
+    ensures fits { length (R.made rule.now text.now) ≤ vec_room output.old → IsOk result }
+    ensures utf8 { OnOk result (IsUtf8 (R.made rule.now text.now)) }
+{
     let Ok(room) = room_for(rule, text, output.capacity() - output.len()) else {
         return Err(AllocError);
     };
