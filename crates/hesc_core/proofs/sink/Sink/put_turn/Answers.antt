@@ -1,4 +1,3 @@
-use Rattle.std.proofs.Common.{◌≡◌}
 use Rattle.hesc_core.specs.Text.{replacement_bytes}
 use Rattle.hesc_core.proofs.Progress.{TookBeginning-front, TookBeginning-behind, on_err, then_on_err}
 use Rattle.hesc_core.proofs.sink.Sink.put_turn.Goals as goal

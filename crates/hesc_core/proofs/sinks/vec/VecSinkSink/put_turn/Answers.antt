@@ -1,4 +1,3 @@
-use Rattle.std.proofs.Common.{◌≡◌}
 use Rattle.hesc_core.proofs.Progress.{TookBeginning-behind, then_on_err}
 use Rattle.hesc_core.proofs.sinks.vec.VecSinkSink.put_turn.Goals as goal
 
