@@ -1,5 +1,5 @@
 -- The names that encoders write have their values in every table.
-use Rattle.std.proofs.Common.{◌≡◌, ℕ, ◌<◌, Bool, true, false, List, [], ◌∷◌, Option, Some, None, IsTrue, codes, encode_utf8, if◌then◌else◌, length, refl, sym, arith}
+use Rattle.std.proofs.Common.{◌≡◌, ℕ, ◌<◌, Bool, true, false, List, [], ◌∷◌, Some, None, IsTrue, codes, encode_utf8, if◌then◌else◌, length, refl, sym, arith}
 use Rattle.std.specs.Str.{bytes_eq}
 use Rattle.std.proofs.lemmas.Slice.Eq.{bytes_eq-Decides}
 use Rattle.hesc_specs.specs.Entities.{Row, common_rows, row_at, value_of}

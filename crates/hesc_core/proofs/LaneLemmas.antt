@@ -35,3 +35,9 @@ either_set true true = refl
 either_set true false = refl
 either_set false true = refl
 either_set false false = refl
+
+-- a mask by a test that agrees with a class at each of the 256 bytes
+pub mask_as_class : (class named : Class) (test : ℕ → Bool) (v : List ℕ) (mask : ℕ) → class ≡ named → Each1 (λ b. b < 256) v
+    → agree_below test (in_class named) 256 ≡ true → mask ≡ mask_l (map test v) → mask ≡ mask_l (map (in_class class) v)
+mask_as_class class named test v mask same below all is =
+    is ∙ ap mask_l (agree-map test (in_class named) v below all) ∙ ap (λ k. mask_l (map (in_class k) v)) (sym same)

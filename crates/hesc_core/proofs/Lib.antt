@@ -12,6 +12,7 @@ mod Halving
 pub mod HandsOn
 pub mod HandsOnTable
 mod LaneLemmas
+mod Lookups
 mod OpeningSearch
 mod Progress
 mod ReferenceTable

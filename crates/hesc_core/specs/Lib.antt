@@ -4,6 +4,7 @@ pub mod Next
 pub mod Pieces
 pub mod Sinks
 pub mod Forms
+pub mod Groups
 pub mod NamedRows
 pub mod Numbers
 pub mod Rows

@@ -4,6 +4,7 @@ ghost use Rattle.std.specs.Simd.Lanes.{Each1, mask_l};
 ghost use Rattle.memchr.specs.Find.{is_byte, is_byte2};
 ghost use Rattle.hesc_specs.specs.Classes.{in_class};
 
+use crate::groups::{DOUBLE, SCRIPT, SINGLE, STYLE, hits_of_groups};
 use hesc_specs::Class;
 use std::simd::prelude::*;
 
@@ -19,9 +20,6 @@ pub(crate) fn hits(class: Class, v: u8x32) -> u64
     let double = v.simd_eq(u8x32::splat(b'"'));
     let single = v.simd_eq(u8x32::splat(b'\''));
     let slash = v.simd_eq(u8x32::splat(b'/'));
-    let controls = v.simd_lt(u8x32::splat(32));
-    let string = controls | v.simd_eq(u8x32::splat(b'\\')) | less;
-    let lead = v.simd_eq(u8x32::splat(0xE2));
     let letters = (v | u8x32::splat(0x20)) - u8x32::splat(b'a');
     let digits = v - u8x32::splat(b'0');
     let symbols = v.simd_lt(u8x32::splat(128))
@@ -35,12 +33,12 @@ pub(crate) fn hits(class: Class, v: u8x32) -> u64
         Class::QuotedAttribute => (brackets | double | single).to_bitmask(),
         Class::Safe => (brackets | double | single | slash).to_bitmask(),
         Class::UnquotedAttribute => symbols.to_bitmask(),
-        Class::ScriptSingleQuoted => (string | single | lead).to_bitmask(),
-        Class::ScriptDoubleQuoted => (string | double | lead).to_bitmask(),
-        Class::ScriptQuoted => (string | single | double | lead).to_bitmask(),
-        Class::StyleSingleQuoted => (string | single).to_bitmask(),
-        Class::StyleDoubleQuoted => (string | double).to_bitmask(),
-        Class::StyleQuoted => (string | single | double).to_bitmask(),
+        Class::ScriptSingleQuoted => hits_of_groups(SCRIPT | SINGLE, v),
+        Class::ScriptDoubleQuoted => hits_of_groups(SCRIPT | DOUBLE, v),
+        Class::ScriptQuoted => hits_of_groups(SCRIPT | SINGLE | DOUBLE, v),
+        Class::StyleSingleQuoted => hits_of_groups(STYLE | SINGLE, v),
+        Class::StyleDoubleQuoted => hits_of_groups(STYLE | DOUBLE, v),
+        Class::StyleQuoted => hits_of_groups(STYLE | SINGLE | DOUBLE, v),
     }
 }
 

@@ -13,6 +13,7 @@ pub mod find;
 mod flags;
 pub mod forms;
 pub mod found;
+mod groups;
 mod growth;
 mod html_growth;
 mod html_length;
