@@ -7,6 +7,7 @@ ghost use Rattle.hesc_core.specs.Forms.{AnswersPart, Appended, VecAppended, vec_
 use crate::engine::run;
 use crate::forms::measure::room_for;
 use crate::rule::Rule;
+use crate::rules::unchanged::Unchanged;
 use crate::sinks::vec::VecSink;
 use std::alloc::{AllocError, Allocator};
 
@@ -22,16 +23,16 @@ pub fn append_to_vec<R: Rule, A: Allocator>(
     ensures fits { length (R.made rule.now text.now) ≤ vec_room output.old → IsOk result }
     ensures utf8 { OnOk result (IsUtf8 (R.made rule.now text.now)) }
 {
-    // Most texts stay as they are.
+    // Most texts stay as they are, and that is found out once.
     if rule.next(text, 0).is_none() {
-        return output.extend_from_slice(text.as_bytes());
+        return append_by_pieces(output, &Unchanged, text);
     }
-    append_changed(output, rule, text)
+    append_by_pieces(output, rule, text)
 }
 
-/// The same, where something is known to change: it is not asked for first.
+/// The same, with no question first whether anything changes.
 #[inline(always)]
-pub(crate) fn append_changed<R: Rule, A: Allocator>(
+pub(crate) fn append_by_pieces<R: Rule, A: Allocator>(
     output: &mut Vec<u8, A>,
     rule: &R,
     text: &str,

@@ -43,7 +43,7 @@ impl Rule for References<'_> {
 /// The first reference at or after `from`, a character boundary, that has a value, and its value.
 ///
 /// Each `&` is judged by itself: what follows it goes up to the next `&` or `;`, and no byte is
-/// searched twice for either.
+/// looked at more than twice for either.
 #[inline(always)]
 pub fn next_references<'a>(table: &EntityTable<'a>, text: &str, from: usize) -> Option<Found<'a>>
     requires { IsCharBoundary text.now from }
