@@ -1,8 +1,8 @@
 //! The forms of an operation, for any rule: a text that borrows where nothing changes, appended to
 //! a string or a vector, or written.
 //!
-//! A form that appends measures first, reserves once, and then runs into room that is known to
-//! suffice, so a refusal leaves the output as it was.
+//! A form that appends finds out what room is enough, reserves once, and then runs into room that
+//! is known to suffice, so a refusal leaves the output as it was.
 pub mod cow;
 pub mod measure;
 pub mod string;
