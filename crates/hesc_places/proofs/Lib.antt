@@ -26,6 +26,7 @@ pub mod PartsTaken
 pub mod NamesOfLetters
 pub mod LastGaps
 pub mod GoodAttributes
+pub mod StoodNames
 pub mod AnsweredFaults
 mod OneReading
 mod Trials

@@ -14,12 +14,16 @@ abbrev pub is_unfilled : Quoting → List ℕ → Bool
 is_unfilled Unquoted [] = true
 is_unfilled other value = false
 
--- what is wrong with an attribute at a place, behind others of these names: its name comes first
-abbrev pub attribute_fault : List (List ℕ) → ℕ → Entry → Option FormFault
-attribute_fault earlier place a =
-    if is_name a.name && not (list_any (bytes_eq a.name) earlier)
+-- what is wrong with an attribute at a place, whose name stood before or not: its name comes first
+abbrev pub fault_where : Bool → ℕ → Entry → Option FormFault
+fault_where stood place a =
+    if is_name a.name && not stood
     then (if is_unfilled a.quoting a.value then Some (EmptyUnquoted place) else None)
     else Some (BadName place)
+
+-- what is wrong with an attribute at a place, behind others of these names
+abbrev pub attribute_fault : List (List ℕ) → ℕ → Entry → Option FormFault
+attribute_fault earlier place a = fault_where (list_any (bytes_eq a.name) earlier) place a
 
 -- what is wrong first from a place on, behind others of these names
 abbrev pub fault_from : List (List ℕ) → ℕ → List Entry → Option FormFault

@@ -18,3 +18,4 @@ pub mod PageReadings
 pub mod FormTexts
 pub mod PageTexts
 pub mod FormFaults
+pub mod StoodNames

@@ -15,7 +15,8 @@ use std::alloc::{AllocError, Allocator};
 /// Appends a form: an input with these attributes, in order, and a script that hands `script` to
 /// `alert`. It answers that part. On a fault, the first of [`FormFault`], `output` is as it was.
 ///
-/// The attributes are good exactly where none of them has a fault, and then by
+/// The attributes are good exactly where none of them has a fault
+/// ([`good_attributes_law`](crate::laws::good_attributes_law)), and then by
 /// [`form_law`](crate::laws::form_law) the part is read back, whatever follows it.
 pub fn build_form<'o, A: Allocator>(
     attributes: &[Attribute],
@@ -73,7 +74,7 @@ pub fn append_form<A: Allocator>(
         → length (form_text (map written attributes.now) script.now) ≤ string_room output.old
         → IsOk result }
 {
-    if let Some(fault) = first_fault(attributes) {
+    if let Some(fault) = first_fault(output.allocator(), attributes) {
         return Err(fault);
     }
     match append_form_text(output, attributes, script) {

@@ -62,10 +62,10 @@ fn with_attributes<A: Allocator + Clone>(
         ≡ with_attributes total
         (map (λ a. entry a.0.items a.1 a.2.items) attributes.items, bytes.now)) }
 {
-    let Some((script, rest)) = behind_attributes(alloc, bytes)? else {
+    let Some((script, rest)) = behind_attributes(alloc.clone()?, bytes)? else {
         return Ok(None);
     };
-    if !differ(attributes.as_slice()) {
+    if !differ(alloc, attributes.as_slice())? {
         return Ok(None);
     }
     let end = total.saturating_sub(rest.len());

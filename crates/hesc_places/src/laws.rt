@@ -1,7 +1,8 @@
 //! The laws of places: each is a function that does nothing and whose contract is the law.
-ghost use Rattle.std.specs.Prelude.{◌≡◌, ◌≢◌, ◌++◌, false, length, map, IsTrue, Some};
+ghost use Rattle.std.specs.Prelude.{◌≡◌, ◌≢◌, ◌↔◌, ◌++◌, false, length, map, IsTrue, None, Some};
 ghost use Rattle.hesc_specs.specs.Bodies.{body_encoding};
 ghost use Rattle.html_escape.specs.Encoders.{encoded};
+ghost use Rattle.hesc_places.specs.FormFaults.{first_fault};
 ghost use Rattle.hesc_places.specs.FormReadings.{form_reading};
 ghost use Rattle.hesc_places.specs.FormTexts.{AreGood, form_back, form_text, written};
 ghost use Rattle.hesc_places.specs.Marks.{closing};
@@ -58,4 +59,10 @@ pub fn form_law(attributes: &[Attribute], script: &str, rest: &[u8])
     requires { AreGood (map written attributes.now) }
     ensures { form_reading (form_text (map written attributes.now) script.now ++ rest.now)
         ≡ Some (form_back (map written attributes.now) script.now) }
+{}
+
+/// Attributes have no fault exactly where they are good.
+pub fn good_attributes_law(attributes: &[Attribute])
+    ensures { (first_fault (map written attributes.now) ≡ None)
+        ↔ AreGood (map written attributes.now) }
 {}

@@ -21,6 +21,7 @@ mod front;
 mod grammar;
 pub mod laws;
 mod marks;
+mod names;
 mod page_builder;
 mod page_reader;
 mod places;

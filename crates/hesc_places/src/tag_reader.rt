@@ -1,6 +1,5 @@
 //! The reader of a tag's attributes.
-ghost use Rattle.std.specs.Prelude.{◌≡◌, bytes_eq, length, map, IfOk};
-ghost use Rattle.std.specs.List.{list_any};
+ghost use Rattle.std.specs.Prelude.{◌≡◌, length, map, IfOk};
 ghost use Rattle.std.specs.Option.{option_map};
 ghost use Rattle.hesc_places.specs.AttributeReadings.{
   attribute_at,
@@ -15,10 +14,12 @@ ghost use Rattle.hesc_places.specs.AttributeReadings.{
 };
 
 use crate::front::{letters_at, past, white_space_at};
+use crate::names::add_name;
 use crate::places::{End, Place};
 use crate::quoting::Quoting;
 use crate::readers::read_place;
 use std::alloc::{AllocError, Allocator};
+use std::collections::BTreeSet;
 
 /// The attributes that follow one another at the front, and the bytes behind them.
 pub(crate) fn attributes_at<A: Allocator + Clone>(
@@ -153,34 +154,20 @@ fn ending(byte: u8) -> Option<End>
     }
 }
 
-/// No name stands twice.
-pub(crate) fn differ<A: Allocator>(attributes: &[(Vec<u8, A>, Quoting, Vec<u8, A>)]) -> bool
-    ensures { result ≡ differ
-        (map (λ a. a.name) (map (λ a. entry a.0.items a.1 a.2.items) attributes.now)) }
-{
-    let mut rest = attributes;
-    'names: while let [(name, _, _), others @ ..] = rest {
-        if is_name_of_one(name.as_slice(), others) {
-            return false;
-        }
-        rest = others;
-    }
-    true
-}
-
-fn is_name_of_one<A: Allocator>(
-    name: &[u8],
+/// No name stands twice, found in `n log n`.
+#[tactic(auto, using(crate::proofs::StoodNames::none_stood, crate::proofs::StoodNames::old_first, crate::proofs::StoodNames::new_first,))]
+pub(crate) fn differ<A: Allocator + Clone>(
+    alloc: A,
     attributes: &[(Vec<u8, A>, Quoting, Vec<u8, A>)],
-) -> bool
-    ensures { result ≡ list_any (bytes_eq name.now)
-        (map (λ a. a.name) (map (λ a. entry a.0.items a.1 a.2.items) attributes.now)) }
+) -> Result<bool, AllocError>
+    ensures { IfOk result (λ answer. answer ≡ differ
+        (map (λ a. a.name) (map (λ a. entry a.0.items a.1 a.2.items) attributes.now))) }
 {
-    let mut rest = attributes;
-    'names: while let [(other, _, _), others @ ..] = rest {
-        if name == other.as_slice() {
-            return true;
+    let mut names = BTreeSet::new(alloc);
+    for (name, _, _) in attributes {
+        if add_name(&mut names, name.as_slice())? {
+            return Ok(false);
         }
-        rest = others;
     }
-    false
+    Ok(true)
 }

@@ -1,12 +1,11 @@
-use Rattle.std.proofs.Common.{◌≡◌, length, map}
+use Rattle.std.proofs.Common.{◌≡◌, ◌&&◌, drop, map}
 use Rattle.hesc_places.specs.AttributeReadings.{differ, entry}
+use Rattle.hesc_places.proofs.StoodNames.{are_new}
 use Rattle.hesc_places.proofs.tag_reader.differ.Given as goal
 
--- no name before the rest stands again
-abbrev pub invariant-names : goal.invariant-names
-invariant-names g l =
-    differ (map (λ a. a.name) (map (λ a. entry a.0.items a.1 a.2.items) l.rest))
+-- the names that follow are new and differ exactly where all names differ
+abbrev pub invariant-loop-name : goal.invariant-loop-name
+invariant-loop-name g l =
+    (are_new l.names.keys (map (λ a. a.name) (map (λ a. entry a.0.items a.1 a.2.items) (drop l.name-index l.attributes)))
+    && differ (map (λ a. a.name) (map (λ a. entry a.0.items a.1 a.2.items) (drop l.name-index l.attributes))))
     ≡ differ (map (λ a. a.name) (map (λ a. entry a.0.items a.1 a.2.items) l.attributes))
-
-abbrev pub decreases-names : goal.decreases-names
-decreases-names g l = length l.rest

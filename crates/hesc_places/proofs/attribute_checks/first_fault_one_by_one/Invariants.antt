@@ -1,7 +1,7 @@
 use Rattle.std.proofs.Common.{◌≡◌, drop, map, take}
 use Rattle.hesc_places.specs.FormFaults.{fault_from, first_fault}
 use Rattle.hesc_places.specs.FormTexts.{written}
-use Rattle.hesc_places.proofs.attribute_checks.first_fault.Given as goal
+use Rattle.hesc_places.proofs.attribute_checks.first_fault_one_by_one.Given as goal
 
 -- nothing is wrong before the place
 abbrev pub invariant-loop-place : goal.invariant-loop-place
