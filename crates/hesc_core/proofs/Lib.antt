@@ -13,6 +13,7 @@ pub mod HandsOn
 pub mod HandsOnTable
 mod LaneLemmas
 mod Lookups
+pub mod NamedTable
 mod OpeningSearch
 mod Progress
 mod ReferenceTable

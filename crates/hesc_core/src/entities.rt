@@ -1,4 +1,6 @@
 //! The rows of the built-in table of entities.
+ghost use Rattle.std.specs.Prelude.{◌≡◌, map};
+ghost use Rattle.hesc_core.specs.NamedRows.{named_rows};
 
 /// 77 of HTML's named character references, by rising names, with the six common ones. A fuller
 /// table is handed in, as an [`EntityTable`](crate::EntityTable).
@@ -81,3 +83,9 @@ pub const NAMED_ENTITIES: [(&[u8], &str); 77] = [
     (b"nbsp", "\u{A0}"),
     (b"quot", "\""),
 ];
+
+/// The rows are those of the definition, each name with the character of its code point: this is
+/// its contract, and it answers nothing.
+pub fn entities_agree()
+    ensures { map (λ row. (row.0.now, row.1.now)) NAMED_ENTITIES ≡ named_rows }
+{}
