@@ -20,8 +20,8 @@ IsAscii-tells (b ∷ bytes) all =
     let parts = and_parts (nat_lt b 128) (are_ascii bytes) all in
     IsAscii-cons b bytes (leb-true _ _ parts.0) (IsAscii-tells bytes parts.1)
 
-pub row_is_short : (b : ℕ) (row : List ℕ × ℕ) → b < 128 → row ≡ row_of b → row.1 ≤ 8
-row_is_short b row ascii is = rw is (leb-true _ _ (agree_below_at (λ k. nat_le (row_of k).1 8) (λ _. true) 128 b refl ascii))
+pub row_is_short : (b : ℕ) (row : List ℕ × ℕ) → b < 128 → row ≡ row_of b → row.1 ≤ 6
+row_is_short b row ascii is = rw is (leb-true _ _ (agree_below_at (λ k. nat_le (row_of k).1 6) (λ _. true) 128 b refl ascii))
 
 pub row_is_ascii : (b : ℕ) (row : List ℕ × ℕ) → b < 128 → row ≡ row_of b → IsAscii row.0
 row_is_ascii b row ascii is = rw is (IsAscii-tells _ (agree_below_at (λ k. are_ascii (row_of k).0) (λ _. true) 128 b refl ascii))

@@ -6,7 +6,7 @@ use crate::small_text::SmallText;
 pub enum Replacement<'r> {
     /// A text that stands elsewhere, such as a constant or a table's value.
     Borrowed(&'r str),
-    /// A text of at most eight bytes.
+    /// A text of at most six bytes.
     Small(SmallText),
 }
 

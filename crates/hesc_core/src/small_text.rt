@@ -1,16 +1,17 @@
-//! A text of at most eight bytes that owns them and takes no memory: what an escape or a reference
-//! is written as.
+//! A text of at most six bytes that owns them and takes no memory: what an escape or a reference is
+//! written as.
 ghost use Rattle.std.specs.Prelude.{◌≤◌, take};
 ghost use Rattle.std.specs.Str.{IsAscii, IsUtf8};
 
 use std::str;
 
-/// At most eight bytes of UTF-8, and behind them bytes that say nothing.
+/// At most six bytes of UTF-8. They stand at the front of eight, which are copied as one; those
+/// behind them say nothing.
 #[derive(Clone, Copy)]
 pub struct SmallText {
     bytes: [u8; 8],
     len: usize,
-    ghost short: { len ≤ 8 },
+    ghost short: { len ≤ 6 },
     ghost utf8: { ∥ IsUtf8 (take len bytes) ∥₁ },
 }
 
@@ -18,10 +19,10 @@ impl SmallText {
     ghost use Rattle.std.specs.Prelude.{◌≡◌, ◌<◌, [], ◌∷◌, encode_utf8, length};
     ghost use Rattle.hesc_core.specs.Text.{small_text_bytes};
 
-    /// The text, which has at most eight bytes.
+    /// The text, which has at most six bytes.
     #[inline(always)]
     pub fn new(text: &str) -> SmallText
-        requires { length text.now ≤ 8 }
+        requires { length text.now ≤ 6 }
         ensures { small_text_bytes result ≡ text.now }
     {
         let mut bytes = [0; 8];
@@ -55,10 +56,10 @@ impl SmallText {
         }
     }
 
-    /// The text of the first of eight ASCII bytes.
+    /// The text of the first of eight ASCII bytes, at most six.
     #[inline(always)]
     pub fn from_ascii(bytes: [u8; 8], len: usize) -> SmallText
-        requires short { len ≤ 8 }
+        requires short { len ≤ 6 }
         requires ascii { IsAscii bytes }
         ensures { small_text_bytes result ≡ take len bytes }
     {

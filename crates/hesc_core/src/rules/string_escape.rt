@@ -64,7 +64,7 @@ fn is_mark(byte: u8) -> bool
 
 #[inline(always)]
 fn ascii(bytes: [u8; 8], len: usize) -> Replacement<'static>
-    requires short { len ≤ 8 }
+    requires short { len ≤ 6 }
     requires ascii { IsAscii bytes }
     ensures { replacement_bytes result ≡ take len bytes }
 {
