@@ -1,6 +1,6 @@
 //! The laws of the operations: each is a function that does nothing and whose contract is the law.
 ghost use Rattle.std.specs.List.{concat};
-ghost use Rattle.std.specs.Prelude.{◌≡◌, ◌≢◌, ◌↔◌, ◌++◌, false, map, [], IsTrue};
+ghost use Rattle.std.specs.Prelude.{◌≡◌, ◌≢◌, ◌↔◌, ◌++◌, false, true, map, [], IsTrue};
 ghost use Rattle.hesc_specs.specs.Bodies.{
   EndsWithoutLessThan,
   body_decoding,
@@ -14,10 +14,11 @@ ghost use Rattle.hesc_specs.specs.Nul.{nul};
 ghost use Rattle.hesc_specs.specs.Openings.{HasNoEscapedOpening, HasNoOpening};
 ghost use Rattle.hesc_specs.specs.References.{decoded};
 ghost use Rattle.hesc_specs.specs.SameBody.{IsSameBody};
-ghost use Rattle.hesc_specs.specs.Sessions.{IsSession};
+ghost use Rattle.hesc_specs.specs.Sessions.{IsSession, IsTextSession};
 ghost use Rattle.hesc_specs.specs.Strings.{IsPlain, string_encoding, string_value};
 ghost use Rattle.hesc_specs.specs.StringTokens.{knows, string_decoding};
 ghost use Rattle.hesc_specs.specs.declared.elements.Element.TheVariants.{Style};
+ghost use Rattle.hesc_specs.specs.declared.quotes.Quotes.TheVariants.{Both};
 ghost use Rattle.hesc_core.specs.Table.{rows_of};
 
 use crate::table::EntityTable;
@@ -39,6 +40,16 @@ pub fn different_texts(class: Class, a: &str, b: &str)
 pub fn same_style_strings(quotes: Quotes, a: &str, b: &str)
     ensures { (string_encoding Style quotes a.now ≡ string_encoding Style quotes b.now)
         ↔ (nul a.now ≡ nul b.now) }
+{}
+
+/// By the encoders of HTML and of a script's strings different texts have different encodings; by
+/// those of a style's strings two texts have equal encodings exactly if they are equal but for NUL
+/// and U+FFFD.
+pub fn different_encodings(class: Class, a: &str, b: &str)
+    ensures kept { is_of_style class ≡ false → escaped class a.now ≡ escaped class b.now
+        → a.now ≡ b.now }
+    ensures of_style { is_of_style class ≡ true
+        → (escaped class a.now ≡ escaped class b.now) ↔ (nul a.now ≡ nul b.now) }
 {}
 
 /// The encoding of a string holds no `<` and no C0 control.
@@ -73,6 +84,40 @@ pub fn string_decoders_undo_encoders(
     requires { IsTrue (knows decoder encoder) }
     ensures { string_decoding element decoder (string_encoding element encoder text.now ++ rest.now)
         ≡ string_value element text.now ++ string_decoding element decoder rest.now }
+{}
+
+/// The decoder of an encoder's own quote marks undoes it, and so does that of both marks, whatever
+/// follows. Of a style the text comes back with each NUL replaced by U+FFFD.
+pub fn string_round_trip(element: Element, quotes: Quotes, text: &str, rest: &[u8])
+    ensures same_marks { string_decoding element quotes (string_encoding element quotes text.now ++ rest.now)
+        ≡ string_value element text.now ++ string_decoding element quotes rest.now }
+    ensures both_marks { string_decoding element Both (string_encoding element quotes text.now ++ rest.now)
+        ≡ string_value element text.now ++ string_decoding element Both rest.now }
+{}
+
+/// The canonical form of bodies: no encoding has an opening and no decoding an escaped one, and each
+/// is the same body as its text; two texts are the same body exactly if their encodings are equal,
+/// and exactly if their decodings are; the later of two alone decides what they give; decoding
+/// undoes encoding exactly where the text has no escaped opening.
+pub fn canonical_bodies(element: Element, text: &str, other: &str)
+    ensures no_opening { HasNoOpening element (body_encoding element text.now) }
+    ensures no_escaped_opening { HasNoEscapedOpening element (body_decoding element text.now) }
+    ensures encoding_same { IsSameBody element (body_encoding element text.now) text.now }
+    ensures decoding_same { IsSameBody element (body_decoding element text.now) text.now }
+    ensures by_encoding { IsSameBody element text.now other.now
+        ↔ (body_encoding element text.now ≡ body_encoding element other.now) }
+    ensures by_decoding { IsSameBody element text.now other.now
+        ↔ (body_decoding element text.now ≡ body_decoding element other.now) }
+    ensures encode_twice { body_encoding element (body_encoding element text.now)
+        ≡ body_encoding element text.now }
+    ensures decode_twice { body_decoding element (body_decoding element text.now)
+        ≡ body_decoding element text.now }
+    ensures encode_decoding { body_encoding element (body_decoding element text.now)
+        ≡ body_encoding element text.now }
+    ensures decode_encoding { body_decoding element (body_encoding element text.now)
+        ≡ body_decoding element text.now }
+    ensures undone { (body_decoding element (body_encoding element text.now) ≡ text.now)
+        ↔ HasNoEscapedOpening element text.now }
 {}
 
 /// The encoding of a body has no opening and its decoding no escaped one, and each is the same body
@@ -121,5 +166,11 @@ pub fn joined_bodies(element: Element, a: &str, b: &str)
 /// them.
 pub fn joined_pieces(element: Element, pieces: &[&str], added: &str)
     requires { IsSession element [] (map (λ piece. piece.now) pieces.now) added.now }
+    ensures { added.now ≡ body_encoding element (concat (map (λ piece. piece.now) pieces.now)) }
+{}
+
+/// The same where each step is known only over the texts that may follow, and not over all bytes.
+pub fn joined_text_pieces(element: Element, pieces: &[&str], added: &str)
+    requires { IsTextSession element [] (map (λ piece. piece.now) pieces.now) added.now }
     ensures { added.now ≡ body_encoding element (concat (map (λ piece. piece.now) pieces.now)) }
 {}

@@ -1,5 +1,5 @@
 -- Equal encodings by a string encoder are of texts that are equal, in a style but for NUL: an image at the front of bytes tells its character.
-use Rattle.std.proofs.Common.{ℕ, ◌≡◌, ◌≢◌, ◌+◌, ◌*◌, ◌/◌, ◌%◌, ◌<◌, ◌≤◌, true, false, List, [], ◌∷◌, ◌++◌, ◌==◌, ◌⊎◌, ⊎_elim, inl, inr, Option, Some, None, if◌then◌else◌, codes, drop, flat_map, length, map, IsUtf8, refl, sym, ◌∙◌, ap, ap₂, arith, length-append, ne_eqb}
+use Rattle.std.proofs.Common.{ℕ, ◌≡◌, ◌≢◌, ◌+◌, ◌*◌, ◌/◌, ◌%◌, ◌<◌, ◌≤◌, true, false, List, [], ◌∷◌, ◌++◌, ◌==◌, ◌↔◌, ◌⊎◌, ⊎_elim, inl, inr, Option, Some, None, if◌then◌else◌, codes, drop, flat_map, length, map, IsUtf8, refl, sym, ◌∙◌, ap, ap₂, arith, length-append, ne_eqb}
 use Rattle.std.specs.Prelude.{chars}
 use Rattle.std.specs.Char.{digit_value}
 use Rattle.std.proofs.lemmas.Bool.{cases_Bool, cases_eq}
@@ -222,3 +222,17 @@ of_class class (Some string) is keeps a b first second same = of_element string.
 
 pub escaped-injective : (class : Class) (a b : List ℕ) → is_of_style class ≡ false → IsUtf8 a → IsUtf8 b → escaped class a ≡ escaped class b → a ≡ b
 escaped-injective class a b keeps first second same = of_class class (string_class class) refl keeps a b first second same
+
+-- equal encodings by an encoder of a style's strings are of texts that are equal but for NUL and U+FFFD
+style_of_element : (element : Element) (quotes : Quotes) (a b : List ℕ) → is_style (Some element) ≡ true → IsUtf8 a → IsUtf8 b
+    → (string_encoding element quotes a ≡ string_encoding element quotes b) ↔ (nul a ≡ nul b)
+style_of_element Script quotes a b keeps first second = absurd (cc)
+style_of_element Style quotes a b keeps first second = (same_value quotes Style a b first second, same_encoding quotes Style a b first second)
+
+style_of_class : (class : Class) (string : Option (Element × Quotes)) → is_style (element_in string) ≡ true → (a b : List ℕ) → IsUtf8 a → IsUtf8 b
+    → (by_class string (encoding class) string_encoding a ≡ by_class string (encoding class) string_encoding b) ↔ (nul a ≡ nul b)
+style_of_class class None keeps a b first second = absurd (cc)
+style_of_class class (Some string) keeps a b first second = style_of_element string.0 string.1 a b keeps first second
+
+pub escaped-style : (class : Class) (a b : List ℕ) → is_of_style class ≡ true → IsUtf8 a → IsUtf8 b → (escaped class a ≡ escaped class b) ↔ (nul a ≡ nul b)
+escaped-style class a b keeps first second = style_of_class class (string_class class) keeps a b first second

@@ -3,13 +3,15 @@ use Rattle.std.proofs.Common.{ℕ, ◌≡◌, Bool, true, false, ◌&&◌, ◌||
 use Rattle.std.proofs.lemmas.Bool.{cases_Bool, or_parts}
 use Rattle.std.proofs.lemmas.List.{append-nil}
 use Rattle.std.specs.Char.{to_ascii_lowercase}
+use Rattle.std.proofs.lemmas.Str.{IsUtf8-append, IsUtf8-nil}
 use Rattle.std.specs.List.{concat}
 use Rattle.std.specs.Prelude.{codes}
+use Rattle.std.specs.Str.{IsUtf8}
 use Rattle.hesc_specs.specs.Ascii.{slash, less_than}
 use Rattle.hesc_specs.specs.Bodies.{body_encoding}
 use Rattle.hesc_specs.specs.Elements.{element_name}
 use Rattle.hesc_specs.specs.Openings.{ends_name, completes_opening, is_opening}
-use Rattle.hesc_specs.specs.Sessions.{is_undecided, undecided_end, settled_encoding, IsStep, IsSession}
+use Rattle.hesc_specs.specs.Sessions.{is_undecided, undecided_end, settled_encoding, IsStep, IsTextStep, IsSession, IsTextSession}
 use Rattle.hesc_specs.specs.Words.{begins_in_any_case, is_beginning_in_any_case}
 use Rattle.hesc_specs.specs.declared.elements.Element.{Element}
 use Rattle.hesc_specs.proofs.OpeningLemmas.{passes, completes_opening-words}
@@ -104,3 +106,22 @@ session-from element held (piece ∷ pieces) all (held', added, later, step, goe
 -- all that a session adds is the encoding of its joined pieces
 pub session-joined : (element : Element) (pieces : List (List ℕ)) (all : List ℕ) → IsSession element [] pieces all → all ≡ body_encoding element (concat pieces)
 session-joined element pieces all session = session-from element [] pieces all session
+
+-- a step whatever bytes follow is a step over texts
+pub step-text : (element : Element) (held piece held' added : List ℕ) → IsStep element held piece held' added → IsTextStep element held piece held' added
+step-text element held piece held' added step = (λ rest text. step.0 rest, step.1)
+
+-- the joined pieces of a session over texts are a text
+pieces-text : (element : Element) (held : List ℕ) (pieces : List (List ℕ)) (all : List ℕ) → IsTextSession element held pieces all → IsUtf8 (concat pieces)
+pieces-text element held [] all session = IsUtf8-nil
+pieces-text element held (piece ∷ pieces) all (held', added, later, text, step, goes_on, joined) =
+    IsUtf8-append piece (concat pieces) text (pieces-text element held' pieces later goes_on)
+
+text_session-from : (element : Element) (held : List ℕ) (pieces : List (List ℕ)) (all : List ℕ) → IsTextSession element held pieces all → all ≡ body_encoding element (held ++ concat pieces)
+text_session-from element held [] all session = session ∙ ap (body_encoding element) (sym (append-nil held))
+text_session-from element held (piece ∷ pieces) all (held', added, later, text, step, goes_on, joined) =
+    joined ∙ (ap (λ x. added ++ x) (text_session-from element held' pieces later goes_on) ∙ sym (step.0 (concat pieces) (pieces-text element held' pieces later goes_on)))
+
+-- all that a session over texts adds is the encoding of its joined pieces
+pub text_session-joined : (element : Element) (pieces : List (List ℕ)) (all : List ℕ) → IsTextSession element [] pieces all → all ≡ body_encoding element (concat pieces)
+text_session-joined element pieces all session = text_session-from element [] pieces all session

@@ -1,5 +1,6 @@
 -- Bodies that are given in pieces: what a session holds back, what it adds, and its steps.
 use Rattle.std.specs.Prelude.{◌≡◌, ℕ, Bool, true, ◌&&◌, ◌||◌, ◌==◌, List, [], ◌∷◌, ◌++◌, codes, drop, if◌then◌else◌}
+use Rattle.std.specs.Str.{IsUtf8}
 use Rattle.hesc_specs.specs.Ascii.{slash, less_than, backslash}
 use Rattle.hesc_specs.specs.Bodies.{body_encoding}
 use Rattle.hesc_specs.specs.Elements.{element_name}
@@ -25,7 +26,13 @@ settled_encoding element (b ∷ text) =
     if is_undecided element (b ∷ text) then []
     else b ∷ (if is_opening element (b ∷ text) then backslash ∷ settled_encoding element text else settled_encoding element text)
 
--- a step of a session: holding some bytes and given a piece, it adds others and holds new ones, which are undecided. Whatever follows, nothing is lost of the encoding
+-- a step of a session over texts: holding some bytes and given a piece, it adds others and holds new ones, which are undecided. Whatever text follows, nothing is lost of the encoding
+abbrev pub IsTextStep : Element → List ℕ → List ℕ → List ℕ → List ℕ → Type 0
+IsTextStep element held piece held' added =
+    ((rest : List ℕ) → IsUtf8 rest → body_encoding element (held ++ (piece ++ rest)) ≡ added ++ body_encoding element (held' ++ rest))
+    × (is_undecided element held' ≡ true)
+
+-- the same whatever bytes follow, a text or not; so each such step is one over texts
 abbrev pub IsStep : Element → List ℕ → List ℕ → List ℕ → List ℕ → Type 0
 IsStep element held piece held' added =
     ((rest : List ℕ) → body_encoding element (held ++ (piece ++ rest)) ≡ added ++ body_encoding element (held' ++ rest))
@@ -37,6 +44,13 @@ IsSession element held [] all = all ≡ body_encoding element held
 IsSession element held (piece ∷ pieces) all =
     (held' : List ℕ) × (added : List ℕ) × (later : List ℕ)
     × IsStep element held piece held' added × IsSession element held' pieces later × (all ≡ added ++ later)
+
+-- the same by steps over texts, where each piece is a text
+abbrev pub IsTextSession : Element → List ℕ → List (List ℕ) → List ℕ → Type 0
+IsTextSession element held [] all = all ≡ body_encoding element held
+IsTextSession element held (piece ∷ pieces) all =
+    (held' : List ℕ) × (added : List ℕ) × (later : List ℕ)
+    × IsUtf8 piece × IsTextStep element held piece held' added × IsTextSession element held' pieces later × (all ≡ added ++ later)
 
 -- held bytes, with a `\` after the `<` if they begin an opening
 abbrev pub released : Bool → List ℕ → List ℕ
