@@ -1,4 +1,4 @@
-//! `decode_script_double_quoted_text_double_quoted_text`: in a script's string `\\`, `\"`, `\x` and two upper-case hex
+//! `decode_script_double_quoted_text`: in a script's string `\\`, `\"`, `\x` and two upper-case hex
 //! digits of a C0 control or of `<`, `\u2028` and `\u2029` become their characters. Right behind a
 //! `<` so do `\!` before `--`, and `\/` before `script` in any case where the name ends before the
 //! text does. Any other `\` stays.

@@ -1,4 +1,4 @@
-//! `encode_text_minimal_minimal`: `&` and `<` become `&amp;` and `&lt;`.
+//! `encode_text_minimal`: `&` and `<` become `&amp;` and `&lt;`.
 ghost use Rattle.std.specs.Borrow.{sem};
 ghost use Rattle.hesc_specs.specs.Changes.{html_changes};
 ghost use Rattle.hesc_specs.specs.Html.{encoding};
