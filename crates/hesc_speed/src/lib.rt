@@ -2,12 +2,30 @@
 //! and a call answers how long the made text is, or `REFUSED` where there is none.
 #![tactic(auto)]
 
-ghost use Rattle.std.specs.Prelude.{◌≡◌, length, IfOk, IfSome, MatchResult};
-ghost use Rattle.std.specs.Cow.{cow_str_bytes};
-ghost use Rattle.std.specs.List.{slice_get};
+ghost use Rattle.std.specs.Prelude.{
+  ◌≡◌,
+  ◌≤◌,
+  ◌↔◌,
+  [],
+  IfSome,
+  IsOk,
+  IsSome,
+  IsTrue,
+  MatchResult,
+  length,
+  true,
+};
 ghost use Rattle.std.specs.Str.{IsUtf8};
-ghost use Rattle.html_escape.specs.Operations.{operation_text};
-ghost use Rattle.hesc_speed.specs.Measured.{AnswersLength, CopiesText};
+ghost use Rattle.hesc_core.specs.Forms.{AnswersText};
+ghost use Rattle.html_escape.specs.Operations.{operation_changes, operation_text};
+ghost use Rattle.hesc_speed.specs.Measured.{
+  AnswersEmpty,
+  AnswersLength,
+  AnswersUnchanged,
+  CopiesText,
+  is_measured,
+  operation_of,
+};
 
 use html_escape::*;
 use std::alloc::{AllocError, Global};
@@ -34,7 +52,8 @@ pub const REFUSED: usize = usize::MAX;
 #[unsafe(no_mangle)]
 pub extern "C" fn hesc_cow(alloc: Global, number: u32, text: &[u8]) -> usize
     requires { IsUtf8 text.now }
-    ensures { AnswersLength (slice_get MEASURED number) text.now REFUSED result }
+    ensures length { AnswersLength (operation_of number) text.now result }
+    ensures unchanged { AnswersUnchanged (operation_of number) text.now result }
 {
     let Some(operation) = measured(number) else {
         return REFUSED;
@@ -51,7 +70,8 @@ pub extern "C" fn hesc_cow(alloc: Global, number: u32, text: &[u8]) -> usize
 #[unsafe(no_mangle)]
 pub extern "C" fn hesc_string(alloc: Global, number: u32, text: &[u8]) -> usize
     requires { IsUtf8 text.now }
-    ensures { AnswersLength (slice_get MEASURED number) text.now REFUSED result }
+    ensures length { AnswersLength (operation_of number) text.now result }
+    ensures empty { AnswersEmpty (operation_of number) text.now result }
 {
     let Some(operation) = measured(number) else {
         return REFUSED;
@@ -65,8 +85,10 @@ pub extern "C" fn hesc_string(alloc: Global, number: u32, text: &[u8]) -> usize
 #[unsafe(no_mangle)]
 pub extern "C" fn hesc_copy(alloc: Global, number: u32, text: &[u8], buffer: &mut [u8]) -> usize
     requires { IsUtf8 text.now }
-    ensures length { AnswersLength (slice_get MEASURED number) text.now REFUSED result }
-    ensures copied { CopiesText (slice_get MEASURED number) text.now REFUSED result buffer.new }
+    ensures length { AnswersLength (operation_of number) text.now result }
+    ensures unchanged { length text.now ≤ length buffer.old
+        → AnswersUnchanged (operation_of number) text.now result }
+    ensures copied { CopiesText (operation_of number) text.now result buffer.new }
 {
     let Some(operation) = measured(number) else {
         return REFUSED;
@@ -84,7 +106,7 @@ pub extern "C" fn hesc_copy(alloc: Global, number: u32, text: &[u8], buffer: &mu
 
 // The operation of a number.
 fn measured(number: u32) -> Option<Operation>
-    ensures { result ≡ slice_get MEASURED number }
+    ensures { result ≡ operation_of number }
 {
     MEASURED.get(number as usize).copied()
 }
@@ -95,8 +117,9 @@ fn cow_of(
     operation: Operation,
     text: &str,
 ) -> Option<Result<CowStr<'_, Global>, AllocError>>
-    ensures { IfSome result (λ made. IfOk made
-        (λ cow. cow_str_bytes cow ≡ operation_text operation text.now)) }
+    ensures some { IsSome result ↔ IsTrue (is_measured operation) }
+    ensures made { IfSome result (AnswersText text.now (operation_text operation text.now)
+        (operation_changes operation text.now 0)) }
 {
     match operation {
         Operation::Encode(Encoder::Text) => Some(encode_text(alloc, text)),
@@ -118,7 +141,9 @@ fn cow_of(
 
 // The length of the part that is appended, `None` where there is none.
 fn append(operation: Operation, text: &str, output: &mut String<Global>) -> Option<usize>
-    ensures { IfSome result (λ count. count ≡ length (operation_text operation text.now)) }
+    ensures count { IfSome result (λ count. count ≡ length (operation_text operation text.now)) }
+    ensures empty { is_measured operation ≡ true → operation_text operation text.now ≡ []
+        → IsSome result }
 {
     match operation {
         Operation::Encode(Encoder::Text) => length_of(encode_text_to_string(text, output)),
@@ -145,8 +170,9 @@ fn append(operation: Operation, text: &str, output: &mut String<Global>) -> Opti
 }
 
 fn length_of(part: Result<&str, AllocError>) -> Option<usize>
-    ensures { IfSome result
+    ensures count { IfSome result
         (λ count. MatchResult part.entry (λ text. count ≡ length text.now) (λ _. ⊥)) }
+    ensures some { IsOk part.entry → IsSome result }
 {
     match part {
         Ok(text) => Some(text.len()),
