@@ -1,6 +1,5 @@
 -- What each decoder reads from a text, and where it changes it.
 use Rattle.std.specs.Prelude.{◌≡◌, ℕ, List}
-use Rattle.std.specs.Str.{IsUtf8}
 use Rattle.hesc_specs.specs.Bodies.{body_decoding}
 use Rattle.hesc_specs.specs.BodyChanges.{body_decoding_changes}
 use Rattle.hesc_specs.specs.Changes.{Change, applied}
