@@ -6,3 +6,4 @@ pub mod Lines
 pub mod Answers
 pub mod Steps
 pub mod Run
+pub mod Program

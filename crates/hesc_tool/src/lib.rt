@@ -1,7 +1,7 @@
 //! The command-line tool as a library, over any allocator, reader and writer.
 //!
 //! A run goes by steps: the words name a command, its input is read, its text is made in memory, and
-//! only then written.
+//! only then written. `serve` is the whole program round a run.
 #![tactic(auto)]
 
 ghost use Rattle.std.specs.Prelude.{map};
@@ -14,10 +14,13 @@ mod faults;
 mod form_words;
 mod lines;
 mod names;
+mod program;
 mod steps;
+mod words;
 
 use crate::commands::command_of;
 pub use crate::faults::Fault;
+pub use crate::program::serve;
 use crate::steps::{answer, input_of};
 use std::alloc::Allocator;
 use std::io::{Read, Write};
