@@ -1,5 +1,5 @@
 //! The program: what it does with the words that the system gave it, and how it ends.
-ghost use Rattle.std.specs.Prelude.{◌≡◌, [], ◌∷◌, ◌++◌, map, Err, IsOk, MatchResult, OnOk};
+ghost use Rattle.std.specs.Prelude.{◌≡◌, [], ◌∷◌, ◌++◌, map, Err, IfErr, IsOk, MatchResult, OnOk};
 ghost use Rattle.std.specs.Io.KnownBytes.{Appends};
 ghost use Rattle.hesc_specs.specs.Ascii.{line_feed};
 ghost use Rattle.hesc_specs.specs.Beginning.{AppendsBeginning};
@@ -18,8 +18,9 @@ use std::io::{self, Read, Write};
 /// Runs the whole program over what the system gave it, and answers the status that it ends with.
 ///
 /// `args` is what `std::env::args` answered: the program's name and the words behind it, or why they
-/// could not be had. After success the output is flushed, once. A fault's line goes to `errors`; where
-/// that fails the line is cut off, and the status stays the fault's.
+/// could not be had, as where one of them is not UTF-8. After success the output is flushed, once.
+/// A fault's line goes to `errors`; where that fails the line is cut off, and the status stays the
+/// fault's.
 pub fn serve<A: Allocator, B: Allocator, R: Read, W: Write, E: Write>(
     alloc: A,
     args: io::Result<Args<B>>,
@@ -103,6 +104,7 @@ fn write_line<W: Write>(line: &str, output: &mut W) -> Result<(), Fault>
         (Appends (W.contents output.old) (W.contents output.new) (line.now ++ line_feed ∷ [])) }
     ensures began { AppendsBeginning (W.contents output.old) (W.contents output.new)
         (line.now ++ line_feed ∷ []) }
+    ensures fault { IfErr result (λ fault. fault ≡ Fault.Write) }
 {
     write_whole(line.as_bytes(), output)?;
     write_whole(b"\n", output)?;
