@@ -27,7 +27,7 @@ use std::alloc::{AllocError, Allocator};
 use std::str;
 
 /// What the command answers to the input.
-pub fn made<A: Allocator + Clone>(
+pub fn make_answer<A: Allocator + Clone>(
     alloc: A,
     command: Command<'_>,
     input: &[u8],
@@ -35,7 +35,7 @@ pub fn made<A: Allocator + Clone>(
     ensures { IsMade (Answers command.entry input.now) result }
 {
     match command {
-        Command::Operation(operation) => operated(alloc, operation, input),
+        Command::Operation(operation) => apply(alloc, operation, input),
         Command::Lines(kind) => encoded_by_lines(alloc, kind, input),
         Command::Enclose(encoder, place) => enclosed(alloc, encoder, place, input),
         Command::Page(first, second, third) => page(alloc, first, second, third),
@@ -46,7 +46,7 @@ pub fn made<A: Allocator + Clone>(
 }
 
 // What the operation makes of a text.
-fn operated<A: Allocator>(alloc: A, operation: Operation, input: &[u8]) -> Result<Vec<u8, A>, Fault>
+fn apply<A: Allocator>(alloc: A, operation: Operation, input: &[u8]) -> Result<Vec<u8, A>, Fault>
     ensures { IsMade (AnswersText input.now (Ok (operation_text operation input.now))) result }
 {
     let Ok(text) = str::from_utf8(input) else {

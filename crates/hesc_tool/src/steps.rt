@@ -12,7 +12,7 @@ ghost use Rattle.hesc_tool.specs.Steps.{
 };
 ghost use Rattle.hesc_tool.specs.declared.faults.Fault.{Fault};
 
-use crate::answers::made;
+use crate::answers::make_answer;
 use crate::commands::Command;
 use crate::faults::Fault;
 use std::alloc::Allocator;
@@ -93,7 +93,7 @@ pub fn answer<A: Allocator + Clone, W: Write>(
 ) -> Result<(), Fault>
     ensures { AnsweredAs command.entry input.now (W.contents output.old) (W.contents output.new) result }
 {
-    match made(alloc, command, input) {
+    match make_answer(alloc, command, input) {
         Ok(made) => write_whole(made.as_slice(), output),
         Err(fault) => Err(fault),
     }
