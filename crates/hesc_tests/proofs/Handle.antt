@@ -28,8 +28,8 @@ module _ (Z : Al) where
   abbrev pub inner_at : ℕ
   inner_at = up (align (α Z)) 0
 
-  abbrev pub left_at : ℕ
-  left_at = up 8 (inner_at + size (α Z))
+  abbrev pub requests_at : ℕ
+  requests_at = up 8 (inner_at + size (α Z))
 
 module _ (Z : Al) (κ : Lft) (heap : (the_row (param 0 Z.row)).Denot) (place : ℕ × ℕ) where
   abbrev pub handle_seen : Fml
@@ -38,12 +38,12 @@ module _ (Z : Al) (κ : Lft) (heap : (the_row (param 0 Z.row)).Denot) (place : �
   abbrev pub inner_seen : Fml
   inner_seen = seen Z κ (place.0, place.1 + inner_at Z) heap.inner
 
-  abbrev pub left_seen : Fml
-  left_seen = cell_seen κ (place.0, place.1 + left_at Z)
+  abbrev pub requests_seen : Fml
+  requests_seen = cell_seen κ (place.0, place.1 + requests_at Z)
 
   -- a `&` to the struct is a `&` to each of its fields
   pub fields_seen : {M : Type 1} {𝓤 : Ura M} (𝓛 : Logic 𝓤)
-      → ent 𝓤 (sem 𝓛 handle_seen) (sep 𝓤 (sem 𝓛 left_seen) (sem 𝓛 inner_seen))
+      → ent 𝓤 (sem 𝓛 handle_seen) (sep 𝓤 (sem 𝓛 requests_seen) (sem 𝓛 inner_seen))
   fields_seen 𝓛 =
       qed 𝓛 (‵ handle_seen ∷ []) ∵ unhide ! $ fsplit ! $ fsplit ! $ move ! (1 ∷ []) $ fsplit ! $
       keep ! (0 ∷ 2 ∷ []) $ done !

@@ -9,9 +9,9 @@ use std::io::{self, Error, ErrorKind, Read, Write};
 pub enum Trouble {
     /// Nothing out of the ordinary.
     Calm,
-    /// It fails, by an error of the kind `Other`.
+    /// It fails, by an error of the call's own kind and with its number as the message.
     Fails,
-    /// It fails, by an error of the kind `Interrupted`.
+    /// It fails, by an error of the kind `Interrupted` and with the call's number as the message.
     Interrupted,
     /// A writer takes nothing and answers `Ok(0)`. A reader may not, before its end, and stays calm.
     Idle,
@@ -27,12 +27,39 @@ pub struct Weakness {
     pub trouble: Trouble,
 }
 
-/// A writer that keeps what it takes, and counts the calls of `write`.
+impl Trouble {
+    /// The error of the call of that number, where this trouble is one.
+    pub fn error_at(self, alloc: Global, call: u64) -> io::Result<Error> {
+        let message = call.to_string(alloc)?;
+        Ok(Error::new(self.kind_at(call), message.as_str()))
+    }
+
+    // Calls that follow one another fail by different kinds.
+    fn kind_at(self, call: u64) -> ErrorKind {
+        if self == Trouble::Interrupted {
+            return ErrorKind::Interrupted;
+        }
+        match call % 4 {
+            0 => ErrorKind::Other,
+            1 => ErrorKind::BrokenPipe,
+            2 => ErrorKind::StorageFull,
+            _ => ErrorKind::TimedOut,
+        }
+    }
+}
+
+/// A writer that keeps what it takes, and counts its calls.
 #[derive(Drop)]
 pub struct WeakWriter {
     pub taken: Vec<u8>,
+    /// How often `write` was called.
     pub calls: u64,
+    /// How often it was called with nothing to write.
+    pub empty_calls: u64,
+    /// How often `flush` was called.
+    pub flushes: u64,
     pub weakness: Weakness,
+    alloc: Global,
 }
 
 impl WeakWriter {
@@ -45,8 +72,16 @@ impl WeakWriter {
         WeakWriter {
             taken: Vec::new(alloc),
             calls: 0,
+            empty_calls: 0,
+            flushes: 0,
             weakness,
+            alloc,
         }
+    }
+
+    /// Whether it was asked for nothing but to write bytes: no flush, and no write of none.
+    pub fn was_only_written(&self) -> bool {
+        self.flushes == 0 && self.empty_calls == 0
     }
 }
 
@@ -55,11 +90,16 @@ impl Write for WeakWriter {
 
     fn write(&mut self, buf: &[u8]) -> io::Result<usize> {
         self.calls = self.calls.saturating_add(1);
+        if buf.is_empty() {
+            self.empty_calls = self.empty_calls.saturating_add(1);
+        }
         if self.calls == self.weakness.at {
-            match self.weakness.trouble {
+            let trouble = self.weakness.trouble;
+            match trouble {
                 Trouble::Calm => {}
-                Trouble::Fails => return Err(Error::from(ErrorKind::Other)),
-                Trouble::Interrupted => return Err(Error::from(ErrorKind::Interrupted)),
+                Trouble::Fails | Trouble::Interrupted => {
+                    return Err(trouble.error_at(self.alloc, self.calls)?);
+                }
                 Trouble::Idle => return Ok(0),
             }
         }
@@ -69,6 +109,7 @@ impl Write for WeakWriter {
     }
 
     fn flush(&mut self) -> io::Result<()> {
+        self.flushes = self.flushes.saturating_add(1);
         Ok(())
     }
 }

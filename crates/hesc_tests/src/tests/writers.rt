@@ -4,17 +4,12 @@ use crate::tests::operations::OPERATIONS;
 use crate::tests::rows::Row;
 use crate::{Trouble, WeakWriter, Weakness};
 use html_escape::{EntityTable, encode_text_to_writer};
-use std::alloc::Global;
-use std::io::{self, ErrorKind};
+use std::alloc::{AllocError, Global};
+use std::io::{self, Error, ErrorKind};
 use std::process::Abort;
 use std::test::Fail;
 
-// A trouble of the writer, and the kind of the fault that is then answered.
-const TROUBLES: [(Trouble, ErrorKind); 3] = [
-    (Trouble::Fails, ErrorKind::Other),
-    (Trouble::Interrupted, ErrorKind::Interrupted),
-    (Trouble::Idle, ErrorKind::WriteZero),
-];
+const TROUBLES: [Trouble; 3] = [Trouble::Fails, Trouble::Interrupted, Trouble::Idle];
 
 fn weakness(at: u64, trouble: Trouble) -> Weakness {
     Weakness {
@@ -44,9 +39,9 @@ fn first_wrong(alloc: Global, of: Call<'_>) -> Option<&'static str> {
         if !writes_all(alloc, of, *row) {
             return Some(row.0);
         }
-        for (trouble, kind) in TROUBLES {
+        for trouble in TROUBLES {
             for at in 1..=row.1.len() as u64 {
-                if !hands_on(alloc, of, *row, weakness(at, trouble), kind) {
+                if !hands_on(alloc, of, *row, weakness(at, trouble)) {
                     return Some(row.0);
                 }
             }
@@ -55,31 +50,50 @@ fn first_wrong(alloc: Global, of: Call<'_>) -> Option<&'static str> {
     None
 }
 
-// Each byte is one call.
-fn writes_all(alloc: Global, of: Call<'_>, row: Row) -> bool {
+// Each byte is one call, and nothing else is asked of the writer.
+pub fn writes_all(alloc: Global, of: Call<'_>, row: Row) -> bool {
     let (text, made, _) = row;
     let mut output = WeakWriter::new(alloc, weakness(0, Trouble::Calm));
     to_writer(of, text, &mut output).is_ok()
         && output.taken.as_slice() == made.as_bytes()
         && output.calls == made.len() as u64
+        && output.was_only_written()
 }
 
-// The bytes before the troubled call have gone out, and there is no call after it.
-fn hands_on(alloc: Global, of: Call<'_>, row: Row, weakness: Weakness, kind: ErrorKind) -> bool {
+// The bytes before the troubled call have gone out, and there is no call after it. The fault is the
+// writer's own.
+pub fn hands_on(alloc: Global, of: Call<'_>, row: Row, weakness: Weakness) -> bool {
     let (text, made, _) = row;
     let mut output = WeakWriter::new(alloc, weakness);
     let written = to_writer(of, text, &mut output);
-    has_kind(written, kind)
+    is_fault_of(alloc, written, weakness) == Ok(true)
         && made.as_bytes().starts_with(output.taken.as_slice())
         && output.taken.len() as u64 + 1 == weakness.at
         && output.calls == weakness.at
+        && output.was_only_written()
 }
 
-fn has_kind(written: io::Result<()>, kind: ErrorKind) -> bool {
-    match written {
-        Ok(()) => false,
-        Err(fault) => fault.kind() == kind,
+// Whether what was answered is the fault of the troubled call, by kind and message.
+fn is_fault_of(
+    alloc: Global,
+    written: io::Result<()>,
+    weakness: Weakness,
+) -> Result<bool, AllocError> {
+    let Err(fault) = written else {
+        return Ok(false);
+    };
+    if weakness.trouble == Trouble::Idle {
+        return Ok(fault.kind() == ErrorKind::WriteZero);
     }
+    match weakness.trouble.error_at(alloc, weakness.at) {
+        Ok(own) => is_same(alloc, fault, own),
+        Err(_) => Err(AllocError),
+    }
+}
+
+fn is_same(alloc: Global, fault: Error, own: Error) -> Result<bool, AllocError> {
+    let message = fault.to_string(alloc)?;
+    Ok(fault.kind() == own.kind() && message.as_str() == own.to_string(alloc)?.as_str())
 }
 
 // The call at which the writer fails, and what has then gone out of `a > b`.

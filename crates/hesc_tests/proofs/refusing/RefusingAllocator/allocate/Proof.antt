@@ -30,7 +30,7 @@ use denote.Steps.{heard, nothing}
 use denote.Triple.Call.{calls_at}
 use denote.Triple.Table.{framed}
 use denote.Triple.Walked.{Stays, walk_of, stay_dropped, Goes-dropped, ends_at}
-use Rattle.hesc_tests.proofs.Handle.{args, self, inner_at, left_at, left_seen, inner_seen, fields_seen}
+use Rattle.hesc_tests.proofs.Handle.{args, self, inner_at, requests_at, requests_seen, inner_seen, fields_seen}
 use Rattle.hesc_tests.proofs.Refusal as refusal
 use Rattle.hesc_tests.proofs.refusing.is_refused.Met as is_refused
 use Rattle.hesc_tests.specs.contracts.refusing.RefusingAllocator.allocate as f
@@ -55,10 +55,10 @@ allocate_spec 𝓤 𝓛 𝓜 𝓡 wired B laws g d drops met _ =
     let place = a.0.ref_ptr in let heap = a.0.now.inner in let bytes = a.1.0 in let alignment = a.1.1.0 in
     let bytes_fit = are.1.0.1 in let alignment_fits = are.1.1.0.1 in
     let inner : ℕ × ℕ = (place.0, place.1 + inner_at Z) in
-    let cell : ℕ × ℕ = (place.0, place.1 + left_at Z) in
+    let cell : ℕ × ℕ = (place.0, place.1 + requests_at Z) in
     let y : W.Ghost = ((κs, qs, bounds, a, (shr_vals a.0, (vint w64 bytes ∷ [], (vint w64 alignment ∷ [], tt)))), τ) in
-    let Counts = refusal.Counts 𝓛 𝓜.mem 𝓡.returns κ₁ q₁ cell in
-    let counts = refusal.call 𝓛 𝓜.mem 𝓡.returns κ₁ q₁ cell in
+    let Counts = refusal.Counts 𝓛 𝓜.mem 𝓡.returns κ₁ q₁ cell bytes in
+    let counts = refusal.call 𝓛 𝓜.mem 𝓡.returns κ₁ q₁ cell bytes in
     let Asks = Takes Z 𝓛 𝓜.mem 𝓡.returns in
     let asks = at_takes Z 𝓛 𝓜.mem 𝓡.returns κ₁ q₁ inner heap bytes alignment τ in
     -- each of the three returns, with the block, if there is one, and the tokens
@@ -74,18 +74,18 @@ allocate_spec 𝓤 𝓛 𝓜 𝓡 wired B laws g d drops met _ =
     ∷ (raw (fact 𝓤 (κ₂ ⊑ B.lives)) ⊛ raw (fact 𝓤 (HasLayout τ bytes alignment))) ∷ []) ∵
     move ! (1 ∷ []) $ split ! $ heard ! (κ₂ ⊑ B.lives) (λ lives. heard ! (HasLayout τ bytes alignment) (λ fits.
     split ! $ split ! $ move ! (2 ∷ []) $ fsplit ! $ fsplit ! $ move ! (1 ∷ []) $
-    use1 𝓛 (‵ (left_seen Z κ₁ a.0.now place) ⊛ ‵ (inner_seen Z κ₁ a.0.now place))
+    use1 𝓛 (‵ (requests_seen Z κ₁ a.0.now place) ⊛ ‵ (inner_seen Z κ₁ a.0.now place))
     (fields_seen Z κ₁ a.0.now place 𝓛) $ split ! $ keep ! (0 ∷ 4 ∷ 1 ∷ 5 ∷ []) $
     -- [the cell; the token of κ₁; the inner allocator; the token of κ₂]
     enter ! _ _ _ _ _ $ alloc_all ! (λ l.
     pass_all ! refl ((tt, tt), ((tt, record { fits = bytes_fit }), ((tt, record { fits = alignment_fits }), tt))) $
     sets ! (addr ! (through ! refl (fld ! refl (stop !)))) refl (tt, tt) $
-    use2 𝓛 (raw (Counts.pre counts)) (refusal.handed 𝓛 𝓜.mem 𝓡.returns κ₁ q₁ cell) $
+    use2 𝓛 (raw (Counts.pre counts)) (refusal.handed 𝓛 𝓜.mem 𝓡.returns κ₁ q₁ cell bytes bytes_fit) $
     calls_at ! (framed 𝓤 𝓛.H 𝓜 𝓣) Counts
     (is_refused.met 𝓤 𝓛 𝓜 𝓡 (code.calls-hesc_tests::refusing::is_refused 𝓡.env wired)) counts
-    (and_then ! (get ! refl) (no_more !)) (λ u.
+    (and_then ! (get ! refl) (and_then ! (get ! refl) (no_more !))) (λ u.
     use1 𝓛 (later (some (λ (is_last : Bool). given (u ≡ vbool is_last) (‵ (flft κ₁ q₁)))))
-    (refusal.left 𝓛 𝓜.mem 𝓡.returns κ₁ q₁ cell u) $
+    (refusal.left 𝓛 𝓜.mem 𝓡.returns κ₁ q₁ cell bytes u) $
     await ! tt $ pick ! (λ is_last. learn ! (λ is_bool. lands_as ! is_bool refl (tt, tt) $ move ! (1 ∷ 0 ∷ []) $
     -- [the inner allocator; the token of κ₁; the token of κ₂]
     first ! $ branches ! (get ! refl)

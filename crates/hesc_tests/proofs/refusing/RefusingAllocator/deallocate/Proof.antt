@@ -28,7 +28,7 @@ use denote.Steps.{heard, nothing}
 use denote.Triple.Call.{calls_at}
 use denote.Triple.Table.{framed}
 use denote.Triple.Walked.{Stays, walk_of, stay_dropped, Goes-dropped, ends_at}
-use Rattle.hesc_tests.proofs.Handle.{args, self, inner_at, left_seen, inner_seen, fields_seen}
+use Rattle.hesc_tests.proofs.Handle.{args, self, inner_at, requests_seen, inner_seen, fields_seen}
 use Rattle.hesc_tests.specs.contracts.refusing.RefusingAllocator.deallocate as f
 use Rattle.hesc_tests.proofs.refusing.RefusingAllocator.deallocate.Statement.{statement}
 use Rattle.hesc_tests.proofs.refusing.RefusingAllocator.deallocate.Code as code
@@ -71,7 +71,7 @@ deallocate_spec 𝓤 𝓛 𝓜 𝓡 wired B laws g d drops met _ =
     move ! (1 ∷ []) $ split3 ! $ heard ! (κ₂ ⊑ B.lives) (λ lives. heard ! (HasLayout τ bytes alignment) (λ fits.
     in_a_block ! a.1.0 block (fst∗ 𝓤 (never 𝓤) (sem 𝓛 (token Z heap τ null_ptr))) (λ b o is_block. fsplit ! $
     move ! (2 ∷ []) $ split ! $ split ! $ move ! (2 ∷ []) $ fsplit ! $ fsplit ! $ move ! (1 ∷ []) $
-    use1 𝓛 (‵ (left_seen Z κ₁ a.0.now place) ⊛ ‵ (inner_seen Z κ₁ a.0.now place))
+    use1 𝓛 (‵ (requests_seen Z κ₁ a.0.now place) ⊛ ‵ (inner_seen Z κ₁ a.0.now place))
     (fields_seen Z κ₁ a.0.now place 𝓛) $ split ! $ keep ! (6 ∷ 7 ∷ 1 ∷ 4 ∷ 5 ∷ []) $
     -- [the room; the right to free it; the inner allocator; the token of κ₁; the token of κ₂]
     regoal ! (λ (p : Ptr).
