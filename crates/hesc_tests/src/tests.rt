@@ -1,5 +1,6 @@
 //! What no contract says: that the definitions give the values that other programs give, that calls
 //! succeed where memory is there, and how often memory is asked for.
+mod amounts;
 mod answers;
 mod calls;
 mod commands;
@@ -13,6 +14,7 @@ mod operations;
 mod pages;
 mod parts;
 mod pieces;
+mod place_amounts;
 mod places;
 mod program;
 mod readers;
@@ -26,5 +28,6 @@ mod serving;
 mod sessions;
 mod streams;
 mod tool;
+mod tool_amounts;
 mod words;
 mod writers;

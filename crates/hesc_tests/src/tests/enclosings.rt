@@ -11,7 +11,8 @@ use std::alloc::{AllocError, Global};
 use std::process::Abort;
 use std::test::Fail;
 
-fn opening_mark(place: Place) -> &'static str {
+/// What stands before a text in the place.
+pub fn opening_mark(place: Place) -> &'static str {
     match place {
         Place::Text => ">",
         Place::DoubleAttribute | Place::ScriptDouble | Place::StyleDouble => "\"",

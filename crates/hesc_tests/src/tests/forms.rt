@@ -271,8 +271,8 @@ fn survives_reading(alloc: Global, row: Row) -> bool {
 
 const LETTERS: &str = "abcdefghijklmnop";
 
-// The 4096 words of three of the letters.
-fn many_names(alloc: Global) -> Result<Vec<String>, AllocError> {
+/// The 4096 words of three of the letters.
+pub fn many_names(alloc: Global) -> Result<Vec<String>, AllocError> {
     let mut names = Vec::new(alloc);
     for first in LETTERS.chars() {
         for second in LETTERS.chars() {
