@@ -9,6 +9,7 @@ mod enclosings;
 mod forms;
 mod hostile;
 mod megabytes;
+mod long_inputs;
 mod memory;
 mod operations;
 mod pages;

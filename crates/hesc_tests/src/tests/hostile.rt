@@ -1,5 +1,5 @@
 //! Long and hostile texts: the answers are right, and come in time that grows with the length alone.
-use crate::tests::operations::{OPERATIONS, make, make_to_string};
+use crate::tests::operations::{OPERATIONS, make, make_to_string, make_to_vec, make_to_writer};
 use crate::tests::readings::PLACES;
 use hesc_places::{End, Place, end_of_place, read_place};
 use html_escape::{Decoder, Encoder, Operation};
@@ -8,10 +8,10 @@ use std::borrow::CowStr;
 use std::process::Abort;
 use std::test::Fail;
 
-// A head, a part and how often it stands there, and a tail.
-type Long = (&'static str, &'static str, usize, &'static str);
+/// A head, a part and how often it stands there, and a tail.
+pub type Long = (&'static str, &'static str, usize, &'static str);
 
-fn long_text(alloc: Global, long: Long) -> Result<String, AllocError> {
+pub fn long_text(alloc: Global, long: Long) -> Result<String, AllocError> {
     let (head, part, times, tail) = long;
     let mut text = String::from_str(alloc, head)?;
     for _ in 0..times {
@@ -120,6 +120,13 @@ fn long_texts_are_made(rt: HostRuntime) -> Result<(), Fail> {
         let cow = make(operation, rt.alloc(), text.as_str())?;
         assert!(rt; cow.as_str() == made.as_str(), "{operation:?}");
         assert!(rt; matches!(cow, CowStr::Owned(_)), "{operation:?}");
+        let mut string = String::new(rt.alloc());
+        assert!(rt; make_to_string(operation, text.as_str(), &mut string)? == made.as_str());
+        let mut vec = Vec::new(rt.alloc());
+        assert!(rt; make_to_vec(operation, text.as_str(), &mut vec)? == made.as_bytes());
+        let mut written = Vec::new(rt.alloc());
+        make_to_writer(operation, text.as_str(), &mut written)?;
+        assert!(rt; written.as_slice() == made.as_bytes(), "{operation:?}");
     }
     Ok(())
 }

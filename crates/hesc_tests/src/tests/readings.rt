@@ -263,7 +263,8 @@ const UNREAD_STYLE_DOUBLE: [&[u8]; 4] = [
     b"\\u2028\\\x0c<script\\n=>",
 ];
 
-const READ_SCRIPT_BODY: [Read<'static>; 8] = [
+const READ_SCRIPT_BODY: [Read<'static>; 9] = [
+    (b"</scri</script>", b"</scri", 6),
     (b"<\\!--<script></script>x", b"<\\!--<script>", 13),
     (
         b"<!--<script></script></script>",

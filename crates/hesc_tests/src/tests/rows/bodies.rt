@@ -2,7 +2,9 @@
 use crate::tests::rows::Held::{Borrowed, Owned};
 use crate::tests::rows::Row;
 
-pub const ENCODED_SCRIPTS: [Row; 35] = [
+pub const ENCODED_SCRIPTS: [Row; 37] = [
+    ("s", "s", Borrowed),
+    ("</scripts", "</scripts", Borrowed),
     ("", "", Borrowed),
     ("<", "<", Borrowed),
     ("<<", "<<", Borrowed),
@@ -40,7 +42,9 @@ pub const ENCODED_SCRIPTS: [Row; 35] = [
     ("</style\u{b}", "</style\u{b}", Borrowed),
 ];
 
-pub const ENCODED_STYLES: [Row; 37] = [
+pub const ENCODED_STYLES: [Row; 39] = [
+    ("s", "s", Borrowed),
+    ("</styles", "</styles", Borrowed),
     ("", "", Borrowed),
     ("<", "<", Borrowed),
     ("<<", "<<", Borrowed),

@@ -2,7 +2,8 @@
 use crate::tests::rows::Held::{Borrowed, Owned};
 use crate::tests::rows::Row;
 
-pub const ENCODED_SINGLE: [Row; 25] = [
+pub const ENCODED_SINGLE: [Row; 26] = [
+    ("C:\\temp\\file", "C:\\\\temp\\\\file", Owned),
     ("\\>&;\t>", "\\\\>&;\\x09>", Owned),
     ("\u{0}< ", "\\x00\\x3C ", Owned),
     ("'a'", "\\'a\\'", Owned),
@@ -66,7 +67,8 @@ pub const ENCODED_DOUBLE: [Row; 25] = [
     ("</style\u{b}", "\\x3C/style\\x0B", Owned),
 ];
 
-pub const ENCODED_BOTH: [Row; 36] = [
+pub const ENCODED_BOTH: [Row; 37] = [
+    ("\u{2028}\u{2026}", "\\u2028\u{2026}", Owned),
     (";\\;//\"", ";\\\\;//\\\"", Owned),
     ("'a'", "\\'a\\'", Owned),
     ("é&>", "é&>", Borrowed),
@@ -109,7 +111,11 @@ pub const ENCODED_BOTH: [Row; 36] = [
     ("</style\u{b}", "\\x3C/style\\x0B", Owned),
 ];
 
-pub const DECODED_SINGLE: [Row; 34] = [
+pub const DECODED_SINGLE: [Row; 38] = [
+    ("C:\\\\temp\\\\file", "C:\\temp\\file", Owned),
+    ("\\x0A", "\n", Owned),
+    ("\\\\x0A", "\\x0A", Owned),
+    ("\\x41", "\\x41", Borrowed),
     ("\\\\", "\\", Owned),
     ("", "", Borrowed),
     ("<\\!-", "<\\!-", Borrowed),
@@ -199,7 +205,9 @@ pub const DECODED_DOUBLE: [Row; 34] = [
     ("\\x3C/style\\x0B", "</style\u{b}", Owned),
 ];
 
-pub const DECODED_BOTH: [Row; 83] = [
+pub const DECODED_BOTH: [Row; 85] = [
+    ("\\x3C\\!--", "<\\!--", Owned),
+    ("\\\\'", "\\'", Owned),
     ("\\\\", "\\", Owned),
     ("", "", Borrowed),
     ("<\\\\!--", "<\\!--", Owned),

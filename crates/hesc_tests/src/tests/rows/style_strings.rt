@@ -70,7 +70,8 @@ pub const ENCODED_DOUBLE: [Row; 25] = [
     ("</style\u{b}", "\\3C /style\\0B ", Owned),
 ];
 
-pub const ENCODED_BOTH: [Row; 36] = [
+pub const ENCODED_BOTH: [Row; 37] = [
+    ("< a", "\\3C  a", Owned),
     ("\u{1c}!;\u{1c}", "\\1C !;\\1C ", Owned),
     ("'s&é", "\\'s&é", Owned),
     ("-\"", "-\\\"", Owned),
@@ -199,7 +200,9 @@ pub const DECODED_DOUBLE: [Row; 34] = [
     ("\\3C /style\\0B ", "</style\u{b}", Owned),
 ];
 
-pub const DECODED_BOTH: [Row; 83] = [
+pub const DECODED_BOTH: [Row; 85] = [
+    ("\\00 \\1F \\3C b", "\\00 \u{1f}<b", Owned),
+    ("\\3C  a", "< a", Owned),
     ("\\\\", "\\", Owned),
     ("", "", Borrowed),
     ("<\\\\!--", "<\\!--", Owned),
