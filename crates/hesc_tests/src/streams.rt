@@ -34,15 +34,14 @@ impl Trouble {
         Ok(Error::new(self.kind_at(call), message.as_str()))
     }
 
-    // Calls that follow one another fail by different kinds.
+    // Calls that follow one another fail by different kinds, and the first by one of its own.
     fn kind_at(self, call: u64) -> ErrorKind {
         if self == Trouble::Interrupted {
             return ErrorKind::Interrupted;
         }
-        match call % 4 {
-            0 => ErrorKind::Other,
+        match call {
             1 => ErrorKind::BrokenPipe,
-            2 => ErrorKind::StorageFull,
+            _ if call % 2 == 0 => ErrorKind::StorageFull,
             _ => ErrorKind::TimedOut,
         }
     }

@@ -5,7 +5,6 @@ use crate::tests::calls::{Call, fuller_rows, to_cow, to_string, to_vec};
 use crate::tests::operations::OPERATIONS;
 use html_escape::{Encoder, EntityTable, Operation};
 use std::alloc::{AllocError, Global};
-use std::borrow::CowStr;
 use std::process::Abort;
 use std::test::Fail;
 
@@ -48,6 +47,7 @@ fn reserved(of: Call<'_>, text: &str, made: &str) -> usize {
             _ => made.len().saturating_mul(2),
         },
         Call::Of(Operation::Decode(_)) | Call::By(_) => text.len().max(made.len()),
+        Call::Planted(_) => made.len(),
     }
 }
 
@@ -88,10 +88,7 @@ pub fn asks_little(alloc: Global, of: Call<'_>, text: &str) -> Result<bool, Allo
     let heap = Refusing::new(alloc, 0);
     let made = to_cow(of, &heap, text)?;
     let reserved = reserved(of, text, made.as_str()).saturating_add(SMALL);
-    let most = match made {
-        CowStr::Borrowed(_) => 0,
-        CowStr::Owned(_) => reserved,
-    };
+    let most = if made.as_str() == text { 0 } else { reserved };
     if heap.asked_bytes() > most as u64 {
         return Ok(false);
     }

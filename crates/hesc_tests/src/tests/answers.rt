@@ -22,8 +22,8 @@ fn every_form_gives_the_rows(rt: HostRuntime) -> Result<(), Fail> {
     Ok(())
 }
 
-// The first text of the call that a form makes something else of.
-fn first_wrong(alloc: Global, of: Call<'_>) -> Result<Option<&'static str>, AllocError> {
+/// The first text of the call that a form makes something else of.
+pub fn first_wrong(alloc: Global, of: Call<'_>) -> Result<Option<&'static str>, AllocError> {
     for row in rows_of(of) {
         if !is_held(alloc, of, *row)?
             || !is_in_string(alloc, of, *row)?

@@ -1,5 +1,7 @@
-//! What has four forms: an operation, and the decoding of references by a table that is handed in.
+//! What has four forms: an operation, the decoding of references by a table that is handed in, and
+//! what was planted to be refused.
 use crate::tests::operations::{make, make_to_string, make_to_vec, make_to_writer};
+use crate::tests::planted::{Flaw, plant, plant_in_string, plant_in_vec, plant_in_writer};
 use crate::tests::rows::{Row, references, rows};
 use html_escape::*;
 use std::alloc::{AllocError, Allocator, Global};
@@ -10,6 +12,8 @@ use std::io::{self, Write};
 pub enum Call<'t> {
     Of(Operation),
     By(&'t EntityTable<'t>),
+    /// `encode_text`, with something wrong.
+    Planted(Flaw),
 }
 
 /// The texts of a call, and what it makes of them. A table that is handed in is the fuller one.
@@ -17,6 +21,7 @@ pub fn rows_of(call: Call<'_>) -> &'static [Row] {
     match call {
         Call::Of(operation) => rows(operation),
         Call::By(_) => &references::DECODED_BY_THE_FULLER_TABLE,
+        Call::Planted(_) => rows(Operation::Encode(Encoder::Text)),
     }
 }
 
@@ -39,6 +44,7 @@ pub fn to_cow<'t, A: Allocator>(
     match call {
         Call::Of(operation) => make(operation, alloc, text),
         Call::By(table) => decode_html_entities_with(alloc, table, text),
+        Call::Planted(flaw) => plant(flaw, alloc, text),
     }
 }
 
@@ -51,6 +57,7 @@ pub fn to_string<'o, A: Allocator>(
     match call {
         Call::Of(operation) => make_to_string(operation, text, output),
         Call::By(table) => decode_html_entities_with_to_string(table, text, output),
+        Call::Planted(flaw) => plant_in_string(flaw, text, output),
     }
 }
 
@@ -63,6 +70,7 @@ pub fn to_vec<'o, A: Allocator>(
     match call {
         Call::Of(operation) => make_to_vec(operation, text, output),
         Call::By(table) => decode_html_entities_with_to_vec(table, text, output),
+        Call::Planted(flaw) => plant_in_vec(flaw, text, output),
     }
 }
 
@@ -71,5 +79,6 @@ pub fn to_writer<W: Write>(call: Call<'_>, text: &str, output: &mut W) -> io::Re
     match call {
         Call::Of(operation) => make_to_writer(operation, text, output),
         Call::By(table) => decode_html_entities_with_to_writer(table, text, output),
+        Call::Planted(flaw) => plant_in_writer(flaw, text, output),
     }
 }

@@ -26,8 +26,8 @@ fn every_request_is_refused_in_turn(rt: HostRuntime) -> Result<(), Fail> {
     Ok(())
 }
 
-// The first text of the call that a form does not survive.
-fn first_wrong(alloc: Global, of: Call<'_>) -> Result<Option<&'static str>, AllocError> {
+/// The first text of the call that a form does not survive.
+pub fn first_wrong(alloc: Global, of: Call<'_>) -> Result<Option<&'static str>, AllocError> {
     for row in rows_of(of) {
         for number in 1..=REFUSED_REQUESTS {
             if !survives_cow(alloc, of, *row, number)

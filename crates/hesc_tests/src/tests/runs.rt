@@ -1,6 +1,7 @@
 //! A run of the tool over streams and memory that fail: what it has to answer, and what is written.
+use crate::tests::planted_tools::{Tool, run_as};
 use crate::{Refusing, Trouble, WeakReader, WeakWriter, Weakness};
-use hesc_tool::{Fault, run};
+use hesc_tool::Fault;
 use std::alloc::Global;
 
 /// The words, the input, the answer, and what is written.
@@ -29,11 +30,17 @@ const CALM: Weakness = Weakness {
 
 /// Whether the run is right over streams and memory without trouble, a usage fault without reading.
 pub fn is_right(alloc: Global, wanted: Run<'_>) -> bool {
+    is_right_of(Tool::Sound, alloc, wanted)
+}
+
+/// The same, of a tool that may have something wrong.
+pub fn is_right_of(tool: Tool, alloc: Global, wanted: Run<'_>) -> bool {
     let mut input = WeakReader::new(wanted.input, CALM);
     let mut output = WeakWriter::new(alloc, CALM);
-    let answer = run(alloc, wanted.words, &mut input, &mut output);
+    let answer = run_as(tool, alloc, wanted.words, &mut input, &mut output);
     answer == wanted.answer
         && output.taken.as_slice() == wanted.written
+        && output.was_only_written()
         && (answer != Err(Fault::Usage) || input.calls == 0)
 }
 
@@ -43,15 +50,22 @@ const REQUESTS: u64 = 64;
 /// Whether the run answers Memory and writes nothing where a request is refused, whichever it is,
 /// and else is right.
 pub fn survives_refusals(alloc: Global, wanted: Run<'_>) -> bool {
+    survives_refusals_of(Tool::Sound, alloc, wanted)
+}
+
+/// The same, of a tool that may have something wrong.
+pub fn survives_refusals_of(tool: Tool, alloc: Global, wanted: Run<'_>) -> bool {
     for number in 1..=REQUESTS {
         let heap = Refusing::new(alloc, number);
         let mut input = WeakReader::new(wanted.input, CALM);
         let mut output = WeakWriter::new(alloc, CALM);
-        let answer = run(&heap, wanted.words, &mut input, &mut output);
+        let answer = run_as(tool, &heap, wanted.words, &mut input, &mut output);
         if heap.asked(number) < number {
-            return answer == wanted.answer && output.taken.as_slice() == wanted.written;
+            return answer == wanted.answer
+                && output.taken.as_slice() == wanted.written
+                && output.was_only_written();
         }
-        if answer != Err(Fault::Memory) || output.calls != 0 {
+        if answer != Err(Fault::Memory) || output.calls != 0 || output.flushes != 0 {
             return false;
         }
     }
@@ -61,12 +75,17 @@ pub fn survives_refusals(alloc: Global, wanted: Run<'_>) -> bool {
 /// Whether the run answers Read and writes nothing where the reader fails, whichever call it is.
 /// A run that reads all its input calls once for each byte, and once more for its end.
 pub fn survives_readers(alloc: Global, wanted: Run<'_>) -> bool {
+    survives_readers_of(Tool::Sound, alloc, wanted)
+}
+
+/// The same, of a tool that may have something wrong.
+pub fn survives_readers_of(tool: Tool, alloc: Global, wanted: Run<'_>) -> bool {
     for trouble in [Trouble::Fails, Trouble::Interrupted] {
         for at in 1..=wanted.input.len() as u64 + 1 {
             let mut input = WeakReader::new(wanted.input, weakness(at, trouble));
             let mut output = WeakWriter::new(alloc, CALM);
-            let answer = run(alloc, wanted.words, &mut input, &mut output);
-            if answer != Err(Fault::Read) || output.calls != 0 {
+            let answer = run_as(tool, alloc, wanted.words, &mut input, &mut output);
+            if answer != Err(Fault::Read) || output.calls != 0 || output.flushes != 0 {
                 return false;
             }
         }
@@ -77,14 +96,20 @@ pub fn survives_readers(alloc: Global, wanted: Run<'_>) -> bool {
 /// Whether the run answers Write where the writer has trouble, whichever call it is, and the bytes
 /// before it have gone out.
 pub fn survives_writers(alloc: Global, wanted: Run<'_>) -> bool {
+    survives_writers_of(Tool::Sound, alloc, wanted)
+}
+
+/// The same, of a tool that may have something wrong.
+pub fn survives_writers_of(tool: Tool, alloc: Global, wanted: Run<'_>) -> bool {
     for trouble in [Trouble::Fails, Trouble::Interrupted, Trouble::Idle] {
         for at in 1..=wanted.written.len() as u64 {
             let mut input = WeakReader::new(wanted.input, CALM);
             let mut output = WeakWriter::new(alloc, weakness(at, trouble));
-            let answer = run(alloc, wanted.words, &mut input, &mut output);
+            let answer = run_as(tool, alloc, wanted.words, &mut input, &mut output);
             if answer != Err(Fault::Write)
                 || output.calls != at
                 || output.taken.len() as u64 + 1 != at
+                || !output.was_only_written()
                 || !wanted.written.starts_with(output.taken.as_slice())
             {
                 return false;

@@ -3,6 +3,7 @@ use crate::tests::calls::{Call, fuller_rows, rows_of, to_writer};
 use crate::tests::operations::OPERATIONS;
 use crate::tests::rows::Row;
 use crate::{Trouble, WeakWriter, Weakness};
+use hesc_core::{Sink, WriterSink};
 use html_escape::{EntityTable, encode_text_to_writer};
 use std::alloc::{AllocError, Global};
 use std::io::{self, Error, ErrorKind};
@@ -33,8 +34,8 @@ fn a_trouble_at_any_call_is_handed_on(rt: HostRuntime) -> Result<(), Fail> {
     Ok(())
 }
 
-// The first text of the call that it does not write rightly.
-fn first_wrong(alloc: Global, of: Call<'_>) -> Option<&'static str> {
+/// The first text of the call that it does not write rightly.
+pub fn first_wrong(alloc: Global, of: Call<'_>) -> Option<&'static str> {
     for row in rows_of(of) {
         if !writes_all(alloc, of, *row) {
             return Some(row.0);
@@ -51,7 +52,7 @@ fn first_wrong(alloc: Global, of: Call<'_>) -> Option<&'static str> {
 }
 
 // Each byte is one call, and nothing else is asked of the writer.
-pub fn writes_all(alloc: Global, of: Call<'_>, row: Row) -> bool {
+fn writes_all(alloc: Global, of: Call<'_>, row: Row) -> bool {
     let (text, made, _) = row;
     let mut output = WeakWriter::new(alloc, weakness(0, Trouble::Calm));
     to_writer(of, text, &mut output).is_ok()
@@ -62,7 +63,7 @@ pub fn writes_all(alloc: Global, of: Call<'_>, row: Row) -> bool {
 
 // The bytes before the troubled call have gone out, and there is no call after it. The fault is the
 // writer's own.
-pub fn hands_on(alloc: Global, of: Call<'_>, row: Row, weakness: Weakness) -> bool {
+fn hands_on(alloc: Global, of: Call<'_>, row: Row, weakness: Weakness) -> bool {
     let (text, made, _) = row;
     let mut output = WeakWriter::new(alloc, weakness);
     let written = to_writer(of, text, &mut output);
@@ -94,6 +95,15 @@ fn is_fault_of(
 fn is_same(alloc: Global, fault: Error, own: Error) -> Result<bool, AllocError> {
     let message = fault.to_string(alloc)?;
     Ok(fault.kind() == own.kind() && message.as_str() == own.to_string(alloc)?.as_str())
+}
+
+#[test]
+fn an_empty_piece_is_no_call(rt: HostRuntime) {
+    let mut output = WeakWriter::new(rt.alloc(), weakness(1, Trouble::Fails));
+    let mut sink = WriterSink::new(&mut output);
+    assert!(rt; sink.put("").is_ok());
+    let _output = sink.into_output();
+    assert!(rt; output.calls == 0 && output.was_only_written());
 }
 
 // The call at which the writer fails, and what has then gone out of `a > b`.
