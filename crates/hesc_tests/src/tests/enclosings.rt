@@ -114,7 +114,13 @@ fn first_wrong(
     Ok(None)
 }
 
-fn survives(alloc: Global, encoder: Encoder, place: Place, row: Row) -> Result<bool, AllocError> {
+/// Whether the text is enclosed and read back as the row says.
+pub fn survives(
+    alloc: Global,
+    encoder: Encoder,
+    place: Place,
+    row: Row,
+) -> Result<bool, AllocError> {
     let whole = enclosed(alloc, place, row.1)?;
     let value = read_back(alloc, encoder, row)?;
     let Some(behind) = whole.strip_prefix(opening_mark(place)) else {

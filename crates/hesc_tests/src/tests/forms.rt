@@ -1,18 +1,17 @@
-//! Forms: what is appended, what is read back, the faults and their order, refused memory, a form of
-//! many attributes, and the tool's commands.
+//! Forms: what is appended, what is read back, the faults and their order, refused memory, and a form of
+//! many attributes.
 use crate::Refusing;
-use crate::tests::runs::{Run, is_right, survives_readers, survives_refusals, survives_writers};
+use crate::tests::refusals::{Reader, survives};
 use hesc_places::{Attribute, FormFault, Quoting, build_form, read_form};
-use hesc_tool::Fault;
 use std::alloc::{AllocError, Allocator, Global};
 use std::process::Abort;
 use std::test::Fail;
 
-// The name, the quoting and the value of an attribute.
-type Entry = (&'static str, Quoting, &'static str);
+/// The name, the quoting and the value of an attribute.
+pub type Entry = (&'static str, Quoting, &'static str);
 
-// Attributes, a script string, and their form.
-type Row = (&'static [Entry], &'static str, &'static str);
+/// Attributes, a script string, and their form.
+pub type Row = (&'static [Entry], &'static str, &'static str);
 
 const FORMS: [Row; 7] = [
     (&[], "x", "<input/><script>alert('x');</script>"),
@@ -113,8 +112,8 @@ fn forms_are_built_and_read_back(rt: HostRuntime) -> Result<(), Fail> {
     Ok(())
 }
 
-// Whether the form is answered and appended, and asks for memory once, or not at all within room.
-fn builds(
+/// Whether the form is answered and appended, and asks for memory once, or not at all within room.
+pub fn builds(
     alloc: Global,
     entries: &'static [Entry],
     script: &str,
@@ -163,8 +162,8 @@ fn answers_form<A: Allocator>(
     }
 }
 
-// Whether memory was found, and then whether the form is that of the row.
-fn reads_back<A: Allocator + Clone>(alloc: A, row: Row) -> Result<bool, AllocError> {
+/// Whether memory was found, and then whether the form is that of the row.
+pub fn reads_back<A: Allocator + Clone>(alloc: A, row: Row) -> Result<bool, AllocError> {
     let (entries, script, form) = row;
     match read_form(alloc, form.as_bytes())? {
         Some(read) => Ok(
@@ -245,28 +244,11 @@ fn is_refused(
     Ok(is_refused && heap.asked(1) == 0 && output.as_str() == "x")
 }
 
-// More requests than a reading makes.
-const REQUESTS: u64 = 64;
-
 #[test]
 fn every_request_of_a_reading_is_refused_in_turn(rt: HostRuntime) {
     for row in FORMS {
-        assert!(rt; survives_reading(rt.alloc(), row), "{}", row.2);
+        assert!(rt; survives(rt.alloc(), Reader::Form(row)), "{}", row.2);
     }
-}
-
-fn survives_reading(alloc: Global, row: Row) -> bool {
-    for number in 1..=REQUESTS {
-        let heap = Refusing::new(alloc, number);
-        let is_read = reads_back(&heap, row);
-        if heap.asked(number) < number {
-            return is_read == Ok(true);
-        }
-        if is_read.is_ok() {
-            return false;
-        }
-    }
-    false
 }
 
 const LETTERS: &str = "abcdefghijklmnop";
@@ -325,110 +307,4 @@ fn have_names(read: &[(Vec<u8>, Quoting, Vec<u8>)], names: &[String]) -> bool {
         }
     }
     true
-}
-
-// The words of a `form`, and its form.
-type FormRun = (&'static [&'static str], &'static str);
-
-const FORM_RUNS: [FormRun; 4] = [
-    (
-        &["form", "x", "value", "u", "a b"],
-        "<input value=a&#x20;b /><script>alert('x');</script>",
-    ),
-    (&["form", "x"], "<input/><script>alert('x');</script>"),
-    (
-        &["form", "", "a", "u", "1", "b", "d", "\""],
-        "<input a=1 b=\"&quot;\"/><script>alert('');</script>",
-    ),
-    (
-        &["form", "x", "a", "s", "it's"],
-        "<input a='it&#x27;s'/><script>alert('x');</script>",
-    ),
-];
-
-#[test]
-fn form_writes_the_form_of_its_words(rt: HostRuntime) {
-    for (words, form) in FORM_RUNS {
-        let wanted = Run {
-            words,
-            input: b"",
-            answer: Ok(()),
-            written: form.as_bytes(),
-        };
-        let is_right = is_right(rt.alloc(), wanted)
-            && survives_refusals(rt.alloc(), wanted)
-            && survives_writers(rt.alloc(), wanted);
-        assert!(rt; is_right, "{words:?}");
-    }
-}
-
-// A form, and the lines in which it is written.
-type LinesRow = (&'static [u8], &'static [u8]);
-
-const LINES: [LinesRow; 4] = [
-    (
-        b"<input value=a&#x20;b /><script>alert('x');</script>",
-        b"value u 3 a b\n1 x\n",
-    ),
-    (b"<input/><script>alert('x');</script>\xFF", b"1 x\n"),
-    (
-        b"<input\x0Ca=1\n\tb=\"&quot;\" c=''\n></script><script>alert('');</script>",
-        b"",
-    ),
-    (
-        b"<input\x0Ca=1\n\tb=\"&quot;\" c='\xFF'\n><script>alert('');</SCRIPT>",
-        b"a u 1 1\nb d 1 \"\nc s 1 \xFF\n0 \n",
-    ),
-];
-
-#[test]
-fn read_form_writes_the_lines_of_a_form(rt: HostRuntime) {
-    for (form, lines) in LINES {
-        let answer = if lines.is_empty() {
-            Err(Fault::NoPage)
-        } else {
-            Ok(())
-        };
-        let wanted = Run {
-            words: &["read-form"],
-            input: form,
-            answer,
-            written: lines,
-        };
-        let is_right = is_right(rt.alloc(), wanted)
-            && survives_refusals(rt.alloc(), wanted)
-            && survives_readers(rt.alloc(), wanted)
-            && survives_writers(rt.alloc(), wanted);
-        assert!(rt; is_right, "{form:?}");
-    }
-}
-
-// The words of a run that is refused, and its fault.
-type Refusal = (&'static [&'static str], Fault);
-
-const REFUSALS: [Refusal; 10] = [
-    (&["form"], Fault::Usage),
-    (&["form", "x", "value"], Fault::Usage),
-    (&["form", "x", "value", "u"], Fault::Usage),
-    (&["form", "x", "value", "q", "v"], Fault::Usage),
-    (&["form", "x", "a", "u", "v", "b"], Fault::Usage),
-    (&["read-form", "x"], Fault::Usage),
-    (&["form", "x", "Value", "u", "v"], Fault::BadName),
-    (&["form", "x", "a", "u", "v", "a", "d", ""], Fault::BadName),
-    (&["form", "x", "value", "u", ""], Fault::EmptyUnquoted),
-    (&["read-form"], Fault::NoPage),
-];
-
-#[test]
-fn a_refused_form_writes_nothing(rt: HostRuntime) {
-    for (words, fault) in REFUSALS {
-        let wanted = Run {
-            words,
-            input: b"",
-            answer: Err(fault),
-            written: b"",
-        };
-        let is_right = is_right(rt.alloc(), wanted) && survives_refusals(rt.alloc(), wanted);
-        assert!(rt; is_right, "{words:?}");
-    }
 }

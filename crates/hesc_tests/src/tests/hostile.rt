@@ -113,6 +113,15 @@ const MILLION: usize = 1_000_000;
 const MANY: usize = 131_072;
 
 #[test]
+fn a_long_text_is_as_long_as_it_says(rt: HostRuntime) -> Result<(), Fail> {
+    let text = long_text(rt.alloc(), ("ab", "c", MILLION, "def"))?;
+    assert_eq!(rt; text.len(), 1_000_005);
+    let text = long_text(rt.alloc(), ("", "</scrip", MANY, ""))?;
+    assert_eq!(rt; text.len(), 917_504);
+    Ok(())
+}
+
+#[test]
 fn long_texts_are_made(rt: HostRuntime) -> Result<(), Fail> {
     for (operation, text, made) in MADE {
         let text = long_text(rt.alloc(), text)?;

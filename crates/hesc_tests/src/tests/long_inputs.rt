@@ -23,6 +23,7 @@ const BODY: &str = "</scrip</script </styl</style>x<!-<!--\n";
 #[test]
 fn a_body_of_a_megabyte_comes_in_small_pieces(rt: HostRuntime) -> Result<(), Fail> {
     let text = long_text(rt.alloc(), ("", BODY, MEGABYTE / BODY.len(), ""))?;
+    assert!(rt; text.len() > 1_000_000);
     let script = encode_script(rt.alloc(), text.as_str())?;
     let style = encode_style(rt.alloc(), text.as_str())?;
     for size in [1, 2, 9] {
@@ -68,6 +69,7 @@ fn a_million_lines_are_encoded(rt: HostRuntime) -> Result<(), Fail> {
     for (line, made) in [("\n", "\n"), ("</script\n", "<\\/script\n")] {
         let text = long_text(rt.alloc(), ("", line, MILLION, ""))?;
         let made = long_text(rt.alloc(), ("", made, MILLION, ""))?;
+        assert!(rt; made.len() >= 1_000_000);
         let mut input = WeakReader::new(text.as_bytes(), STRONG);
         let mut output = WeakWriter::new(rt.alloc(), STRONG);
         let answer = run(rt.alloc(), &["lines-script"], &mut input, &mut output);
@@ -112,7 +114,7 @@ fn a_table_of_100_000_rows_is_made_and_asked(rt: HostRuntime) -> Result<(), Fail
         assert!(rt; table.get(name.as_bytes()) == Some("x"));
     }
     let decoded = decode_html_entities_with(rt.alloc(), &table, text.as_str())?;
-    assert!(rt; decoded.as_str().len() == NAMES as usize);
+    assert_eq!(rt; decoded.as_str().len(), 100_000);
     Ok(())
 }
 
@@ -124,8 +126,8 @@ fn an_output_of_16_mib_grows_by_short_appends(rt: HostRuntime) -> Result<(), Fai
         encode_text_to_string("sixteen letters.", &mut string)?;
         encode_text_to_vec("twelve &amp;", &mut vec)?;
     }
-    assert!(rt; string.len() == 16 * MEGABYTE);
-    assert!(rt; vec.len() == 16 * MEGABYTE);
+    assert_eq!(rt; string.len(), 16_777_216);
+    assert_eq!(rt; vec.len(), 16_777_216);
     Ok(())
 }
 
@@ -158,6 +160,7 @@ fn each_form_goes_past_32_mib(rt: HostRuntime) -> Result<(), Fail> {
     for (operation, head, made_head, made_part) in LONG {
         let text = long_text(rt.alloc(), (head, PART, TIMES, ""))?;
         let text = text.as_str();
+        assert!(rt; text.len() > 33_554_432);
         let made = long_text(rt.alloc(), (made_head, made_part, TIMES, ""))?;
         let cow = make(operation, rt.alloc(), text)?;
         assert!(rt; cow.as_str() == made.as_str(), "{operation:?}");
@@ -179,6 +182,7 @@ fn each_form_goes_past_32_mib(rt: HostRuntime) -> Result<(), Fail> {
 fn what_is_built_goes_past_32_mib(rt: HostRuntime) -> Result<(), Fail> {
     let text = long_text(rt.alloc(), ("", PART, TIMES, ""))?;
     let text = text.as_str();
+    assert!(rt; text.len() > 33_554_432);
     let mut enclosed = String::new(rt.alloc());
     assert!(rt; enclose(Encoder::Text, Place::Text, text, &mut enclosed).is_ok());
     assert!(rt; enclosed.len() > text.len());

@@ -1,5 +1,6 @@
 //! Pages: what is appended, what is read back, the fault, and refused memory.
 use crate::Refusing;
+use crate::tests::refusals::{Reader, survives};
 use hesc_places::{PlaceFault, build_page, read_page};
 use std::alloc::{AllocError, Allocator, Global};
 use std::process::Abort;
@@ -27,8 +28,8 @@ fn a_page_is_built_and_read_back(rt: HostRuntime) -> Result<(), Fail> {
     Ok(())
 }
 
-// Whether memory was found, and then whether the bytes are the page of the texts.
-fn reads_back<A: Allocator + Clone>(alloc: A, bytes: &str) -> Result<bool, AllocError> {
+/// Whether memory was found, and then whether the bytes are the page of the texts.
+pub fn reads_back<A: Allocator + Clone>(alloc: A, bytes: &str) -> Result<bool, AllocError> {
     match read_page(alloc, bytes.as_bytes())? {
         Some(page) => Ok(
             page.first.as_slice() == TEXTS[0].as_bytes()
@@ -57,17 +58,7 @@ fn every_request_of_a_page_is_refused_in_turn(rt: HostRuntime) -> Result<(), Fai
     for number in 1..=2u64 {
         assert!(rt; builds(rt.alloc(), number)?, "{number}");
     }
-    let mut was_refused = true;
-    for number in 1..=32u64 {
-        let heap = Refusing::new(rt.alloc(), number);
-        let is_read = reads_back(&heap, PAGE);
-        was_refused = heap.asked(number) >= number;
-        assert!(rt;
-            is_read == Ok(true) || is_read.is_err() && was_refused,
-            "{number}"
-        );
-    }
-    assert!(rt; !was_refused);
+    assert!(rt; survives(rt.alloc(), Reader::Page(PAGE)));
     Ok(())
 }
 

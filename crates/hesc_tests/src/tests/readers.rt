@@ -1,6 +1,6 @@
 //! The readers of places: what stands in a place and where it ends, and refused memory.
-use crate::Refusing;
 use crate::tests::readings::{PLACES, Read, read_in, unread_in};
+use crate::tests::refusals::{Reader, survives};
 use hesc_places::{Place, end_of_place, read_place};
 use std::alloc::{AllocError, Allocator, Global};
 use std::process::Abort;
@@ -33,8 +33,8 @@ fn each_place_is_read_up_to_its_mark(rt: HostRuntime) {
     }
 }
 
-// Whether memory was found, and then whether the reading is this one.
-fn reads<A: Allocator>(alloc: A, place: Place, read: Read<'_>) -> Result<bool, AllocError> {
+/// Whether memory was found, and then whether the reading is this one.
+pub fn reads<A: Allocator>(alloc: A, place: Place, read: Read<'_>) -> Result<bool, AllocError> {
     let (bytes, value, end) = read;
     match read_place(alloc, place, bytes)? {
         Some(found) => Ok(found.value.as_slice() == value && found.end == end),
@@ -63,20 +63,7 @@ fn every_request_of_a_reader_is_refused_in_turn(rt: HostRuntime) {
     }
 }
 
-// More requests than a reading makes.
-const REQUESTS: u64 = 16;
-
 /// Whether the answer is Memory where a request is refused, whichever it is, and else the reading.
 pub fn survives_reading(alloc: Global, place: Place, read: Read<'_>) -> bool {
-    for number in 1..=REQUESTS {
-        let heap = Refusing::new(alloc, number);
-        let answer = reads(&heap, place, read);
-        if heap.asked(number) < number {
-            return answer == Ok(true);
-        }
-        if answer.is_ok() {
-            return false;
-        }
-    }
-    false
+    survives(alloc, Reader::Place(place, read))
 }

@@ -29,3 +29,17 @@ fn a_refused_growth_is_one_request(rt: HostRuntime) -> Result<(), Fail> {
     assert_eq!(rt; heap.asked(1), 2);
     Ok(())
 }
+
+#[test]
+fn the_bytes_of_all_requests_are_added_up(rt: HostRuntime) -> Result<(), Fail> {
+    let heap = Refusing::new(rt.alloc(), 3);
+    let mut bytes: Vec<u8, &Refusing<_>> = Vec::with_capacity(&heap, 100)?;
+    assert_eq!(rt; heap.asked_bytes(), 100);
+    bytes.reserve_exact(1000)?;
+    assert_eq!(rt; heap.asked_bytes(), 1100);
+    assert!(rt; bytes.reserve_exact(1_000_000).is_err());
+    assert_eq!(rt; heap.asked_bytes(), 1_001_100);
+    heap.refuse(0);
+    assert_eq!(rt; heap.asked_bytes(), 0);
+    Ok(())
+}

@@ -7,8 +7,8 @@ use std::alloc::{AllocError, Allocator, Global};
 use std::process::Abort;
 use std::test::Fail;
 
-// The pieces, what each push adds, and what the finish adds.
-type Session = (
+/// The pieces, what each push adds, and what the finish adds.
+pub type Session = (
     &'static [&'static str],
     &'static [&'static str],
     &'static str,
@@ -199,7 +199,8 @@ fn survives(
     Ok(is_refused && is_as_it_was && is_right && is_added && heap.asked(0) == 1)
 }
 
-fn is_session(alloc: Global, kind: BodyKind, wanted: Session) -> Result<bool, AllocError> {
+/// Whether the calls of the session add this, also where they are refused memory first.
+pub fn is_session(alloc: Global, kind: BodyKind, wanted: Session) -> Result<bool, AllocError> {
     let (pieces, added, last) = wanted;
     let mut session = BodyEncoder::new(kind);
     for (piece, part) in pieces.iter().zip(added) {

@@ -12,9 +12,10 @@ fn answer(counted: io::Result<usize>) -> Answer {
     }
 }
 
+// What the second call answers.
 const WRITER_ANSWERS: [(Trouble, Answer); 4] = [
     (Trouble::Calm, Ok(2)),
-    (Trouble::Fails, Err(ErrorKind::Other)),
+    (Trouble::Fails, Err(ErrorKind::StorageFull)),
     (Trouble::Interrupted, Err(ErrorKind::Interrupted)),
     (Trouble::Idle, Ok(0)),
 ];
@@ -87,5 +88,48 @@ fn a_byte_a_call_is_enough(rt: HostRuntime) -> Result<(), Fail> {
     assert_eq!(rt; input.read_to_end(&mut bytes)?, 5);
     assert_eq!(rt; bytes.as_slice(), b"abcde".as_slice());
     assert_eq!(rt; input.calls, 6);
+    Ok(())
+}
+
+#[test]
+fn each_failing_call_has_an_error_of_its_own(rt: HostRuntime) -> Result<(), Fail> {
+    let kinds = [
+        ErrorKind::BrokenPipe,
+        ErrorKind::StorageFull,
+        ErrorKind::TimedOut,
+        ErrorKind::StorageFull,
+    ];
+    for (kind, at) in kinds.iter().zip(1..=4u64) {
+        let weakness = Weakness {
+            step: 1,
+            at,
+            trouble: Trouble::Fails,
+        };
+        let mut output = WeakWriter::new(rt.alloc(), weakness);
+        let Err(fault) = output.write_all(b"abcde") else {
+            panic!(rt; "call {at} fails");
+        };
+        assert_eq!(rt; fault.kind(), *kind, "call {at}");
+        let message = fault.to_string(rt.alloc())?;
+        assert_eq!(rt; message.as_str(), at.to_string(rt.alloc())?.as_str());
+    }
+    Ok(())
+}
+
+#[test]
+fn a_flush_and_an_empty_write_are_counted(rt: HostRuntime) -> Result<(), Fail> {
+    let weakness = Weakness {
+        step: 1,
+        at: 0,
+        trouble: Trouble::Calm,
+    };
+    let mut output = WeakWriter::new(rt.alloc(), weakness);
+    assert_eq!(rt; output.write(b"a")?, 1);
+    assert!(rt; output.was_only_written());
+    assert_eq!(rt; output.write(b"")?, 0);
+    assert!(rt; output.empty_calls == 1 && !output.was_only_written());
+    let mut output = WeakWriter::new(rt.alloc(), weakness);
+    output.flush()?;
+    assert!(rt; output.flushes == 1 && !output.was_only_written());
     Ok(())
 }
