@@ -2,6 +2,7 @@
 //! succeed where memory is there, and how often memory is asked for.
 mod amounts;
 mod answers;
+mod builders;
 mod calls;
 mod commands;
 mod counting;

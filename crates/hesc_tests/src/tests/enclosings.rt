@@ -1,11 +1,11 @@
 //! Every encoder in every place that suits it: what stands between the marks, that it is read back,
 //! and refused memory.
-use crate::Refusing;
+use crate::tests::builders::{self, Builder};
 use crate::tests::operations::OPERATIONS;
 use crate::tests::readers::survives_reading;
 use crate::tests::readings::PLACES;
 use crate::tests::rows::{Row, rows};
-use hesc_places::{End, Place, PlaceFault, enclose, suits};
+use hesc_places::{End, Place, suits};
 use html_escape::{Encoder, Operation};
 use std::alloc::{AllocError, Global};
 use std::process::Abort;
@@ -126,33 +126,13 @@ pub fn survives(
     let Some(behind) = whole.strip_prefix(opening_mark(place)) else {
         return Ok(false);
     };
-    for number in 1..=2u64 {
-        if !survives_enclosing(alloc, encoder, place, row.0, whole.as_str(), number)? {
-            return Ok(false);
-        }
+    if !builders::survives(
+        alloc,
+        Builder::Enclosed(encoder, place, row.0),
+        whole.as_str(),
+    )? {
+        return Ok(false);
     }
     let read = (behind.as_bytes(), value.as_bytes(), row.1.len());
     Ok(survives_reading(alloc, place, read))
-}
-
-// One request where there is no room; the output is as it was where it is refused.
-fn survives_enclosing(
-    alloc: Global,
-    encoder: Encoder,
-    place: Place,
-    text: &str,
-    whole: &str,
-    number: u64,
-) -> Result<bool, AllocError> {
-    let heap = Refusing::new(alloc, 0);
-    let mut output = String::with_capacity(&heap, 1)?;
-    output.push('x')?;
-    heap.refuse(number);
-    let (answer, added) = if number == 1 {
-        (Err(PlaceFault::Memory), "")
-    } else {
-        (Ok(whole), whole)
-    };
-    let is_right = enclose(encoder, place, text, &mut output) == answer;
-    Ok(is_right && heap.asked(number) == 1 && output.strip_prefix("x") == Some(added))
 }

@@ -1,6 +1,7 @@
 //! Forms: what is appended, what is read back, the faults and their order, refused memory, and a form of
 //! many attributes.
 use crate::Refusing;
+use crate::tests::builders::{self, Builder};
 use crate::tests::refusals::{Reader, survives};
 use hesc_places::{Attribute, FormFault, Quoting, build_form, read_form};
 use std::alloc::{AllocError, Allocator, Global};
@@ -121,45 +122,7 @@ pub fn builds(
 ) -> Result<bool, AllocError> {
     let attributes = attributes_of(alloc, entries)?;
     let attributes = attributes.as_slice();
-    let without = survives_building(alloc, attributes, script, form, 0, 2)?;
-    let within = survives_building(alloc, attributes, script, form, form.len(), 1)?;
-    let refused = survives_building(alloc, attributes, script, form, 0, 1)?;
-    Ok(without && within && refused)
-}
-
-// Whether the output is right with so much room, where the request of that number is refused.
-fn survives_building(
-    alloc: Global,
-    attributes: &[Attribute],
-    script: &str,
-    form: &str,
-    room: usize,
-    number: u64,
-) -> Result<bool, AllocError> {
-    let heap = Refusing::new(alloc, 0);
-    let mut output = String::with_capacity(&heap, room.saturating_add(1))?;
-    output.push('x')?;
-    heap.refuse(number);
-    let is_ok = answers_form(attributes, script, &mut output, form);
-    let requests = if room < form.len() { 1 } else { 0 };
-    let added = if is_ok { form } else { "" };
-    Ok(
-        is_ok == (requests < number)
-            && heap.asked(number) == requests
-            && output.strip_prefix("x") == Some(added),
-    )
-}
-
-fn answers_form<A: Allocator>(
-    attributes: &[Attribute],
-    script: &str,
-    output: &mut String<A>,
-    form: &str,
-) -> bool {
-    match build_form(attributes, script, output) {
-        Ok(part) => part == form,
-        Err(_) => false,
-    }
+    builders::survives(alloc, Builder::Form(attributes, script), form)
 }
 
 /// Whether memory was found, and then whether the form is that of the row.

@@ -1,5 +1,6 @@
 //! Pages: what is appended, what is read back, the fault, and refused memory.
 use crate::Refusing;
+use crate::tests::builders::{self, Builder};
 use crate::tests::refusals::{Reader, survives};
 use hesc_places::{PlaceFault, build_page, read_page};
 use std::alloc::{AllocError, Allocator, Global};
@@ -55,26 +56,15 @@ fn an_empty_value_leaves_the_output(rt: HostRuntime) -> Result<(), Fail> {
 
 #[test]
 fn every_request_of_a_page_is_refused_in_turn(rt: HostRuntime) -> Result<(), Fail> {
-    for number in 1..=2u64 {
-        assert!(rt; builds(rt.alloc(), number)?, "{number}");
-    }
+    assert!(rt;
+        builders::survives(
+            rt.alloc(),
+            Builder::Page(TEXTS[0], TEXTS[1], TEXTS[2]),
+            PAGE
+        )?
+    );
     assert!(rt; survives(rt.alloc(), Reader::Page(PAGE)));
     Ok(())
-}
-
-// One request where there is no room; the output is as it was where it is refused.
-fn builds(alloc: Global, number: u64) -> Result<bool, AllocError> {
-    let heap = Refusing::new(alloc, 0);
-    let mut output = String::with_capacity(&heap, 1)?;
-    output.push('x')?;
-    heap.refuse(number);
-    let (answer, added) = if number == 1 {
-        (Err(PlaceFault::Memory), "")
-    } else {
-        (Ok(PAGE), PAGE)
-    };
-    let is_right = build_page(TEXTS[0], TEXTS[1], TEXTS[2], &mut output) == answer;
-    Ok(is_right && heap.asked(number) == 1 && is_x_and(output.as_str(), added))
 }
 
 fn is_x_and(output: &str, added: &str) -> bool {

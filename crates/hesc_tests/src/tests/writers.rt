@@ -4,7 +4,7 @@ use crate::tests::operations::OPERATIONS;
 use crate::tests::rows::Row;
 use crate::{Trouble, WeakWriter, Weakness};
 use hesc_core::{Sink, WriterSink};
-use html_escape::{EntityTable, encode_text_to_writer};
+use html_escape::{EntityTable, Operation, encode_text_to_writer, pieces};
 use std::alloc::{AllocError, Global};
 use std::io::{self, Error, ErrorKind};
 use std::process::Abort;
@@ -95,6 +95,39 @@ fn is_fault_of(
 fn is_same(alloc: Global, fault: Error, own: Error) -> Result<bool, AllocError> {
     let message = fault.to_string(alloc)?;
     Ok(fault.kind() == own.kind() && message.as_str() == own.to_string(alloc)?.as_str())
+}
+
+#[test]
+fn a_writer_that_takes_much_is_called_once_for_a_piece(rt: HostRuntime) {
+    let strong = Weakness {
+        step: usize::MAX,
+        at: 0,
+        trouble: Trouble::Calm,
+    };
+    for operation in OPERATIONS {
+        for row in rows_of(Call::Of(operation)) {
+            let mut output = WeakWriter::new(rt.alloc(), strong);
+            let is_ok = to_writer(Call::Of(operation), row.0, &mut output).is_ok();
+            assert!(rt;
+                is_ok && output.taken.as_slice() == row.1.as_bytes(),
+                "{operation:?}"
+            );
+            let most = count_of_pieces(operation, row.0);
+            assert!(rt; output.calls <= most, "{operation:?} of {:?}", row.0);
+        }
+    }
+}
+
+fn count_of_pieces(operation: Operation, text: &str) -> u64 {
+    let mut pieces = pieces(&operation, text);
+    let mut count = 0u64;
+    for _ in 0..=text.len().saturating_mul(2) {
+        if pieces.next().is_none() {
+            return count;
+        }
+        count = count.saturating_add(1);
+    }
+    count
 }
 
 #[test]
