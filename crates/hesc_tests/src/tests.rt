@@ -11,6 +11,7 @@ mod form_commands;
 mod forms;
 mod hostile;
 mod megabytes;
+mod hostile_forms;
 mod long_inputs;
 mod memory;
 mod operations;
