@@ -9,7 +9,7 @@ use Rattle.std.specs.List.{prefix_len}
 use Rattle.std.specs.Simd.Lanes.{Each1, mask_l}
 use Rattle.std.specs.Simd.{first_chunks}
 use lib.Lanes.{chunk}
-use Rattle.hesc_specs.specs.FirstPlace.{IsFirstPlace}
+use Rattle.hesc_specs.specs.Text.FirstPlace.{IsFirstPlace}
 
 get_or-first_chunks : (n k i : ℕ) (xs : List ℕ) → i < k → get_or (first_chunks n k xs) i [] ≡ chunk (n * i) n xs
 get_or-first_chunks n zero i xs within = absurd (omega arith)

@@ -2,9 +2,9 @@
 use Rattle.std.proofs.Common.{◌≡◌, ℕ, ◌<◌, Bool, true, false, List, [], ◌∷◌, Some, None, IsTrue, codes, encode_utf8, if◌then◌else◌, length, refl, sym, arith}
 use Rattle.std.specs.Str.{bytes_eq}
 use Rattle.std.proofs.lemmas.Slice.Eq.{bytes_eq-Decides}
-use Rattle.hesc_specs.specs.Entities.{Row, common_rows, row_at, value_of}
-use Rattle.hesc_specs.specs.TableFaults.{is_table}
-use Rattle.hesc_specs.proofs.Tables.{common_value}
+use Rattle.hesc_specs.specs.References.Rows.{Row, common_rows, row_at, value_of}
+use Rattle.hesc_specs.specs.References.TableFaults.{is_table}
+use Rattle.hesc_specs.proofs.References.Tables.{common_value}
 use Rattle.hesc_core.specs.Table.{common_character}
 
 module _ (rows : List Row) (good : IsTrue (is_table rows)) (name : List ℕ) (c : ℕ) where

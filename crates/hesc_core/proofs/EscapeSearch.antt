@@ -3,9 +3,9 @@ use Rattle.std.proofs.Common.{◌≡◌, ℕ, ◌+◌, ◌≤◌, ◌<◌, false
 use Rattle.std.proofs.lemmas.Bool.{cases_lt}
 use Rattle.std.proofs.lemmas.List.{drop_more}
 use Rattle.std.proofs.Math.Bool.{and-false}
-use Rattle.hesc_specs.specs.Classes.{in_class, separator_lead}
-use Rattle.hesc_specs.specs.EscapedPlaces.{completes_separator, escapes_at}
-use Rattle.hesc_specs.specs.FirstPlace.{IsFirstPlace}
+use Rattle.hesc_specs.specs.Text.Classes.{in_class, separator_lead}
+use Rattle.hesc_specs.specs.Text.EscapedPlaces.{completes_separator, escapes_at}
+use Rattle.hesc_specs.specs.Text.FirstPlace.{IsFirstPlace}
 use Rattle.hesc_specs.specs.declared.classes.Class.{Class}
 
 -- nothing that is replaced begins from one place up to another

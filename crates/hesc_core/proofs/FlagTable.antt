@@ -2,7 +2,7 @@
 use Rattle.std.proofs.Common.{◌≡◌, ℕ, ◌/◌, ◌^◌, ◌<◌, Bool, true, not, nat_eq, get_or, bit_and, refl}
 use Rattle.std.proofs.lemmas.Bool.{agree_below, agree_below_at}
 use Rattle.std.specs.Int.{bit_at}
-use Rattle.hesc_specs.specs.Classes.{in_class}
+use Rattle.hesc_specs.specs.Text.Classes.{in_class}
 use Rattle.hesc_specs.specs.declared.classes.Class.{Class}
 use Rattle.hesc_specs.specs.declared.classes.Class.TheVariants.{TextMinimal, Text, DoubleQuotedAttribute, SingleQuotedAttribute, QuotedAttribute, Safe, UnquotedAttribute, ScriptSingleQuoted, ScriptDoubleQuoted, ScriptQuoted, StyleSingleQuoted, StyleDoubleQuoted, StyleQuoted}
 use Rattle.hesc_core.specs.ClassNumbers.{class_number}

@@ -4,7 +4,7 @@ use Rattle.std.specs.Prelude.{Some, None, slice_index}
 use Rattle.std.proofs.lemmas.Bool.{cases_Bool}
 use Rattle.std.proofs.lemmas.List.{get_or-drop, length-drop, take_all}
 use Rattle.memchr.specs.Find.{IsFirstByte}
-use Rattle.hesc_specs.specs.FirstPlace.{IsFirstPlace}
+use Rattle.hesc_specs.specs.Text.FirstPlace.{IsFirstPlace}
 
 module _ (test : ℕ → Bool) (bytes : List ℕ) (from : ℕ) (within : from ≤ length bytes) where
   -- the rest of the source, as a slice of it

@@ -5,12 +5,12 @@ use Rattle.std.proofs.lemmas.List.{length-append}
 use Rattle.std.proofs.lemmas.List.Sums.{sum_by-cons}
 use Rattle.std.specs.List.{count_by, sum_by}
 use Rattle.std.specs.Simd.Lanes.{Each1}
-use Rattle.hesc_specs.specs.Ascii.{ampersand, less_than, greater_than}
-use Rattle.hesc_specs.specs.Classes.{in_class, IsHtml}
+use Rattle.hesc_specs.specs.Text.Ascii.{ampersand, less_than, greater_than}
+use Rattle.hesc_specs.specs.Text.Classes.{in_class, IsHtml}
 use Rattle.hesc_specs.specs.Html.{encoding, image}
 use Rattle.hesc_specs.specs.declared.classes.Class.{Class}
 use Rattle.hesc_specs.specs.declared.classes.Class.TheVariants.{TextMinimal, Text, DoubleQuotedAttribute, SingleQuotedAttribute, QuotedAttribute, Safe, UnquotedAttribute, ScriptSingleQuoted, ScriptDoubleQuoted, ScriptQuoted, StyleSingleQuoted, StyleDoubleQuoted, StyleQuoted}
-use Rattle.hesc_specs.proofs.SomeImages.{some-image}
+use Rattle.hesc_specs.proofs.Text.SomeImages.{some-image}
 use Rattle.hesc_core.proofs.CountSteps.{count-cons, count_if-cons, count_if-nil, one}
 
 -- how much longer the image of a byte is, and by how much the shorter references fall short of six bytes

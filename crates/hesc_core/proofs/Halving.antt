@@ -8,9 +8,9 @@ use Rattle.std.proofs.lemmas.Cmp.{nat_list_cmp_total}
 use Rattle.std.proofs.lemmas.List.{get_or-map}
 use Rattle.std.proofs.lemmas.Map.Text.{is_eq-slice_cmp}
 use Rattle.std.proofs.lemmas.Slice.Eq.{bytes_eq-Decides}
-use Rattle.hesc_specs.specs.Entities.{Row, row_at, value_of}
-use Rattle.hesc_specs.specs.TableFaults.{is_table}
-use Rattle.hesc_specs.proofs.Tables.{ascending, value_here, value_absent}
+use Rattle.hesc_specs.specs.References.Rows.{Row, row_at, value_of}
+use Rattle.hesc_specs.specs.References.TableFaults.{is_table}
+use Rattle.hesc_specs.proofs.References.Tables.{ascending, value_here, value_absent}
 use Rattle.hesc_core.specs.Rows.{rows_in}
 
 -- the rows before a place have lower names

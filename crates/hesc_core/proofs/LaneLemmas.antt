@@ -4,7 +4,7 @@ use Rattle.std.proofs.lemmas.Bool.{agree_below, agree_below_at}
 use Rattle.std.proofs.lemmas.List.{length-map}
 use Rattle.std.proofs.lemmas.Simd.{map-map, mask_l-mod}
 use Rattle.std.specs.Simd.Lanes.{Each1, mask_l, top}
-use Rattle.hesc_specs.specs.Classes.{in_class}
+use Rattle.hesc_specs.specs.Text.Classes.{in_class}
 use Rattle.hesc_specs.specs.declared.classes.Class.{Class}
 
 agree-map : (f g : ℕ → Bool) (v : List ℕ) → Each1 (λ b. b < 256) v → agree_below f g 256 ≡ true → map f v ≡ map g v

@@ -1,6 +1,6 @@
 -- The constant of the built-in table is the table of the definition, row by row, computed.
 use Rattle.std.proofs.Common.{◌≡◌, true, map, refl}
-use Rattle.hesc_specs.specs.Entities.{are_short}
+use Rattle.hesc_specs.specs.References.Rows.{are_short}
 use Rattle.hesc_core.specs.NamedRows.{named_rows}
 use Rattle.hesc_core.specs.declared.entities.TheConstants.{NAMED_ENTITIES}
 

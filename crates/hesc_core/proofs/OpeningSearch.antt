@@ -3,9 +3,9 @@ use Rattle.std.proofs.Common.{◌≡◌, ℕ, ◌+◌, ◌≤◌, ◌<◌, Bool,
 use Rattle.std.specs.Prelude.{slice_index}
 use Rattle.std.proofs.lemmas.Bool.{cases_lt, eqb-true}
 use Rattle.std.proofs.lemmas.List.{drop_more}
-use Rattle.hesc_specs.specs.Ascii.{less_than}
-use Rattle.hesc_specs.specs.FirstPlace.{IsFirstPlace}
-use Rattle.hesc_specs.specs.Openings.{is_opening, is_escaped_opening}
+use Rattle.hesc_specs.specs.Text.Ascii.{less_than}
+use Rattle.hesc_specs.specs.Text.FirstPlace.{IsFirstPlace}
+use Rattle.hesc_specs.specs.Bodies.Openings.{is_opening, is_escaped_opening}
 use Rattle.hesc_specs.specs.declared.elements.Element.{Element}
 
 -- the test passes at no place from one up to another

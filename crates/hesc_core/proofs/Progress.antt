@@ -1,7 +1,7 @@
 -- How far a sink has come with a text: what it took since it began, and the rest that is still to come.
 use Rattle.std.proofs.Common.{◌≡◌, ℕ, List, ◌++◌, sym, ◌∙◌, ap, append_assoc}
 use Rattle.std.specs.Prelude.{Result, Ok, Err, OnErr}
-use Rattle.hesc_specs.specs.Beginning.{TookBeginning}
+use Rattle.hesc_specs.specs.Text.Beginning.{TookBeginning}
 
 pub record Progress (old now rest text : List ℕ) : Type 0 where
   pub done : List ℕ

@@ -2,18 +2,18 @@
 use Rattle.std.proofs.Common.{◌≡◌, ℕ, ◌+◌, ◌≤◌, ◌<◌, ◌==◌, List, [], Some, if◌then◌else◌, length, slice_index, subst, sym, ap, ap₂, ◌∙◌, arith}
 use Rattle.std.specs.Str.{IsCharBoundary, IsUtf8}
 use Rattle.std.proofs.lemmas.Str.{encode_ascii}
-use Rattle.hesc_specs.specs.Classes.{element_of, separator_lead, string_class}
-use Rattle.hesc_specs.specs.Escaped.{escape_changes}
-use Rattle.hesc_specs.specs.EscapedPlaces.{escapes_at}
-use Rattle.hesc_specs.specs.FirstPlace.{IsFirstAt}
-use Rattle.hesc_specs.specs.StringChanges.{behind}
-use Rattle.hesc_specs.specs.Strings.{line_separator, paragraph_separator, string_escape}
+use Rattle.hesc_specs.specs.Text.Classes.{element_of, separator_lead, string_class}
+use Rattle.hesc_specs.specs.Text.Escaped.{escape_changes}
+use Rattle.hesc_specs.specs.Text.EscapedPlaces.{escapes_at}
+use Rattle.hesc_specs.specs.Text.FirstPlace.{IsFirstAt}
+use Rattle.hesc_specs.specs.Strings.Changes.{behind}
+use Rattle.hesc_specs.specs.Strings.Encoding.{line_separator, paragraph_separator, string_escape}
 use Rattle.hesc_specs.specs.declared.classes.Class.{Class}
 use Rattle.hesc_specs.specs.declared.elements.Element.{Element}
 use Rattle.hesc_specs.specs.declared.elements.Element.TheVariants.{Script}
 use Rattle.hesc_specs.specs.declared.quotes.Quotes.{Quotes}
-use Rattle.hesc_specs.proofs.EscapeChanges.{element_of-some}
-use Rattle.hesc_specs.proofs.StringEncodingChanges.{FirstEscaped, ascii_character, next-string_encoding_changes, no-string_encoding_changes, separator_character}
+use Rattle.hesc_specs.proofs.Text.EscapeChanges.{element_of-some}
+use Rattle.hesc_specs.proofs.Strings.EncodingChanges.{FirstEscaped, ascii_character, next-string_encoding_changes, no-string_encoding_changes, separator_character}
 use Rattle.hesc_core.specs.Next.{IsNext}
 use Rattle.hesc_core.specs.Text.{replacement_bytes}
 use Rattle.hesc_core.specs.declared.found.Replacement.{Replacement}

@@ -2,9 +2,9 @@
 use Rattle.std.proofs.Common.{◌≡◌, ℕ, ◌*◌, Bool, true, false, cond, List, [], ◌∷◌, refl, arith}
 use Rattle.std.proofs.lemmas.List.Sums.{sum_by-cons}
 use Rattle.std.specs.List.{count_by, sum_by}
-use Rattle.hesc_specs.specs.Classes.{in_class}
+use Rattle.hesc_specs.specs.Text.Classes.{in_class}
 use Rattle.hesc_specs.specs.declared.classes.Class.{Class}
-use Rattle.hesc_specs.proofs.StringBound.{growth}
+use Rattle.hesc_specs.proofs.Strings.Bound.{growth}
 use Rattle.hesc_core.proofs.CountSteps.{count-cons, one}
 
 thrice : (counts : Bool) → cond counts 3 0 ≡ 3 * one counts

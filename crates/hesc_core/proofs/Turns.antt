@@ -1,6 +1,6 @@
 -- The parts that a turn stands for, one after another.
 use Rattle.std.proofs.Common.{◌≡◌, ℕ, List, [], ◌∷◌, ◌++◌, refl, sym, ◌∙◌, ap, append_assoc}
-use Rattle.hesc_specs.specs.Parts.{Part, joined, renewed}
+use Rattle.hesc_specs.specs.Text.Parts.{Part, joined, renewed}
 use Rattle.hesc_core.specs.Pieces.{kept_unless_empty, stretch_of, turn_bytes}
 use Rattle.hesc_core.specs.Text.{replacement_bytes}
 use Rattle.hesc_core.specs.declared.turn.Turn.{Turn}

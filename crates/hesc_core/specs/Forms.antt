@@ -12,8 +12,8 @@ use Rattle.std.specs.declared.borrow.CowStr.{CowStr}
 use Rattle.std.specs.declared.borrow.CowStr.TheVariants.{Borrowed, Owned}
 use denote.RattleType.{RattleType}
 use mathlib.Core.Option.{none}
-use Rattle.hesc_specs.specs.Beginning.{AppendsBeginning}
-use Rattle.hesc_specs.specs.Changes.{Change}
+use Rattle.hesc_specs.specs.Text.Beginning.{AppendsBeginning}
+use Rattle.hesc_specs.specs.Text.Changes.{Change}
 
 -- it borrows exactly where nothing changes, and then the source itself
 abbrev pub BorrowsUnchanged : {A : Type 0} → List ℕ → List Change → CowStr A → Type 0

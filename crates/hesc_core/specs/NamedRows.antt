@@ -1,7 +1,7 @@
 -- The rows of the built-in table: 77 of the named character references of HTML, each with the code point of its character, in the order of the bytes of their names.
 -- HTML Standard, 13.5 Named character references.
 use Rattle.std.specs.Prelude.{ℕ, List, [], ◌∷◌, codes, encode_utf8}
-use Rattle.hesc_specs.specs.Entities.{Row}
+use Rattle.hesc_specs.specs.References.Rows.{Row}
 
 -- the row of a name and a code point
 abbrev pub named : List ℕ → ℕ → Row

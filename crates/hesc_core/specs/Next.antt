@@ -1,7 +1,7 @@
 -- What a found change says of a rule's changes.
 use Rattle.std.specs.Prelude.{◌≡◌, ℕ, ◌<◌, ◌≤◌, List, ◌∷◌, length}
 use Rattle.std.specs.Str.{IsCharBoundary}
-use Rattle.hesc_specs.specs.Changes.{Change}
+use Rattle.hesc_specs.specs.Text.Changes.{Change}
 use Rattle.hesc_core.specs.Text.{replacement_bytes}
 use Rattle.hesc_core.specs.declared.found.Found.{Found}
 

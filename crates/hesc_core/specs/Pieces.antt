@@ -1,6 +1,6 @@
 -- The parts that pieces stand for, and those that are still to come.
 use Rattle.std.specs.Prelude.{◌≡◌, ℕ, ◌+◌, ◌-◌, List, [], ◌∷◌, ◌++◌, Option, Some, None, length, if◌then◌else◌}
-use Rattle.hesc_specs.specs.Parts.{Part, kept, fresh, parts}
+use Rattle.hesc_specs.specs.Text.Parts.{Part, kept, fresh, parts}
 use Rattle.hesc_core.specs.Text.{replacement_bytes}
 use Rattle.hesc_core.specs.declared.found.Replacement.{Replacement}
 use Rattle.hesc_core.specs.declared.pieces.Piece.{Piece}

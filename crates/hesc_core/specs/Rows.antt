@@ -1,7 +1,7 @@
 -- The rows that a program holds, as names and values.
 use Rattle.std.specs.Prelude.{ℕ, List, map}
 use Rattle.std.specs.Borrow.{Bor}
-use Rattle.hesc_specs.specs.Entities.{Row}
+use Rattle.hesc_specs.specs.References.Rows.{Row}
 
 -- what the references of each row point to
 abbrev pub rows_in : List (Bor (List ℕ) × Bor (List ℕ)) → List Row

@@ -1,8 +1,8 @@
 -- The rows of a table, and the names that are in every one.
 use Rattle.std.specs.Prelude.{ℕ, List, Option, Some, None, codes, if◌then◌else◌}
 use Rattle.std.specs.Str.{bytes_eq}
-use Rattle.hesc_specs.specs.Ascii.{ampersand, double_quote, less_than, greater_than}
-use Rattle.hesc_specs.specs.Entities.{Row}
+use Rattle.hesc_specs.specs.Text.Ascii.{ampersand, double_quote, less_than, greater_than}
+use Rattle.hesc_specs.specs.References.Rows.{Row}
 use Rattle.hesc_core.specs.Rows.{rows_in}
 use Rattle.hesc_core.specs.declared.table.EntityTable.{EntityTable}
 

@@ -1,7 +1,7 @@
 //! An upper bound of the length of a body encoding, counted 32 bytes at a time.
 ghost use Rattle.std.specs.Prelude.{◌≡◌, ◌≤◌, ◌==◌, [], length, if◌then◌else◌, IfSome};
-ghost use Rattle.hesc_specs.specs.Ascii.{less_than};
-ghost use Rattle.hesc_specs.specs.Bodies.{body_encoding};
+ghost use Rattle.hesc_specs.specs.Text.Ascii.{less_than};
+ghost use Rattle.hesc_specs.specs.Bodies.Encoding.{body_encoding};
 ghost use Rattle.hesc_specs.specs.declared.elements.Element.{Element};
 
 use crate::counts::count;

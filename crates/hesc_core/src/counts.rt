@@ -1,7 +1,7 @@
 //! How many of 32 bytes are a given one, by comparisons of all of them at once.
 ghost use Rattle.std.specs.Prelude.{◌≡◌, ◌==◌, if◌then◌else◌};
 ghost use Rattle.std.specs.List.{count_by};
-ghost use Rattle.hesc_specs.specs.Classes.{in_class};
+ghost use Rattle.hesc_specs.specs.Text.Classes.{in_class};
 
 use crate::flags::is_in;
 use hesc_specs::Class;

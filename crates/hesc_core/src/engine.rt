@@ -1,6 +1,6 @@
 //! The engine: each piece of a rule's text goes to a sink. Nothing else makes output.
 ghost use Rattle.std.specs.Prelude.{◌≡◌, ◌≢◌, ◌≤◌, ◌<◌, ◌+◌, [], ◌++◌, length, IsOk, OnOk, OnErr};
-ghost use Rattle.hesc_specs.specs.Beginning.{TookBeginning};
+ghost use Rattle.hesc_specs.specs.Text.Beginning.{TookBeginning};
 
 use crate::pieces::Pieces;
 use crate::rule::Rule;

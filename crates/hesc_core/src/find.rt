@@ -1,7 +1,7 @@
 //! The search for the next of one or two bytes.
 ghost use Rattle.std.specs.Prelude.{◌≤◌, length};
 ghost use Rattle.memchr.specs.Find.{is_byte, is_byte2};
-ghost use Rattle.hesc_specs.specs.FirstPlace.{IsFirstPlace};
+ghost use Rattle.hesc_specs.specs.Text.FirstPlace.{IsFirstPlace};
 
 use crate::lanes::{hits_of_one, hits_of_two};
 use memchr::{memchr, memchr2};

@@ -1,7 +1,7 @@
 //! Which classes each byte is in, as a table.
 ghost use Rattle.std.specs.Prelude.{◌≡◌, ◌↔◌, IsTrue, slice_index};
 ghost use Rattle.std.specs.Int.{bit_at};
-ghost use Rattle.hesc_specs.specs.Classes.{in_class};
+ghost use Rattle.hesc_specs.specs.Text.Classes.{in_class};
 ghost use Rattle.hesc_core.specs.ClassNumbers.{class_number};
 
 use hesc_specs::Class;

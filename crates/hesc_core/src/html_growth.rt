@@ -1,6 +1,6 @@
 //! How much longer the HTML encoders make bytes, by counting in 32 of them at once.
 ghost use Rattle.std.specs.Prelude.{◌-◌, length};
-ghost use Rattle.hesc_specs.specs.Classes.{IsHtml};
+ghost use Rattle.hesc_specs.specs.Text.Classes.{IsHtml};
 ghost use Rattle.hesc_specs.specs.Html.{image};
 
 use crate::counts::{count, count_in};

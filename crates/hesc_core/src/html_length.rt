@@ -1,6 +1,6 @@
 //! The length of an HTML encoding, counted 32 bytes at a time.
 ghost use Rattle.std.specs.Prelude.{◌≡◌, ◌<◌, ◌^◌, length, IfSome, IsSome};
-ghost use Rattle.hesc_specs.specs.Classes.{IsHtml};
+ghost use Rattle.hesc_specs.specs.Text.Classes.{IsHtml};
 ghost use Rattle.hesc_specs.specs.Html.{encoding};
 
 use crate::growth::grown_length;

@@ -2,7 +2,7 @@
 ghost use Rattle.std.specs.Prelude.{◌≡◌, ◌<◌, map};
 ghost use Rattle.std.specs.Simd.Lanes.{Each1, mask_l};
 ghost use Rattle.memchr.specs.Find.{is_byte, is_byte2};
-ghost use Rattle.hesc_specs.specs.Classes.{in_class};
+ghost use Rattle.hesc_specs.specs.Text.Classes.{in_class};
 
 use crate::groups::{DOUBLE, SCRIPT, SINGLE, STYLE, hits_of_groups};
 use hesc_specs::Class;

@@ -1,22 +1,22 @@
 //! The laws of the operations: each is a function that does nothing and whose contract is the law.
 ghost use Rattle.std.specs.List.{concat};
 ghost use Rattle.std.specs.Prelude.{◌≡◌, ◌≢◌, ◌↔◌, ◌++◌, false, true, map, [], IsTrue};
-ghost use Rattle.hesc_specs.specs.Bodies.{
+ghost use Rattle.hesc_specs.specs.Bodies.Encoding.{
   EndsWithoutLessThan,
   body_decoding,
   body_encoding,
 };
-ghost use Rattle.hesc_specs.specs.Classes.{IsHtml, is_of_style};
-ghost use Rattle.hesc_specs.specs.Escaped.{escaped};
+ghost use Rattle.hesc_specs.specs.Text.Classes.{IsHtml, is_of_style};
+ghost use Rattle.hesc_specs.specs.Text.Escaped.{escaped};
 ghost use Rattle.hesc_specs.specs.Html.{encoding};
-ghost use Rattle.hesc_specs.specs.KeptControls.{with_kept_controls};
-ghost use Rattle.hesc_specs.specs.Nul.{nul};
-ghost use Rattle.hesc_specs.specs.Openings.{HasNoEscapedOpening, HasNoOpening};
-ghost use Rattle.hesc_specs.specs.References.{decoded};
-ghost use Rattle.hesc_specs.specs.SameBody.{IsSameBody};
-ghost use Rattle.hesc_specs.specs.Sessions.{IsSession, IsTextSession};
-ghost use Rattle.hesc_specs.specs.Strings.{IsPlain, string_encoding, string_value};
-ghost use Rattle.hesc_specs.specs.StringTokens.{knows, string_decoding};
+ghost use Rattle.hesc_specs.specs.References.KeptControls.{with_kept_controls};
+ghost use Rattle.hesc_specs.specs.Text.Nul.{nul};
+ghost use Rattle.hesc_specs.specs.Bodies.Openings.{HasNoEscapedOpening, HasNoOpening};
+ghost use Rattle.hesc_specs.specs.References.Decoding.{decoded};
+ghost use Rattle.hesc_specs.specs.Bodies.SameBody.{IsSameBody};
+ghost use Rattle.hesc_specs.specs.Bodies.Sessions.{IsSession, IsTextSession};
+ghost use Rattle.hesc_specs.specs.Strings.Encoding.{IsPlain, string_encoding, string_value};
+ghost use Rattle.hesc_specs.specs.Strings.Tokens.{knows, string_decoding};
 ghost use Rattle.hesc_specs.specs.declared.elements.Element.TheVariants.{Style};
 ghost use Rattle.hesc_specs.specs.declared.quotes.Quotes.TheVariants.{Both};
 ghost use Rattle.hesc_core.specs.Table.{rows_of};

@@ -1,16 +1,16 @@
 //! The search for the next opening of a body: `<!--`, or `</` and the element's name where it ends.
 ghost use Rattle.std.specs.Prelude.{◌≡◌, ◌≤◌, ◌∷◌, length};
-ghost use Rattle.hesc_specs.specs.Ascii.{less_than};
-ghost use Rattle.hesc_specs.specs.Elements.{element_name};
-ghost use Rattle.hesc_specs.specs.FirstPlace.{IsFirstAt};
-ghost use Rattle.hesc_specs.specs.Openings.{
+ghost use Rattle.hesc_specs.specs.Text.Ascii.{less_than};
+ghost use Rattle.hesc_specs.specs.Text.Elements.{element_name};
+ghost use Rattle.hesc_specs.specs.Text.FirstPlace.{IsFirstAt};
+ghost use Rattle.hesc_specs.specs.Bodies.Openings.{
   completes_opening as completes,
   ends_name as ends,
   is_escaped_opening,
   opens_at,
   opens_escaped_at,
 };
-ghost use Rattle.hesc_specs.specs.Words.{begins_in_any_case};
+ghost use Rattle.hesc_specs.specs.Text.Words.{begins_in_any_case};
 
 use crate::find::first_byte;
 use hesc_specs::Element;

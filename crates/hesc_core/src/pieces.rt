@@ -16,7 +16,7 @@ pub enum Piece<'t> {
 
 impl Piece<'_> {
     ghost use Rattle.std.specs.Prelude.{◌≡◌};
-    ghost use Rattle.hesc_specs.specs.Parts.{part_bytes};
+    ghost use Rattle.hesc_specs.specs.Text.Parts.{part_bytes};
     ghost use Rattle.hesc_core.specs.Pieces.{part_of};
 
     /// The piece's text, which is not empty in a piece of `Pieces`.
@@ -60,7 +60,7 @@ impl<'t, R: Rule> Pieces<'t, R> {
       IfSome,
       None,
     };
-    ghost use Rattle.hesc_specs.specs.Parts.{joined, parts, renewed};
+    ghost use Rattle.hesc_specs.specs.Text.Parts.{joined, parts, renewed};
     ghost use Rattle.hesc_core.specs.Pieces.{IsAtTurn, parts_left, stretch_of, turns_left};
     ghost use Rattle.hesc_core.specs.Text.{replacement_bytes};
 

@@ -1,8 +1,8 @@
 //! The faults of rows, by which they make no table of entities.
 ghost use Rattle.std.specs.Prelude.{◌≡◌, ◌<◌, ◌&&◌, Some, None, if◌then◌else◌, length, nat_le, not};
 ghost use Rattle.std.specs.Option.{option_map};
-ghost use Rattle.hesc_specs.specs.Entities.{common_rows, value_of};
-ghost use Rattle.hesc_specs.specs.TableFaults.{is_alphanumeric, is_ascending, is_other, row_fault};
+ghost use Rattle.hesc_specs.specs.References.Rows.{common_rows, value_of};
+ghost use Rattle.hesc_specs.specs.References.TableFaults.{is_alphanumeric, is_ascending, is_other, row_fault};
 ghost use Rattle.hesc_core.specs.Rows.{rows_in};
 
 use hesc_specs::TableFault;

@@ -1,7 +1,7 @@
 //! Rules: an operation as the changes that it makes, one after another.
 ghost use Rattle.std.specs.Prelude.{◌≡◌, ◌≤◌, ◌<◌, ◌^◌, ℕ, List, [], length, IfNone, IfSome, IsSome};
 ghost use Rattle.std.specs.Str.{IsCharBoundary, IsUtf8};
-ghost use Rattle.hesc_specs.specs.Changes.{Change, applied};
+ghost use Rattle.hesc_specs.specs.Text.Changes.{Change, applied};
 ghost use Rattle.hesc_core.specs.Next.{IsNext};
 
 use crate::found::Found;

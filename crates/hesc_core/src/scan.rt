@@ -1,11 +1,11 @@
 //! The search for the next place at which an encoder may change something, and at which it does.
 ghost use Rattle.std.specs.Prelude.{◌≡◌, ◌≤◌, length};
-ghost use Rattle.hesc_specs.specs.Classes.{in_class};
-ghost use Rattle.hesc_specs.specs.EscapedPlaces.{
+ghost use Rattle.hesc_specs.specs.Text.Classes.{in_class};
+ghost use Rattle.hesc_specs.specs.Text.EscapedPlaces.{
   completes_separator as completes,
   escapes_at,
 };
-ghost use Rattle.hesc_specs.specs.FirstPlace.{IsFirstAt, IsFirstPlace};
+ghost use Rattle.hesc_specs.specs.Text.FirstPlace.{IsFirstAt, IsFirstPlace};
 
 use crate::flags::is_in;
 pub use crate::flags::{FLAGS, flags_agree};

@@ -1,6 +1,6 @@
 //! Rows by which decoding lengthens no text.
 ghost use Rattle.std.specs.Prelude.{◌≡◌};
-ghost use Rattle.hesc_specs.specs.Entities.{are_short, is_short};
+ghost use Rattle.hesc_specs.specs.References.Rows.{are_short, is_short};
 ghost use Rattle.hesc_core.specs.Rows.{rows_in};
 
 /// Whether no value is empty or longer than its reference.

@@ -1,7 +1,7 @@
 //! Sinks: what takes the pieces of a text.
 ghost use Rattle.std.specs.Prelude.{◌≡◌, ◌≤◌, ◌<◌, ◌+◌, ℕ, List, ◌++◌, length, Option, IsOk, OnOk, OnErr};
 ghost use Rattle.std.specs.Borrow.{GName};
-ghost use Rattle.hesc_specs.specs.Beginning.{TookBeginning};
+ghost use Rattle.hesc_specs.specs.Text.Beginning.{TookBeginning};
 ghost use Rattle.hesc_core.specs.Pieces.{turn_bytes};
 
 use crate::turn::Turn;

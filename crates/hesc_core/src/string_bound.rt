@@ -1,7 +1,7 @@
 //! An upper bound of the length of a string encoding, counted 32 bytes at a time.
 ghost use Rattle.std.specs.Prelude.{◌≡◌, ◌≢◌, ◌≤◌, [], None, length, if◌then◌else◌, IfSome};
-ghost use Rattle.hesc_specs.specs.Classes.{in_class, string_class};
-ghost use Rattle.hesc_specs.specs.Escaped.{escaped};
+ghost use Rattle.hesc_specs.specs.Text.Classes.{in_class, string_class};
+ghost use Rattle.hesc_specs.specs.Text.Escaped.{escaped};
 
 use crate::flags::is_in;
 use crate::growth::{Growth, grown_length};

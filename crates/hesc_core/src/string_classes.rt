@@ -1,6 +1,6 @@
 //! The classes of the string encoders, by their element and quote marks.
 ghost use Rattle.std.specs.Prelude.{◌≡◌};
-ghost use Rattle.hesc_specs.specs.Classes.{string_class as string_class_of};
+ghost use Rattle.hesc_specs.specs.Text.Classes.{string_class as string_class_of};
 
 use hesc_specs::{Class, Element, Quotes};
 

@@ -1,9 +1,9 @@
 //! The escapes among the tokens of an encoded string: what a `\` and the bytes behind it stand for.
 ghost use Rattle.std.specs.Prelude.{◌≡◌, ◌≤◌, ◌<◌, IsTrue, length};
-ghost use Rattle.hesc_specs.specs.Elements.{element_name};
-ghost use Rattle.hesc_specs.specs.Strings.{is_quote as among};
-ghost use Rattle.hesc_specs.specs.StringChanges.{is_behind_less as behind};
-ghost use Rattle.hesc_specs.specs.StringTokens.{
+ghost use Rattle.hesc_specs.specs.Text.Elements.{element_name};
+ghost use Rattle.hesc_specs.specs.Strings.Encoding.{is_quote as among};
+ghost use Rattle.hesc_specs.specs.Strings.Changes.{is_behind_less as behind};
+ghost use Rattle.hesc_specs.specs.Strings.Tokens.{
   ends_name_within,
   escape as escape_of,
   is_pair as writes_pair,
@@ -15,7 +15,7 @@ ghost use Rattle.hesc_specs.specs.StringTokens.{
   separator_escape as separator,
   upper_hex_value as value_of,
 };
-ghost use Rattle.hesc_specs.specs.Words.{begins_in_any_case};
+ghost use Rattle.hesc_specs.specs.Text.Words.{begins_in_any_case};
 
 use crate::openings::{is_named, name_of};
 use hesc_specs::{Element, Quotes};

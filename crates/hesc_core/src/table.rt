@@ -1,8 +1,8 @@
 //! Tables of entities: which rows make one, and the value of a name.
 ghost use Rattle.std.specs.Prelude.{◌≡◌, IsTrue};
 ghost use Rattle.std.specs.Option.{option_map};
-ghost use Rattle.hesc_specs.specs.Entities.{are_short, value_of};
-ghost use Rattle.hesc_specs.specs.TableFaults.{is_table};
+ghost use Rattle.hesc_specs.specs.References.Rows.{are_short, value_of};
+ghost use Rattle.hesc_specs.specs.References.TableFaults.{is_table};
 ghost use Rattle.hesc_core.specs.Rows.{rows_in};
 
 use crate::entities::NAMED_ENTITIES;
@@ -39,7 +39,7 @@ impl EntityTable<'static> {
 impl<'a> EntityTable<'a> {
     ghost use Rattle.std.specs.Prelude.{IfOk};
     ghost use Rattle.std.specs.Result.{result_err};
-    ghost use Rattle.hesc_specs.specs.TableFaults.{first_fault};
+    ghost use Rattle.hesc_specs.specs.References.TableFaults.{first_fault};
     ghost use Rattle.hesc_core.specs.Table.{rows_of};
 
     /// The table of these rows, or their first fault: the rows are checked in order, at each row

@@ -1,7 +1,7 @@
 //! `decode_html_entities_with`: each reference that has a value by a given table becomes it.
 ghost use Rattle.std.specs.Borrow.{sem};
-ghost use Rattle.hesc_specs.specs.ReferenceChanges.{reference_changes};
-ghost use Rattle.hesc_specs.specs.References.{decoded};
+ghost use Rattle.hesc_specs.specs.References.Changes.{reference_changes};
+ghost use Rattle.hesc_specs.specs.References.Decoding.{decoded};
 ghost use Rattle.hesc_core.specs.Forms.{
   AnswersPart,
   AnswersText,

@@ -1,8 +1,8 @@
 //! `decode_script`: each escaped opening of a script's body loses its `\`. So `<\!--` becomes
 //! `<!--`, and `<\/script`, in any case where the name ends, becomes `</script`.
 ghost use Rattle.std.specs.Borrow.{sem};
-ghost use Rattle.hesc_specs.specs.Bodies.{body_decoding};
-ghost use Rattle.hesc_specs.specs.BodyChanges.{body_decoding_changes};
+ghost use Rattle.hesc_specs.specs.Bodies.Encoding.{body_decoding};
+ghost use Rattle.hesc_specs.specs.Bodies.Changes.{body_decoding_changes};
 ghost use Rattle.hesc_specs.specs.declared.elements.Element.TheVariants.{Script};
 ghost use Rattle.hesc_core.specs.Forms.{
   AnswersPart,

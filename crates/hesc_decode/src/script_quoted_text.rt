@@ -3,8 +3,8 @@
 //! `<` so do `\!` before `--`, and `\/` before `script` in any case where the name ends before the
 //! text does. Any other `\` stays.
 ghost use Rattle.std.specs.Borrow.{sem};
-ghost use Rattle.hesc_specs.specs.StringChanges.{string_decoding_changes};
-ghost use Rattle.hesc_specs.specs.StringTokens.{string_decoding};
+ghost use Rattle.hesc_specs.specs.Strings.Changes.{string_decoding_changes};
+ghost use Rattle.hesc_specs.specs.Strings.Tokens.{string_decoding};
 ghost use Rattle.hesc_specs.specs.declared.elements.Element.TheVariants.{Script};
 ghost use Rattle.hesc_specs.specs.declared.quotes.Quotes.TheVariants.{Both};
 ghost use Rattle.hesc_core.specs.Forms.{

@@ -1,8 +1,8 @@
 //! `decode_style`: each escaped opening of a style's body loses its `\`. So `<\!--` becomes `<!--`,
 //! and `<\/style`, in any case where the name ends, becomes `</style`.
 ghost use Rattle.std.specs.Borrow.{sem};
-ghost use Rattle.hesc_specs.specs.Bodies.{body_decoding};
-ghost use Rattle.hesc_specs.specs.BodyChanges.{body_decoding_changes};
+ghost use Rattle.hesc_specs.specs.Bodies.Encoding.{body_decoding};
+ghost use Rattle.hesc_specs.specs.Bodies.Changes.{body_decoding_changes};
 ghost use Rattle.hesc_specs.specs.declared.elements.Element.TheVariants.{Style};
 ghost use Rattle.hesc_core.specs.Forms.{
   AnswersPart,

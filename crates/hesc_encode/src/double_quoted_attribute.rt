@@ -1,7 +1,7 @@
 //! `encode_double_quoted_attribute`: `&`, `<`, `>` and `"` become `&amp;`, `&lt;`, `&gt;` and
 //! `&quot;`.
 ghost use Rattle.std.specs.Borrow.{sem};
-ghost use Rattle.hesc_specs.specs.Changes.{html_changes};
+ghost use Rattle.hesc_specs.specs.Text.Changes.{html_changes};
 ghost use Rattle.hesc_specs.specs.Html.{encoding};
 ghost use Rattle.hesc_core.specs.Forms.{
   AnswersPart,

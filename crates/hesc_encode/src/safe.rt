@@ -1,7 +1,7 @@
 //! `encode_safe`: `&`, `<`, `>`, `"`, `'` and `/` become `&amp;`, `&lt;`, `&gt;`, `&quot;`,
 //! `&#x27;` and `&#x2F;`.
 ghost use Rattle.std.specs.Borrow.{sem};
-ghost use Rattle.hesc_specs.specs.Changes.{html_changes};
+ghost use Rattle.hesc_specs.specs.Text.Changes.{html_changes};
 ghost use Rattle.hesc_specs.specs.Html.{encoding};
 ghost use Rattle.hesc_core.specs.Forms.{
   AnswersPart,

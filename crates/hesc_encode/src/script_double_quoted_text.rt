@@ -1,8 +1,8 @@
 //! `encode_script_double_quoted_text`: `\` and `"` get a `\` before them, C0 controls and `<`
 //! become `\xHH`, and U+2028 and U+2029 become `\u2028` and `\u2029`.
 ghost use Rattle.std.specs.Borrow.{sem};
-ghost use Rattle.hesc_specs.specs.StringChanges.{string_encoding_changes};
-ghost use Rattle.hesc_specs.specs.Strings.{string_encoding};
+ghost use Rattle.hesc_specs.specs.Strings.Changes.{string_encoding_changes};
+ghost use Rattle.hesc_specs.specs.Strings.Encoding.{string_encoding};
 ghost use Rattle.hesc_specs.specs.declared.elements.Element.TheVariants.{Script};
 ghost use Rattle.hesc_specs.specs.declared.quotes.Quotes.TheVariants.{Double};
 ghost use Rattle.hesc_core.specs.Forms.{

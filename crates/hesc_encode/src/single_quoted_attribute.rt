@@ -1,7 +1,7 @@
 //! `encode_single_quoted_attribute`: `&`, `<`, `>` and `'` become `&amp;`, `&lt;`, `&gt;` and
 //! `&#x27;`.
 ghost use Rattle.std.specs.Borrow.{sem};
-ghost use Rattle.hesc_specs.specs.Changes.{html_changes};
+ghost use Rattle.hesc_specs.specs.Text.Changes.{html_changes};
 ghost use Rattle.hesc_specs.specs.Html.{encoding};
 ghost use Rattle.hesc_core.specs.Forms.{
   AnswersPart,

@@ -1,8 +1,8 @@
 //! `encode_style`: a `\` goes into each opening of a style's body, behind its `<`. An opening is
 //! `<!--`, or `</style` in any case where the name ends.
 ghost use Rattle.std.specs.Borrow.{sem};
-ghost use Rattle.hesc_specs.specs.Bodies.{body_encoding};
-ghost use Rattle.hesc_specs.specs.BodyChanges.{body_encoding_changes};
+ghost use Rattle.hesc_specs.specs.Bodies.Encoding.{body_encoding};
+ghost use Rattle.hesc_specs.specs.Bodies.Changes.{body_encoding_changes};
 ghost use Rattle.hesc_specs.specs.declared.elements.Element.TheVariants.{Style};
 ghost use Rattle.hesc_core.specs.Forms.{
   AnswersPart,

@@ -1,8 +1,8 @@
 //! `encode_style_double_quoted_text`: `\` and `"` get a `\` before them, NUL becomes U+FFFD, and
 //! the other C0 controls and `<` become `\HH` and a space.
 ghost use Rattle.std.specs.Borrow.{sem};
-ghost use Rattle.hesc_specs.specs.StringChanges.{string_encoding_changes};
-ghost use Rattle.hesc_specs.specs.Strings.{string_encoding};
+ghost use Rattle.hesc_specs.specs.Strings.Changes.{string_encoding_changes};
+ghost use Rattle.hesc_specs.specs.Strings.Encoding.{string_encoding};
 ghost use Rattle.hesc_specs.specs.declared.elements.Element.TheVariants.{Style};
 ghost use Rattle.hesc_specs.specs.declared.quotes.Quotes.TheVariants.{Double};
 ghost use Rattle.hesc_core.specs.Forms.{

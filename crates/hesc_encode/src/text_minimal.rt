@@ -1,6 +1,6 @@
 //! `encode_text_minimal`: `&` and `<` become `&amp;` and `&lt;`.
 ghost use Rattle.std.specs.Borrow.{sem};
-ghost use Rattle.hesc_specs.specs.Changes.{html_changes};
+ghost use Rattle.hesc_specs.specs.Text.Changes.{html_changes};
 ghost use Rattle.hesc_specs.specs.Html.{encoding};
 ghost use Rattle.hesc_core.specs.Forms.{
   AnswersPart,

@@ -1,7 +1,7 @@
 //! `encode_unquoted_attribute`: each ASCII character that is no letter or digit becomes a
 //! reference: `&amp;`, `&lt;`, `&gt;`, `&quot;`, else its number, as `&#x20;`.
 ghost use Rattle.std.specs.Borrow.{sem};
-ghost use Rattle.hesc_specs.specs.Changes.{html_changes};
+ghost use Rattle.hesc_specs.specs.Text.Changes.{html_changes};
 ghost use Rattle.hesc_specs.specs.Html.{encoding};
 ghost use Rattle.hesc_core.specs.Forms.{
   AnswersPart,

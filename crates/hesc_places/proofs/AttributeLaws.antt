@@ -6,7 +6,7 @@ use Rattle.std.specs.Prelude.{⊤, IsTrue}
 use Rattle.std.proofs.Math.Seq.{drop-append_seam}
 use Rattle.std.proofs.lemmas.Bool.{and_parts}
 use Rattle.std.proofs.lemmas.Bool.Decides.{nat_tests}
-use Rattle.hesc_specs.specs.Ascii.{space, double_quote, single_quote, equals_sign}
+use Rattle.hesc_specs.specs.Text.Ascii.{space, double_quote, single_quote, equals_sign}
 use Rattle.hesc_specs.specs.Html.{encoding}
 use Rattle.hesc_specs.specs.declared.classes.Class.TheVariants as class
 use Rattle.hesc_places.specs.declared.places.End.TheVariants.{Space}

@@ -4,14 +4,14 @@ use Rattle.std.proofs.lemmas.Bool.{cases_eq, cases_Bool, and_parts, eqb-true}
 use Rattle.std.proofs.lemmas.Bool.Decides.{nat_tests}
 use Rattle.std.specs.Char.{to_ascii_lowercase}
 use Rattle.std.specs.Prelude.{codes}
-use Rattle.hesc_specs.specs.Ascii.{slash, less_than, backslash}
-use Rattle.hesc_specs.specs.Bodies.{body_encoding}
-use Rattle.hesc_specs.specs.Elements.{element_name}
-use Rattle.hesc_specs.specs.Openings.{ends_name, completes_opening, is_opening}
-use Rattle.hesc_specs.specs.Words.{begins, begins_in_any_case}
+use Rattle.hesc_specs.specs.Text.Ascii.{slash, less_than, backslash}
+use Rattle.hesc_specs.specs.Bodies.Encoding.{body_encoding}
+use Rattle.hesc_specs.specs.Text.Elements.{element_name}
+use Rattle.hesc_specs.specs.Bodies.Openings.{ends_name, completes_opening, is_opening}
+use Rattle.hesc_specs.specs.Text.Words.{begins, begins_in_any_case}
 use Rattle.hesc_specs.specs.declared.elements.Element.{Element}
 use Rattle.hesc_specs.specs.declared.elements.Element.TheVariants.{Script, Style}
-use Rattle.hesc_specs.proofs.OpeningLemmas.{HasNoLessThan, name-no_less_than}
+use Rattle.hesc_specs.proofs.Bodies.Openings.{HasNoLessThan, name-no_less_than}
 use Rattle.hesc_places.specs.declared.grammar.Mode.{Mode}
 use Rattle.hesc_places.specs.declared.grammar.Mode.TheVariants.{Plain}
 use Rattle.hesc_places.specs.declared.grammar.Step.{Step}

@@ -2,8 +2,8 @@
 use Rattle.std.proofs.Common.{ℕ, ◌≡◌, ◌<◌, Bool, true, false, ◌||◌, ◌==◌, nat_lt, sym, ◌∙◌, ap, arith, ne_eqb}
 use Rattle.std.proofs.lemmas.Bool.{or_parts, true≢false}
 use Rattle.std.proofs.lemmas.Bool.Decides.{nat_tests}
-use Rattle.hesc_specs.specs.Ascii.{backslash, less_than}
-use Rattle.hesc_specs.specs.Strings.{is_escaped, is_quote, is_separator}
+use Rattle.hesc_specs.specs.Text.Ascii.{backslash, less_than}
+use Rattle.hesc_specs.specs.Strings.Encoding.{is_escaped, is_quote, is_separator}
 use Rattle.hesc_specs.specs.declared.elements.Element.{Element}
 use Rattle.hesc_specs.specs.declared.quotes.Quotes.{Quotes}
 

@@ -2,7 +2,7 @@
 use Rattle.std.proofs.Common.{ℕ, zero, suc, ◌≡◌, ◌<◌, ◌+◌, Bool, true, false, List, [], ◌∷◌, Some, None, length, refl, ap, ◌∙◌, add-zero, arith}
 use Rattle.std.specs.List.{position_from}
 use Rattle.std.specs.Prelude.{slice_index}
-use Rattle.hesc_specs.specs.FirstPlace.{IsFirstPlace}
+use Rattle.hesc_specs.specs.Text.FirstPlace.{IsFirstPlace}
 
 found_from : (test : ℕ → Bool) (i : ℕ) (bytes : List ℕ) (n : ℕ) → n < length bytes →
     ((k : ℕ) → k < n → test (slice_index bytes k) ≡ false) → test (slice_index bytes n) ≡ true →

@@ -2,7 +2,7 @@
 use Rattle.std.proofs.Common.{ℕ, ◌≡◌, ◌+◌, true, false, ◌&&◌, List, [], ◌∷◌, ◌==◌, nat_eq, Option, Some, None, Bor, take, drop, length, refl, sym, ap, ◌∙◌}
 use Rattle.std.specs.Option.{MatchOption, option_map}
 use Rattle.std.specs.Cmp.Lexicographic.{pointwise}
-use Rattle.hesc_specs.specs.Words.{begins}
+use Rattle.hesc_specs.specs.Text.Words.{begins}
 use Rattle.hesc_places.specs.Parsers.{past}
 
 begins-pointwise : (word bytes : List ℕ) → pointwise nat_eq (take (length word) bytes) word ≡ begins word bytes

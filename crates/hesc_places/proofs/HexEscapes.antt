@@ -3,8 +3,8 @@ use Rattle.std.proofs.Common.{ℕ, ◌≡◌, ◌<◌, ◌/◌, ◌%◌, true, L
 use Rattle.std.specs.Char.{is_digit}
 use Rattle.std.specs.Str.Parse.{digits_value}
 use Rattle.std.proofs.lemmas.Bool.{lt-ltb}
-use Rattle.hesc_specs.specs.HexDigits.{hex_digit}
-use Rattle.hesc_specs.proofs.HexDigits.{digit_value-hex_digit}
+use Rattle.hesc_specs.specs.Text.HexDigits.{hex_digit}
+use Rattle.hesc_specs.proofs.Text.HexDigits.{digit_value-hex_digit}
 
 pub is_digit-hex_digit : (d : ℕ) → d < 16 → is_digit (hex_digit d) 16 ≡ true
 is_digit-hex_digit d small = rw (digit_value-hex_digit d small) (lt-ltb d 16 small)

@@ -3,12 +3,12 @@
 use Rattle.std.proofs.Common.{ℕ, ◌≡◌, ◌<◌, true, false, List, [], ◌∷◌, ◌++◌, ◌==◌, if◌then◌else◌, length, flat_map, encode_utf8, refl, ⊎_elim, append_assoc, length-append}
 use Rattle.std.proofs.lemmas.Bool.{cases_Bool}
 use Rattle.std.proofs.lemmas.Str.{encode_ascii}
-use Rattle.hesc_specs.specs.Ascii.{ampersand, semicolon}
-use Rattle.hesc_specs.specs.Classes.{in_class, IsHtml}
+use Rattle.hesc_specs.specs.Text.Ascii.{ampersand, semicolon}
+use Rattle.hesc_specs.specs.Text.Classes.{in_class, IsHtml}
 use Rattle.hesc_specs.specs.Html.{encoding, image, reference_to}
-use Rattle.hesc_specs.specs.Nul.{nul_image}
+use Rattle.hesc_specs.specs.Text.Nul.{nul_image}
 use Rattle.hesc_specs.specs.declared.classes.Class.{Class}
-use Rattle.hesc_specs.proofs.HtmlImages.{in_class_is_ascii}
+use Rattle.hesc_specs.proofs.Html.Images.{in_class_is_ascii}
 use Rattle.hesc_places.specs.declared.grammar.Mode.{Mode}
 use Rattle.hesc_places.specs.declared.grammar.Mode.TheVariants.{Plain}
 use Rattle.hesc_places.specs.declared.grammar.Step.{Step}

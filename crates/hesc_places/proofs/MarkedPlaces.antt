@@ -1,11 +1,11 @@
 -- Text and quoted values: the encoding of a class that has the mark is read up to the mark.
 use Rattle.std.proofs.Common.{ℕ, ◌≡◌, true, false, List, [], ◌∷◌, ◌++◌, ◌==◌, Some, length, flat_map, refl, eq-eqb, ne_eqb}
-use Rattle.hesc_specs.specs.Ascii.{ampersand}
-use Rattle.hesc_specs.specs.Classes.{in_class, IsHtml}
+use Rattle.hesc_specs.specs.Text.Ascii.{ampersand}
+use Rattle.hesc_specs.specs.Text.Classes.{in_class, IsHtml}
 use Rattle.hesc_specs.specs.Html.{encoding}
-use Rattle.hesc_specs.specs.Nul.{nul}
+use Rattle.hesc_specs.specs.Text.Nul.{nul}
 use Rattle.hesc_specs.specs.declared.classes.Class.{Class}
-use Rattle.hesc_specs.proofs.HtmlImages.{in_class-ampersand, kept_is_other}
+use Rattle.hesc_specs.proofs.Html.Images.{in_class-ampersand, kept_is_other}
 use Rattle.hesc_places.specs.declared.grammar.Mode.TheVariants.{Plain}
 use Rattle.hesc_places.specs.HtmlReadings.{marked_step}
 use Rattle.hesc_places.specs.Reading.{reading_after}

@@ -5,7 +5,7 @@ use Rattle.std.specs.List.{prefix_len}
 use Rattle.std.specs.Option.{option_or}
 use Rattle.std.proofs.lemmas.Bool.{cases_Bool}
 use Rattle.std.proofs.lemmas.Bool.Decides.{nat_tests}
-use Rattle.hesc_specs.specs.Ascii.{slash, greater_than}
+use Rattle.hesc_specs.specs.Text.Ascii.{slash, greater_than}
 use Rattle.hesc_places.specs.AttributeReadings.{Entry, attribute_at}
 use Rattle.hesc_places.specs.FormReadings.{tag_end}
 use Rattle.hesc_places.specs.Parsers.{past, past_while}

@@ -1,6 +1,6 @@
 -- The law of pages: a page's text is that of a form with two attributes, and so is read back.
 use Rattle.std.proofs.Common.{ℕ, ◌≡◌, ◌≢◌, List, [], ◌∷◌, ◌++◌, Some, IsUtf8, codes, length, refl, sym, ap, ◌∙◌, append_assoc, append-nil}
-use Rattle.hesc_specs.specs.Nul.{nul}
+use Rattle.hesc_specs.specs.Text.Nul.{nul}
 use Rattle.html_escape.specs.declared.encoder.Encoder.TheVariants.{UnquotedAttribute}
 use Rattle.html_escape.specs.Encoders.{encoded}
 use Rattle.hesc_places.specs.declared.quoting.Quoting.TheVariants.{Unquoted, Double}

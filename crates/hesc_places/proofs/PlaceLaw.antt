@@ -1,6 +1,6 @@
 -- The law of places, pair by pair from the laws of the grammars.
 use Rattle.std.proofs.Common.{ℕ, ◌≡◌, true, List, ◌++◌, Some, IsUtf8, length, refl}
-use Rattle.hesc_specs.specs.Ascii.{double_quote, single_quote, less_than}
+use Rattle.hesc_specs.specs.Text.Ascii.{double_quote, single_quote, less_than}
 use Rattle.hesc_specs.specs.declared.classes.Class.TheVariants as class
 use Rattle.hesc_specs.specs.declared.elements.Element.TheVariants as element
 use Rattle.hesc_specs.specs.declared.quotes.Quotes.TheVariants.{Single, Double, Both}

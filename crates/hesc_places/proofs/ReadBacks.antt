@@ -1,10 +1,10 @@
 -- What the images of a whole text are read as.
 use Rattle.std.proofs.Common.{ℕ, ◌≡◌, ◌≢◌, true, false, List, [], ◌∷◌, flat_map, refl, sym, ⊎_elim, ne_eqb}
 use Rattle.std.proofs.lemmas.Bool.{cases_Bool}
-use Rattle.hesc_specs.specs.Classes.{in_class}
-use Rattle.hesc_specs.specs.Nul.{nul, nul_image}
+use Rattle.hesc_specs.specs.Text.Classes.{in_class}
+use Rattle.hesc_specs.specs.Text.Nul.{nul, nul_image}
 use Rattle.hesc_specs.specs.declared.classes.Class.{Class}
-use Rattle.hesc_specs.proofs.HtmlImages.{kept_is_other}
+use Rattle.hesc_specs.proofs.Html.Images.{kept_is_other}
 use Rattle.hesc_places.proofs.HtmlPieces.{read_image}
 
 nul_image-other : (b : ℕ) → b ≢ 0 → nul_image b ≡ b ∷ []

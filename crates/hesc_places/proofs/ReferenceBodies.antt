@@ -3,7 +3,7 @@ use Rattle.std.proofs.Common.{ℕ, ◌≡◌, ◌+◌, Bool, true, false, not, L
 use Rattle.std.specs.List.{list_all, position_from}
 use Rattle.std.proofs.Math.Seq.{take-append_seam}
 use Rattle.std.proofs.lemmas.Bool.{and_parts}
-use Rattle.hesc_specs.specs.Ascii.{semicolon}
+use Rattle.hesc_specs.specs.Text.Ascii.{semicolon}
 use Rattle.hesc_places.specs.References.{reference, body_character, character_or_nothing}
 
 -- no byte is a `;`

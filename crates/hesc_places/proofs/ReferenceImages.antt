@@ -4,9 +4,9 @@ use Rattle.std.specs.List.{list_all}
 use Rattle.std.proofs.lemmas.Bool.{and_parts, eqb-true}
 use Rattle.std.proofs.lemmas.Bool.Decides.{Decides-below_and}
 use Rattle.std.proofs.lemmas.Slice.Eq.{bytes_eq-Decides}
-use Rattle.hesc_specs.specs.Ascii.{ampersand, semicolon}
+use Rattle.hesc_specs.specs.Text.Ascii.{ampersand, semicolon}
 use Rattle.hesc_specs.specs.Html.{reference_to}
-use Rattle.hesc_specs.specs.Nul.{replacement_character}
+use Rattle.hesc_specs.specs.Text.Nul.{replacement_character}
 use Rattle.hesc_places.specs.References.{body_character}
 use Rattle.hesc_places.proofs.ReferenceBodies.{HasNoSemicolon}
 

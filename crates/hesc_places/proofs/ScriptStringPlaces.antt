@@ -4,9 +4,9 @@ use Rattle.std.proofs.Math.Nat.{div-div-eq-div-mul}
 use Rattle.std.proofs.lemmas.Bool.{cases_Bool, cases_eq, lt-leb}
 use Rattle.std.proofs.lemmas.Bool.Decides.{nat_tests}
 use Rattle.std.proofs.lemmas.Str.{encodes-chars}
-use Rattle.hesc_specs.specs.Ascii.{backslash, line_feed, carriage_return, lower_x}
-use Rattle.hesc_specs.specs.Strings.{is_escaped, is_mark, is_quote, line_separator, paragraph_separator, string_encoding, string_escape, string_image}
-use Rattle.hesc_specs.specs.Words.{begins}
+use Rattle.hesc_specs.specs.Text.Ascii.{backslash, line_feed, carriage_return, lower_x}
+use Rattle.hesc_specs.specs.Strings.Encoding.{is_escaped, is_mark, is_quote, line_separator, paragraph_separator, string_encoding, string_escape, string_image}
+use Rattle.hesc_specs.specs.Text.Words.{begins}
 use Rattle.hesc_specs.specs.declared.elements.Element.TheVariants.{Script}
 use Rattle.hesc_specs.specs.declared.quotes.Quotes.{Quotes}
 use Rattle.hesc_places.specs.declared.grammar.Mode.TheVariants.{Plain}

@@ -1,12 +1,12 @@
 -- The script of a form's text is read back, whatever follows it.
 use Rattle.std.proofs.Common.{ℕ, suc, ◌≡◌, ◌≢◌, List, [], ◌∷◌, ◌++◌, Some, IsUtf8, codes, length, refl, sym, ap, ◌∙◌, arith, append_assoc, ne_eqb}
 use Rattle.std.proofs.Math.Seq.{drop-append_seam}
-use Rattle.hesc_specs.specs.Ascii.{single_quote, space, less_than}
-use Rattle.hesc_specs.specs.Bodies.{body_encoding}
-use Rattle.hesc_specs.specs.Strings.{IsPlain, string_encoding}
+use Rattle.hesc_specs.specs.Text.Ascii.{single_quote, space, less_than}
+use Rattle.hesc_specs.specs.Bodies.Encoding.{body_encoding}
+use Rattle.hesc_specs.specs.Strings.Encoding.{IsPlain, string_encoding}
 use Rattle.hesc_specs.specs.declared.elements.Element.TheVariants.{Script}
 use Rattle.hesc_specs.specs.declared.quotes.Quotes.TheVariants as quotes
-use Rattle.hesc_specs.proofs.PlainStrings.{plain-string_encoding}
+use Rattle.hesc_specs.proofs.Strings.Plain.{plain-string_encoding}
 use Rattle.hesc_places.specs.declared.places.Place.TheVariants.{ScriptBody}
 use Rattle.hesc_places.specs.declared.quoting.Quoting.{Quoting}
 use Rattle.hesc_places.specs.declared.quoting.Quoting.TheVariants.{Unquoted, Single, Double}

@@ -4,10 +4,10 @@ use Rattle.std.proofs.Math.Utf8.{encodes}
 use Rattle.std.proofs.lemmas.Bool.{cases_Bool, cases_eq, lt-leb, le-ltb}
 use Rattle.std.proofs.lemmas.Bool.Decides.{nat_tests}
 use Rattle.std.proofs.lemmas.Str.{encode_ascii}
-use Rattle.hesc_specs.specs.Ascii.{space, backslash, line_feed, form_feed, carriage_return}
-use Rattle.hesc_specs.specs.Nul.{nul, replacement_character}
-use Rattle.hesc_specs.specs.Strings.{is_escaped, is_mark, is_quote, string_encoding, string_escape, string_image}
-use Rattle.hesc_specs.proofs.NulCharacters.{nul_character, nul-chars}
+use Rattle.hesc_specs.specs.Text.Ascii.{space, backslash, line_feed, form_feed, carriage_return}
+use Rattle.hesc_specs.specs.Text.Nul.{nul, replacement_character}
+use Rattle.hesc_specs.specs.Strings.Encoding.{is_escaped, is_mark, is_quote, string_encoding, string_escape, string_image}
+use Rattle.hesc_specs.proofs.Text.NulCharacters.{nul_character, nul-chars}
 use Rattle.hesc_specs.specs.declared.elements.Element.TheVariants.{Style}
 use Rattle.hesc_specs.specs.declared.quotes.Quotes.{Quotes}
 use Rattle.hesc_places.specs.declared.grammar.Mode.TheVariants.{Plain}

@@ -4,11 +4,11 @@ use Rattle.std.specs.List.{list_all}
 use Rattle.std.proofs.lemmas.Bool.{and_parts, cases_Bool}
 use Rattle.std.proofs.lemmas.Bool.Decides.{nat_tests}
 use Rattle.std.proofs.lemmas.List.Folds.{list_all-append}
-use Rattle.hesc_specs.specs.Ascii.{tab, line_feed, form_feed, space, double_quote, single_quote, greater_than}
-use Rattle.hesc_specs.specs.Classes.{in_class}
+use Rattle.hesc_specs.specs.Text.Ascii.{tab, line_feed, form_feed, space, double_quote, single_quote, greater_than}
+use Rattle.hesc_specs.specs.Text.Classes.{in_class}
 use Rattle.hesc_specs.specs.Html.{encoding, image, reference_to}
 use Rattle.hesc_specs.specs.declared.classes.Class.TheVariants.{UnquotedAttribute}
-use Rattle.hesc_specs.proofs.HtmlImages.{in_class_is_ascii}
+use Rattle.hesc_specs.proofs.Html.Images.{in_class_is_ascii}
 use Rattle.hesc_places.specs.AttributeReadings.{ending, first_ending}
 use Rattle.hesc_places.specs.HtmlReadings.{ends_unquoted}
 use Rattle.hesc_places.proofs.ReferenceImages.{passes_below, passes_each}

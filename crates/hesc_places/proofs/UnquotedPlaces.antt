@@ -1,12 +1,12 @@
 -- Unquoted values: the encoding of a text that is not empty is read up to the ending.
 use Rattle.std.proofs.Common.{ℕ, ◌≡◌, ◌≢◌, true, false, List, [], ◌∷◌, ◌++◌, ◌==◌, Some, length, flat_map, refl, ⊎_elim, arith, ne_eqb}
 use Rattle.std.proofs.lemmas.Bool.{cases_Bool}
-use Rattle.hesc_specs.specs.Ascii.{tab, line_feed, form_feed, space, double_quote, ampersand, single_quote, less_than, equals_sign, greater_than, backtick}
-use Rattle.hesc_specs.specs.Classes.{in_class}
+use Rattle.hesc_specs.specs.Text.Ascii.{tab, line_feed, form_feed, space, double_quote, ampersand, single_quote, less_than, equals_sign, greater_than, backtick}
+use Rattle.hesc_specs.specs.Text.Classes.{in_class}
 use Rattle.hesc_specs.specs.Html.{encoding}
-use Rattle.hesc_specs.specs.Nul.{nul}
+use Rattle.hesc_specs.specs.Text.Nul.{nul}
 use Rattle.hesc_specs.specs.declared.classes.Class.TheVariants.{UnquotedAttribute}
-use Rattle.hesc_specs.proofs.HtmlImages.{in_class_is_ascii, kept_is_other}
+use Rattle.hesc_specs.proofs.Html.Images.{in_class_is_ascii, kept_is_other}
 use Rattle.hesc_places.specs.declared.grammar.Mode.TheVariants.{Empty, Plain}
 use Rattle.hesc_places.specs.declared.places.End.{End}
 use Rattle.hesc_places.specs.declared.places.End.TheVariants.{Tab, LineFeed, FormFeed, Space, Greater}

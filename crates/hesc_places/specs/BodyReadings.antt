@@ -2,7 +2,7 @@
 -- HTML Standard, 13.2.5.3 RAWTEXT state and 13.2.5.12 to 13.2.5.14, which it leads to, and 13.2.5.4
 -- Script data state and 13.2.5.15 to 13.2.5.31, with one case for each position and mode.
 use Rattle.std.specs.Prelude.{ℕ, Bool, false, List, [], ◌∷◌, if◌then◌else◌, codes}
-use Rattle.hesc_specs.specs.Words.{begins}
+use Rattle.hesc_specs.specs.Text.Words.{begins}
 use Rattle.hesc_specs.specs.declared.elements.Element.TheVariants.{Script, Style}
 use Rattle.hesc_places.specs.declared.grammar.Mode.{Mode}
 use Rattle.hesc_places.specs.declared.grammar.Mode.TheVariants.{Plain, Escaped, DoubleEscaped}

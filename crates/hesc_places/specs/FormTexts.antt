@@ -2,8 +2,8 @@
 use Rattle.std.specs.Prelude.{◌≢◌, ⊤, ℕ, Bool, false, IsTrue, List, [], ◌∷◌, ◌++◌, codes, length, map}
 use Rattle.std.specs.Char.{is_ascii_lowercase}
 use Rattle.std.specs.List.{flat_map, list_all, AllByRecursion}
-use Rattle.hesc_specs.specs.Ascii.{space, double_quote, single_quote, equals_sign}
-use Rattle.hesc_specs.specs.Nul.{nul}
+use Rattle.hesc_specs.specs.Text.Ascii.{space, double_quote, single_quote, equals_sign}
+use Rattle.hesc_specs.specs.Text.Nul.{nul}
 use Rattle.html_escape.specs.declared.encoder.Encoder.TheVariants as encoder
 use Rattle.html_escape.specs.Encoders.{encoded}
 use Rattle.hesc_places.specs.declared.attribute.Attribute.{Attribute}

@@ -4,7 +4,7 @@
 -- an unquoted value ends at the one byte that its place names, and the bytes that the standard calls
 -- errors in it have no reading.
 use Rattle.std.specs.Prelude.{ℕ, Bool, true, false, ◌&&◌, ◌||◌, List, [], ◌∷◌, ◌==◌, if◌then◌else◌}
-use Rattle.hesc_specs.specs.Ascii.{double_quote, ampersand, single_quote, less_than, equals_sign, greater_than, backtick}
+use Rattle.hesc_specs.specs.Text.Ascii.{double_quote, ampersand, single_quote, less_than, equals_sign, greater_than, backtick}
 use Rattle.hesc_places.specs.declared.grammar.Mode.{Mode}
 use Rattle.hesc_places.specs.declared.grammar.Mode.TheVariants.{Empty, Plain}
 use Rattle.hesc_places.specs.declared.grammar.Step.{Step}

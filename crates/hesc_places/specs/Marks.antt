@@ -1,6 +1,6 @@
 -- The opening and closing marks of the places.
 use Rattle.std.specs.Prelude.{ℕ, List, [], ◌∷◌, codes}
-use Rattle.hesc_specs.specs.Ascii.{tab, line_feed, form_feed, space, double_quote, single_quote, less_than, equals_sign, greater_than}
+use Rattle.hesc_specs.specs.Text.Ascii.{tab, line_feed, form_feed, space, double_quote, single_quote, less_than, equals_sign, greater_than}
 use Rattle.hesc_places.specs.declared.places.End.{End}
 use Rattle.hesc_places.specs.declared.places.End.TheVariants.{Tab, LineFeed, FormFeed, Space, Greater}
 use Rattle.hesc_places.specs.declared.places.Place.{Place}

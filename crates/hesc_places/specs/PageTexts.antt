@@ -1,7 +1,7 @@
 -- The text of a page: an input with a value and a placeholder, and a script that shows a text.
 use Rattle.std.specs.Prelude.{ℕ, List, [], ◌∷◌, ◌++◌, codes, length}
-use Rattle.hesc_specs.specs.Ascii.{double_quote}
-use Rattle.hesc_specs.specs.Nul.{nul}
+use Rattle.hesc_specs.specs.Text.Ascii.{double_quote}
+use Rattle.hesc_specs.specs.Text.Nul.{nul}
 use Rattle.html_escape.specs.declared.encoder.Encoder.TheVariants.{UnquotedAttribute, DoubleQuotedAttribute}
 use Rattle.html_escape.specs.Encoders.{encoded}
 use Rattle.hesc_places.specs.FormTexts.{script_text}

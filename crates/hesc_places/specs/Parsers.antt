@@ -1,7 +1,7 @@
 -- What stands at the front of bytes, and the bytes behind it, where it stands there.
 use Rattle.std.specs.Prelude.{ℕ, Bool, true, List, ◌==◌, Option, Some, None, if◌then◌else◌, length, take, drop}
 use Rattle.std.specs.List.{prefix_len}
-use Rattle.hesc_specs.specs.Words.{begins, begins_in_any_case}
+use Rattle.hesc_specs.specs.Text.Words.{begins, begins_in_any_case}
 
 infixl 10 ◌>>=◌
 -- one part, and what is read behind it

@@ -1,6 +1,6 @@
 -- The grammar of each place, and its reading.
 use Rattle.std.specs.Prelude.{ℕ, List, Option}
-use Rattle.hesc_specs.specs.Ascii.{double_quote, single_quote, less_than}
+use Rattle.hesc_specs.specs.Text.Ascii.{double_quote, single_quote, less_than}
 use Rattle.hesc_specs.specs.declared.elements.Element.{Element}
 use Rattle.hesc_specs.specs.declared.elements.Element.TheVariants.{Script, Style}
 use Rattle.hesc_places.specs.declared.grammar.Mode.{Mode}

@@ -1,7 +1,7 @@
 -- What is read where an encoder wrote a text.
 use Rattle.std.specs.Prelude.{ℕ, List}
-use Rattle.hesc_specs.specs.Bodies.{body_encoding}
-use Rattle.hesc_specs.specs.Nul.{nul}
+use Rattle.hesc_specs.specs.Bodies.Encoding.{body_encoding}
+use Rattle.hesc_specs.specs.Text.Nul.{nul}
 use Rattle.hesc_specs.specs.declared.elements.Element.TheVariants as element
 use Rattle.html_escape.specs.declared.encoder.Encoder.{Encoder}
 use Rattle.html_escape.specs.declared.encoder.Encoder.TheVariants.{UnquotedAttribute, StyleSingleQuoted, StyleDoubleQuoted, StyleQuoted, Script, Style}

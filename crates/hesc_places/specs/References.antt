@@ -8,9 +8,9 @@ use Rattle.std.specs.Char.{is_digit}
 use Rattle.std.specs.Int.{is_in_range}
 use Rattle.std.specs.List.{list_all, position_from}
 use Rattle.std.specs.Str.Parse.{digits_value}
-use Rattle.hesc_specs.specs.Ascii.{ampersand, semicolon, less_than, greater_than, double_quote, single_quote}
-use Rattle.hesc_specs.specs.Nul.{replacement_character}
-use Rattle.hesc_specs.specs.Words.{begins}
+use Rattle.hesc_specs.specs.Text.Ascii.{ampersand, semicolon, less_than, greater_than, double_quote, single_quote}
+use Rattle.hesc_specs.specs.Text.Nul.{replacement_character}
+use Rattle.hesc_specs.specs.Text.Words.{begins}
 use Rattle.hesc_places.specs.declared.grammar.Mode.TheVariants.{Plain}
 use Rattle.hesc_places.specs.declared.grammar.Step.{Step}
 use Rattle.hesc_places.specs.declared.grammar.Step.TheVariants.{Character, Nothing}

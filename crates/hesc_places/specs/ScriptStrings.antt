@@ -7,8 +7,8 @@ use Rattle.std.specs.Char.{is_digit}
 use Rattle.std.specs.Int.{is_in_range}
 use Rattle.std.specs.List.{list_all}
 use Rattle.std.specs.Str.Parse.{digits_value}
-use Rattle.hesc_specs.specs.Ascii.{tab, line_feed, form_feed, carriage_return, double_quote, single_quote, backslash, lower_x}
-use Rattle.hesc_specs.specs.Words.{begins}
+use Rattle.hesc_specs.specs.Text.Ascii.{tab, line_feed, form_feed, carriage_return, double_quote, single_quote, backslash, lower_x}
+use Rattle.hesc_specs.specs.Text.Words.{begins}
 use Rattle.hesc_places.specs.declared.grammar.Mode.{Mode}
 use Rattle.hesc_places.specs.declared.grammar.Mode.TheVariants.{Plain}
 use Rattle.hesc_places.specs.declared.grammar.Step.{Step}

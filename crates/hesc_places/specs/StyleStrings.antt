@@ -7,8 +7,8 @@ use Rattle.std.specs.Char.{is_digit}
 use Rattle.std.specs.Int.{is_in_range}
 use Rattle.std.specs.List.{take_while}
 use Rattle.std.specs.Str.Parse.{digits_value}
-use Rattle.hesc_specs.specs.Ascii.{tab, line_feed, form_feed, carriage_return, space, backslash}
-use Rattle.hesc_specs.specs.Nul.{replacement_character}
+use Rattle.hesc_specs.specs.Text.Ascii.{tab, line_feed, form_feed, carriage_return, space, backslash}
+use Rattle.hesc_specs.specs.Text.Nul.{replacement_character}
 use Rattle.hesc_places.specs.declared.grammar.Mode.{Mode}
 use Rattle.hesc_places.specs.declared.grammar.Mode.TheVariants.{Plain}
 use Rattle.hesc_places.specs.declared.grammar.Step.{Step}

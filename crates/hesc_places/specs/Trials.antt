@@ -1,7 +1,7 @@
 -- The text on which an encoder that does not suit a place is found out there.
 use Rattle.std.specs.Prelude.{◌≡◌, ℕ, List, [], ◌∷◌, ◌++◌, Some, codes, length}
-use Rattle.hesc_specs.specs.Ascii.{space, double_quote, ampersand, single_quote, less_than}
-use Rattle.hesc_specs.specs.Bodies.{body_encoding}
+use Rattle.hesc_specs.specs.Text.Ascii.{space, double_quote, ampersand, single_quote, less_than}
+use Rattle.hesc_specs.specs.Bodies.Encoding.{body_encoding}
 use Rattle.hesc_specs.specs.declared.elements.Element.TheVariants as element
 use Rattle.html_escape.specs.declared.encoder.Encoder.{Encoder}
 use Rattle.html_escape.specs.Encoders.{encoded}

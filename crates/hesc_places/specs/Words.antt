@@ -1,8 +1,8 @@
 -- What bytes begin with, in the terms of the grammars.
 use Rattle.std.specs.Prelude.{ℕ, Bool, false, ◌||◌, List, [], ◌∷◌, ◌==◌}
-use Rattle.hesc_specs.specs.Ascii.{tab, line_feed, form_feed, space, slash, less_than, greater_than}
-use Rattle.hesc_specs.specs.Elements.{element_name}
-use Rattle.hesc_specs.specs.Words.{begins_in_any_case}
+use Rattle.hesc_specs.specs.Text.Ascii.{tab, line_feed, form_feed, space, slash, less_than, greater_than}
+use Rattle.hesc_specs.specs.Text.Elements.{element_name}
+use Rattle.hesc_specs.specs.Text.Words.{begins_in_any_case}
 use Rattle.hesc_specs.specs.declared.elements.Element.{Element}
 
 -- white space of HTML

@@ -1,6 +1,6 @@
 //! The laws of places: each is a function that does nothing and whose contract is the law.
 ghost use Rattle.std.specs.Prelude.{◌≡◌, ◌≢◌, ◌↔◌, ◌++◌, false, length, map, IsTrue, None, Some};
-ghost use Rattle.hesc_specs.specs.Bodies.{body_encoding};
+ghost use Rattle.hesc_specs.specs.Bodies.Encoding.{body_encoding};
 ghost use Rattle.html_escape.specs.Encoders.{encoded};
 ghost use Rattle.hesc_places.specs.FormFaults.{first_fault};
 ghost use Rattle.hesc_places.specs.FormReadings.{form_reading};

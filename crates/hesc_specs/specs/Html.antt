@@ -1,9 +1,9 @@
 -- The HTML maps: what each HTML encoder writes for a byte, and so for a text.
 use Rattle.std.specs.Prelude.{ℕ, ◌/◌, ◌%◌, List, [], ◌∷◌, ◌++◌, ◌==◌, if◌then◌else◌, codes}
 use Rattle.std.specs.List.{flat_map}
-use Rattle.hesc_specs.specs.Ascii.{ampersand, less_than, greater_than, double_quote, semicolon}
-use Rattle.hesc_specs.specs.Classes.{in_class}
-use Rattle.hesc_specs.specs.HexDigits.{hex_digit}
+use Rattle.hesc_specs.specs.Text.Ascii.{ampersand, less_than, greater_than, double_quote, semicolon}
+use Rattle.hesc_specs.specs.Text.Classes.{in_class}
+use Rattle.hesc_specs.specs.Text.HexDigits.{hex_digit}
 use Rattle.hesc_specs.specs.declared.classes.Class.{Class}
 
 -- the reference to a byte by its number, in two hex digits

@@ -1,7 +1,7 @@
 -- What a command answers to an input: its text, or the first refusal that applies.
 use Rattle.std.specs.Prelude.{◌≡◌, ℕ, Bool, true, false, if◌then◌else◌, List, [], ◌∷◌, map, Option, Some, None, Result, Ok, Err}
 use Rattle.std.specs.Str.{IsUtf8}
-use Rattle.hesc_specs.specs.Bodies.{body_encoding}
+use Rattle.hesc_specs.specs.Bodies.Encoding.{body_encoding}
 use Rattle.html_escape.specs.Operations.{operation_text}
 use Rattle.html_escape.specs.declared.encoder.Encoder.{Encoder}
 use Rattle.hesc_places.specs.AttributeReadings.{Entry}

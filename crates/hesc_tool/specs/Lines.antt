@@ -1,7 +1,7 @@
 -- The lines in which what is read from a page or a form is written.
 use Rattle.std.specs.Prelude.{ℕ, List, [], ◌∷◌, ◌++◌, decimal, length}
 use Rattle.std.specs.List.{flat_map}
-use Rattle.hesc_specs.specs.Ascii.{line_feed, space}
+use Rattle.hesc_specs.specs.Text.Ascii.{line_feed, space}
 use Rattle.hesc_places.specs.AttributeReadings.{Entry}
 use Rattle.hesc_places.specs.FormReadings.{FormRead}
 use Rattle.hesc_places.specs.PageReadings.{PageRead}

@@ -8,8 +8,8 @@ use Rattle.std.specs.declared.io.Error.{Error}
 use Rattle.std.specs.declared.io.ErrorKind.{ErrorKind}
 use Rattle.std.specs.declared.io.ErrorKind.TheVariants.{OutOfMemory}
 use Rattle.std.specs.declared.vec.IntoIter.{IntoIter}
-use Rattle.hesc_specs.specs.Ascii.{line_feed}
-use Rattle.hesc_specs.specs.Beginning.{AppendsBeginning}
+use Rattle.hesc_specs.specs.Text.Ascii.{line_feed}
+use Rattle.hesc_specs.specs.Text.Beginning.{AppendsBeginning}
 use Rattle.hesc_tool.specs.Faults.{line_of, status_of}
 use Rattle.hesc_tool.specs.Run.{RanAs}
 use Rattle.hesc_tool.specs.declared.faults.Fault.{Fault}

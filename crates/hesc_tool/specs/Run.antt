@@ -1,7 +1,7 @@
 -- What a run of the tool reads, writes and answers.
 use Rattle.std.specs.Prelude.{◌≡◌, ℕ, List, Option, Result, Ok, Err}
 use Rattle.std.specs.Io.KnownBytes.{Appends, Keeps}
-use Rattle.hesc_specs.specs.Beginning.{AppendsBeginning}
+use Rattle.hesc_specs.specs.Text.Beginning.{AppendsBeginning}
 use Rattle.hesc_tool.specs.Answers.{Answers}
 use Rattle.hesc_tool.specs.Commands.{NamesCommand, NamesNoCommand, ReadsInput, words_of}
 use Rattle.hesc_tool.specs.Steps.{WasTaken}

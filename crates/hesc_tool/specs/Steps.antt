@@ -1,7 +1,7 @@
 -- What the steps of a run do to the bytes that its reader has left and its writer holds.
 use Rattle.std.specs.Prelude.{◌≡◌, ℕ, List, [], ⊤, Option, Result, Vec, Ok, Err}
 use Rattle.std.specs.Io.KnownBytes.{Appends, Consumes, IsAtEnd, Keeps}
-use Rattle.hesc_specs.specs.Beginning.{AppendsBeginning}
+use Rattle.hesc_specs.specs.Text.Beginning.{AppendsBeginning}
 use Rattle.hesc_tool.specs.Answers.{Answers}
 use Rattle.hesc_tool.specs.Commands.{ReadsInput}
 use Rattle.hesc_tool.specs.declared.commands.Command.{Command}

@@ -1,6 +1,6 @@
 //! What each command answers to an input, made in memory.
 ghost use Rattle.std.specs.Prelude.{◌≡◌, map, Ok};
-ghost use Rattle.hesc_specs.specs.Bodies.{body_encoding};
+ghost use Rattle.hesc_specs.specs.Bodies.Encoding.{body_encoding};
 ghost use Rattle.html_escape.specs.Operations.{operation_text};
 ghost use Rattle.hesc_places.specs.FormReadings.{form_reading};
 ghost use Rattle.hesc_places.specs.PageReadings.{page_reading};

@@ -2,7 +2,7 @@
 ghost use Rattle.std.specs.Prelude.{◌≡◌, ◌≤◌, ◌<◌, ◌++◌, length, OnOk};
 ghost use Rattle.std.specs.Str.{IsCharBoundary};
 ghost use Rattle.std.specs.String.{string_bytes};
-ghost use Rattle.hesc_specs.specs.Bodies.{body_encoding};
+ghost use Rattle.hesc_specs.specs.Bodies.Encoding.{body_encoding};
 
 use hesc_core::find::first_byte;
 use html_escape::{BodyEncoder, BodyKind};

@@ -1,8 +1,8 @@
 //! The program: what it does with the words that the system gave it, and how it ends.
 ghost use Rattle.std.specs.Prelude.{◌≡◌, [], ◌∷◌, ◌++◌, map, Err, IfErr, IsOk, MatchResult, OnOk};
 ghost use Rattle.std.specs.Io.KnownBytes.{Appends};
-ghost use Rattle.hesc_specs.specs.Ascii.{line_feed};
-ghost use Rattle.hesc_specs.specs.Beginning.{AppendsBeginning};
+ghost use Rattle.hesc_specs.specs.Text.Ascii.{line_feed};
+ghost use Rattle.hesc_specs.specs.Text.Beginning.{AppendsBeginning};
 ghost use Rattle.hesc_tool.specs.Program.{EndsAs, ServedAs, WentAs, words_given};
 ghost use Rattle.hesc_tool.specs.Run.{RanAs};
 ghost use Rattle.hesc_tool.specs.declared.faults.Fault.{Fault};

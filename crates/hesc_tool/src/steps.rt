@@ -2,7 +2,7 @@
 //! written.
 ghost use Rattle.std.specs.Prelude.{◌≡◌, IfErr, IfOk, OnErr, OnOk};
 ghost use Rattle.std.specs.Io.KnownBytes.{Appends};
-ghost use Rattle.hesc_specs.specs.Beginning.{AppendsBeginning};
+ghost use Rattle.hesc_specs.specs.Text.Beginning.{AppendsBeginning};
 ghost use Rattle.hesc_tool.specs.Steps.{
   AnsweredAs,
   IsReadingFault,

@@ -2,9 +2,9 @@
 use Rattle.std.proofs.Common.{◌≡◌, ℕ, ◌≤◌, List, [], length}
 use Rattle.hesc_specs.specs.declared.elements.Element.TheVariants as element
 use Rattle.hesc_specs.specs.declared.quotes.Quotes.TheVariants as quotes
-use Rattle.hesc_specs.proofs.DecodedBodies.{body_decoding-empty, body_decoding-shorter}
-use Rattle.hesc_specs.proofs.DecodedReferences.{decoded-empty, decoded-shorter}
-use Rattle.hesc_specs.proofs.DecodedStrings.{string_decoding-empty, string_decoding-shorter}
+use Rattle.hesc_specs.proofs.Bodies.Decoded.{body_decoding-empty, body_decoding-shorter}
+use Rattle.hesc_specs.proofs.References.Decoded.{decoded-empty, decoded-shorter}
+use Rattle.hesc_specs.proofs.Strings.Decoded.{string_decoding-empty, string_decoding-shorter}
 use Rattle.hesc_core.specs.NamedRows.{named_rows}
 use Rattle.hesc_core.proofs.NamedTable.{short-named_rows}
 use Rattle.html_escape.specs.Decoders.{decoder_text}

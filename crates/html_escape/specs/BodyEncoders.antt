@@ -1,6 +1,6 @@
 -- What a body encoder is of, what it holds back, and what it adds.
 use Rattle.std.specs.Prelude.{ℕ, List, ◌++◌}
-use Rattle.hesc_specs.specs.Sessions.{settled_encoding}
+use Rattle.hesc_specs.specs.Bodies.Sessions.{settled_encoding}
 use Rattle.hesc_specs.specs.declared.elements.Element.{Element}
 use Rattle.html_escape.specs.Held.{few_bytes}
 use Rattle.html_escape.specs.declared.session.BodyEncoder.{BodyEncoder}

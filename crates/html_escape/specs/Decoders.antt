@@ -1,17 +1,17 @@
 -- What each decoder reads from a text, and where it changes it.
 use Rattle.std.specs.Prelude.{◌≡◌, ℕ, List}
-use Rattle.hesc_specs.specs.Bodies.{body_decoding}
-use Rattle.hesc_specs.specs.BodyChanges.{body_decoding_changes}
-use Rattle.hesc_specs.specs.Changes.{Change, applied}
-use Rattle.hesc_specs.specs.ReferenceChanges.{reference_changes}
-use Rattle.hesc_specs.specs.References.{decoded}
-use Rattle.hesc_specs.specs.StringChanges.{string_decoding_changes}
-use Rattle.hesc_specs.specs.StringTokens.{string_decoding}
+use Rattle.hesc_specs.specs.Bodies.Encoding.{body_decoding}
+use Rattle.hesc_specs.specs.Bodies.Changes.{body_decoding_changes}
+use Rattle.hesc_specs.specs.Text.Changes.{Change, applied}
+use Rattle.hesc_specs.specs.References.Changes.{reference_changes}
+use Rattle.hesc_specs.specs.References.Decoding.{decoded}
+use Rattle.hesc_specs.specs.Strings.Changes.{string_decoding_changes}
+use Rattle.hesc_specs.specs.Strings.Tokens.{string_decoding}
 use Rattle.hesc_specs.specs.declared.elements.Element.TheVariants as element
 use Rattle.hesc_specs.specs.declared.quotes.Quotes.TheVariants as quotes
-use Rattle.hesc_specs.proofs.AppliedReferences.{applied-reference_changes}
-use Rattle.hesc_specs.proofs.BodyDecodingChanges.{applied-body_decoding_changes}
-use Rattle.hesc_specs.proofs.StringDecodingChanges.{applied-string_decoding_changes}
+use Rattle.hesc_specs.proofs.References.Applied.{applied-reference_changes}
+use Rattle.hesc_specs.proofs.Bodies.DecodingChanges.{applied-body_decoding_changes}
+use Rattle.hesc_specs.proofs.Strings.DecodingChanges.{applied-string_decoding_changes}
 use Rattle.hesc_core.specs.NamedRows.{named_rows}
 use Rattle.html_escape.specs.declared.decoder.Decoder.{Decoder}
 use Rattle.html_escape.specs.declared.decoder.Decoder.TheVariants.{HtmlEntities, Script, Style, ScriptSingleQuoted, ScriptDoubleQuoted, ScriptQuoted, StyleSingleQuoted, StyleDoubleQuoted, StyleQuoted}

@@ -1,18 +1,18 @@
 -- What each encoder writes for a text, and where it changes it.
 use Rattle.std.specs.Prelude.{◌≡◌, ℕ, List}
 use Rattle.std.specs.Str.{IsUtf8}
-use Rattle.hesc_specs.specs.Bodies.{body_encoding}
-use Rattle.hesc_specs.specs.BodyChanges.{body_encoding_changes}
-use Rattle.hesc_specs.specs.Changes.{Change, applied, html_changes}
+use Rattle.hesc_specs.specs.Bodies.Encoding.{body_encoding}
+use Rattle.hesc_specs.specs.Bodies.Changes.{body_encoding_changes}
+use Rattle.hesc_specs.specs.Text.Changes.{Change, applied, html_changes}
 use Rattle.hesc_specs.specs.Html.{encoding}
-use Rattle.hesc_specs.specs.StringChanges.{string_encoding_changes}
-use Rattle.hesc_specs.specs.Strings.{string_encoding}
+use Rattle.hesc_specs.specs.Strings.Changes.{string_encoding_changes}
+use Rattle.hesc_specs.specs.Strings.Encoding.{string_encoding}
 use Rattle.hesc_specs.specs.declared.classes.Class.TheVariants as class
 use Rattle.hesc_specs.specs.declared.elements.Element.TheVariants as element
 use Rattle.hesc_specs.specs.declared.quotes.Quotes.TheVariants as quotes
-use Rattle.hesc_specs.proofs.BodyEncodingChanges.{applied-body_encoding_changes}
-use Rattle.hesc_specs.proofs.HtmlChanges.{applied-html_changes}
-use Rattle.hesc_specs.proofs.StringEncodingChanges.{applied-string_encoding_changes}
+use Rattle.hesc_specs.proofs.Bodies.EncodingChanges.{applied-body_encoding_changes}
+use Rattle.hesc_specs.proofs.Html.Changes.{applied-html_changes}
+use Rattle.hesc_specs.proofs.Strings.EncodingChanges.{applied-string_encoding_changes}
 use Rattle.html_escape.specs.declared.encoder.Encoder.{Encoder}
 use Rattle.html_escape.specs.declared.encoder.Encoder.TheVariants.{TextMinimal, Text, DoubleQuotedAttribute, SingleQuotedAttribute, QuotedAttribute, Safe, UnquotedAttribute, Script, Style, ScriptSingleQuoted, ScriptDoubleQuoted, ScriptQuoted, StyleSingleQuoted, StyleDoubleQuoted, StyleQuoted}
 

@@ -1,7 +1,7 @@
 -- What an operation makes of a text, and where it changes it.
 use Rattle.std.specs.Prelude.{◌≡◌, ℕ, List}
 use Rattle.std.specs.Str.{IsUtf8}
-use Rattle.hesc_specs.specs.Changes.{Change, applied}
+use Rattle.hesc_specs.specs.Text.Changes.{Change, applied}
 use Rattle.html_escape.specs.declared.operation.Operation.{Operation}
 use Rattle.html_escape.specs.declared.operation.Operation.TheVariants.{Encode, Decode}
 use Rattle.html_escape.specs.Decoders.{decoder_text, decoder_changes, applied-decoder_changes}

@@ -3,8 +3,8 @@
 ghost use Rattle.std.specs.Prelude.{◌≡◌, ◌≤◌, ◌<◌, ◌+◌, false, ◌++◌, length, IsOk, IsTrue, OnOk};
 ghost use Rattle.std.specs.Str.{IsAscii};
 ghost use Rattle.std.specs.String.{string_bytes};
-ghost use Rattle.hesc_specs.specs.Openings.{is_opening};
-ghost use Rattle.hesc_specs.specs.Sessions.{is_undecided, released, settled_encoding};
+ghost use Rattle.hesc_specs.specs.Bodies.Openings.{is_opening};
+ghost use Rattle.hesc_specs.specs.Bodies.Sessions.{is_undecided, released, settled_encoding};
 ghost use Rattle.hesc_core.specs.Forms.{Appended, string_room};
 
 use crate::settled::EncodeSettled;

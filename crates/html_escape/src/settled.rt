@@ -1,8 +1,8 @@
 //! The rule of what is settled of a body, whatever follows it: a `\` goes into each opening that is
 //! decided, behind its `<`, and the undecided end is dropped.
-ghost use Rattle.hesc_specs.specs.Sessions.{settled_encoding};
-ghost use Rattle.hesc_specs.specs.SettledChanges.{settled_changes};
-ghost use Rattle.hesc_specs.proofs.SettledChanges.{applied-settled_changes};
+ghost use Rattle.hesc_specs.specs.Bodies.Sessions.{settled_encoding};
+ghost use Rattle.hesc_specs.specs.Bodies.SettledChanges.{settled_changes};
+ghost use Rattle.hesc_specs.proofs.Bodies.SettledChanges.{applied-settled_changes};
 
 use crate::undecided::first_undecided;
 use hesc_core::openings::first_opening;

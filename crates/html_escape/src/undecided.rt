@@ -1,12 +1,12 @@
 //! The search for the end of a text that is undecided: only what follows it decides whether an
 //! opening begins there.
 ghost use Rattle.std.specs.Prelude.{◌≡◌, ◌≤◌, ◌∷◌, length};
-ghost use Rattle.hesc_specs.specs.Ascii.{slash};
-ghost use Rattle.hesc_specs.specs.Elements.{element_name};
-ghost use Rattle.hesc_specs.specs.FirstPlace.{IsFirstAt};
-ghost use Rattle.hesc_specs.specs.Sessions.{is_undecided as undecided};
-ghost use Rattle.hesc_specs.specs.SettledChanges.{undecided_at};
-ghost use Rattle.hesc_specs.specs.Words.{is_beginning_in_any_case};
+ghost use Rattle.hesc_specs.specs.Text.Ascii.{slash};
+ghost use Rattle.hesc_specs.specs.Text.Elements.{element_name};
+ghost use Rattle.hesc_specs.specs.Text.FirstPlace.{IsFirstAt};
+ghost use Rattle.hesc_specs.specs.Bodies.Sessions.{is_undecided as undecided};
+ghost use Rattle.hesc_specs.specs.Bodies.SettledChanges.{undecided_at};
+ghost use Rattle.hesc_specs.specs.Text.Words.{is_beginning_in_any_case};
 
 use hesc_core::Element;
 

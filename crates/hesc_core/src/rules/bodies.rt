@@ -2,11 +2,11 @@
 //! decoder drops it.
 ghost use Rattle.std.specs.Prelude.{◌≡◌, [], IfNone, IfSome};
 ghost use Rattle.std.specs.Str.{IsCharBoundary};
-ghost use Rattle.hesc_specs.specs.Bodies.{body_decoding, body_encoding};
-ghost use Rattle.hesc_specs.specs.BodyChanges.{body_decoding_changes, body_encoding_changes};
+ghost use Rattle.hesc_specs.specs.Bodies.Encoding.{body_decoding, body_encoding};
+ghost use Rattle.hesc_specs.specs.Bodies.Changes.{body_decoding_changes, body_encoding_changes};
 ghost use Rattle.hesc_specs.specs.declared.elements.Element.TheVariants.{Script, Style};
-ghost use Rattle.hesc_specs.proofs.BodyDecodingChanges.{applied-body_decoding_changes};
-ghost use Rattle.hesc_specs.proofs.BodyEncodingChanges.{applied-body_encoding_changes};
+ghost use Rattle.hesc_specs.proofs.Bodies.DecodingChanges.{applied-body_decoding_changes};
+ghost use Rattle.hesc_specs.proofs.Bodies.EncodingChanges.{applied-body_encoding_changes};
 ghost use Rattle.hesc_core.specs.Next.{IsNext};
 
 use crate::body_bound::body_bound;

@@ -1,9 +1,9 @@
 //! Escaping by a class: what the encoder of the class replaces becomes its escape.
 ghost use Rattle.std.specs.Prelude.{◌≡◌, [], IfNone, IfSome};
 ghost use Rattle.std.specs.Str.{IsCharBoundary};
-ghost use Rattle.hesc_specs.specs.Classes.{element_of as element_in_class};
-ghost use Rattle.hesc_specs.specs.Escaped.{escape_changes, escaped};
-ghost use Rattle.hesc_specs.proofs.EscapeChanges.{applied-escape_changes};
+ghost use Rattle.hesc_specs.specs.Text.Classes.{element_of as element_in_class};
+ghost use Rattle.hesc_specs.specs.Text.Escaped.{escape_changes, escaped};
+ghost use Rattle.hesc_specs.proofs.Text.EscapeChanges.{applied-escape_changes};
 ghost use Rattle.hesc_core.specs.Next.{IsNext};
 
 use crate::found::Found;

@@ -1,6 +1,6 @@
 //! The hex digits that the encoders write.
 ghost use Rattle.std.specs.Prelude.{◌≡◌, ◌<◌};
-ghost use Rattle.hesc_specs.specs.HexDigits.{hex_digit};
+ghost use Rattle.hesc_specs.specs.Text.HexDigits.{hex_digit};
 
 /// A digit 0 to 15, as a digit or an upper-case letter.
 #[inline(always)]

@@ -1,8 +1,8 @@
 //! Escaping by an HTML class: each byte of the class becomes its reference.
 ghost use Rattle.std.specs.Prelude.{◌≡◌, [], IfNone, IfSome};
 ghost use Rattle.std.specs.Str.{IsCharBoundary};
-ghost use Rattle.hesc_specs.specs.Changes.{html_changes};
-ghost use Rattle.hesc_specs.specs.Classes.{IsHtml};
+ghost use Rattle.hesc_specs.specs.Text.Changes.{html_changes};
+ghost use Rattle.hesc_specs.specs.Text.Classes.{IsHtml};
 ghost use Rattle.hesc_core.specs.Next.{IsNext};
 
 use crate::found::{Found, Replacement};

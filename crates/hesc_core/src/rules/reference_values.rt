@@ -1,8 +1,8 @@
 //! The value of a reference's body: of its number, or of its name.
 ghost use Rattle.std.specs.Prelude.{◌≡◌, ◌≤◌, ◌<◌, ◌+◌, ◌*◌, encode_utf8};
 ghost use Rattle.std.specs.Option.{option_map};
-ghost use Rattle.hesc_specs.specs.Entities.{value_of};
-ghost use Rattle.hesc_specs.specs.References.{body_value, is_kept_control, number_of, numbered_value, numeral};
+ghost use Rattle.hesc_specs.specs.References.Rows.{value_of};
+ghost use Rattle.hesc_specs.specs.References.Decoding.{body_value, is_kept_control, number_of, numbered_value, numeral};
 ghost use Rattle.hesc_core.specs.Numbers.{base_of, capped};
 ghost use Rattle.hesc_core.specs.Table.{common_character as common_character_of, rows_of};
 ghost use Rattle.hesc_core.specs.Text.{replacement_bytes};

@@ -1,9 +1,9 @@
 //! Decoding by a table: each reference that has a value becomes it.
 ghost use Rattle.std.specs.Prelude.{◌≡◌, [], IfNone, IfSome};
 ghost use Rattle.std.specs.Str.{IsCharBoundary};
-ghost use Rattle.hesc_specs.specs.ReferenceChanges.{reference_changes};
-ghost use Rattle.hesc_specs.specs.References.{decoded};
-ghost use Rattle.hesc_specs.proofs.AppliedReferences.{applied-reference_changes};
+ghost use Rattle.hesc_specs.specs.References.Changes.{reference_changes};
+ghost use Rattle.hesc_specs.specs.References.Decoding.{decoded};
+ghost use Rattle.hesc_specs.proofs.References.Applied.{applied-reference_changes};
 ghost use Rattle.hesc_core.specs.Next.{IsNext};
 ghost use Rattle.hesc_core.specs.Table.{rows_of};
 

@@ -2,9 +2,9 @@
 //! escape.
 ghost use Rattle.std.specs.Prelude.{◌≡◌, ◌≤◌, ◌<◌, ◌==◌, [], IfNone, IfSome, if◌then◌else◌, take};
 ghost use Rattle.std.specs.Str.{IsAscii, IsCharBoundary};
-ghost use Rattle.hesc_specs.specs.Classes.{element_of};
-ghost use Rattle.hesc_specs.specs.Escaped.{escape_changes};
-ghost use Rattle.hesc_specs.specs.Strings.{
+ghost use Rattle.hesc_specs.specs.Text.Classes.{element_of};
+ghost use Rattle.hesc_specs.specs.Text.Escaped.{escape_changes};
+ghost use Rattle.hesc_specs.specs.Strings.Encoding.{
   is_mark as is_mark_of,
   line_separator,
   paragraph_separator,

@@ -2,9 +2,9 @@
 //! for.
 ghost use Rattle.std.specs.Prelude.{◌≡◌, [], IfNone, IfSome, encode_utf8};
 ghost use Rattle.std.specs.Str.{IsCharBoundary};
-ghost use Rattle.hesc_specs.specs.Escaped.{unescape_changes, unescaped};
-ghost use Rattle.hesc_specs.specs.StringChanges.{string_decoding_changes};
-ghost use Rattle.hesc_specs.proofs.UnescapeChanges.{applied-unescape_changes};
+ghost use Rattle.hesc_specs.specs.Text.Escaped.{unescape_changes, unescaped};
+ghost use Rattle.hesc_specs.specs.Strings.Changes.{string_decoding_changes};
+ghost use Rattle.hesc_specs.proofs.Text.UnescapeChanges.{applied-unescape_changes};
 ghost use Rattle.hesc_core.specs.Next.{IsNext};
 ghost use Rattle.hesc_core.specs.Text.{replacement_bytes};
 

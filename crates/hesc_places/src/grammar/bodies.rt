@@ -1,8 +1,8 @@
 //! Steps of a script's and of a style's body.
 ghost use Rattle.std.specs.Prelude.{◌≡◌, ◌∷◌};
-ghost use Rattle.hesc_specs.specs.Ascii.{less_than};
-ghost use Rattle.hesc_specs.specs.Elements.{element_name};
-ghost use Rattle.hesc_specs.specs.Words.{begins_in_any_case};
+ghost use Rattle.hesc_specs.specs.Text.Ascii.{less_than};
+ghost use Rattle.hesc_specs.specs.Text.Elements.{element_name};
+ghost use Rattle.hesc_specs.specs.Text.Words.{begins_in_any_case};
 ghost use Rattle.hesc_places.specs.BodyReadings.{
   ends_script,
   mode_behind,

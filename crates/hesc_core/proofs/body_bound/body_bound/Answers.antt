@@ -1,5 +1,5 @@
 use Rattle.std.proofs.Common.{refl}
-use Rattle.hesc_specs.proofs.BodyBound.{empty-body_encoding, length-body_encoding}
+use Rattle.hesc_specs.proofs.Bodies.Bound.{empty-body_encoding, length-body_encoding}
 use Rattle.hesc_core.proofs.Bounds.{empty, enough}
 use Rattle.hesc_core.proofs.body_bound.body_bound.Goals as goal
 

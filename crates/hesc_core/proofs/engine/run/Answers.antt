@@ -1,5 +1,5 @@
 use Rattle.std.proofs.Common.{◌∙◌, ap}
-use Rattle.hesc_specs.specs.Parts.{joined}
+use Rattle.hesc_specs.specs.Text.Parts.{joined}
 use Rattle.hesc_core.specs.Pieces.{parts_left, turn_bytes}
 use Rattle.hesc_core.proofs.Progress.{Progress-stop, on_err}
 use Rattle.hesc_core.proofs.Turns.{joined-turn}

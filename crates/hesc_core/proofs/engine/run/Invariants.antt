@@ -1,5 +1,5 @@
 use Rattle.std.proofs.Common.{◌≡◌, ◌≤◌, ◌+◌, length}
-use Rattle.hesc_specs.specs.Parts.{joined}
+use Rattle.hesc_specs.specs.Text.Parts.{joined}
 use Rattle.hesc_core.specs.Pieces.{IsAtTurn, parts_left, turns_left}
 use Rattle.hesc_core.proofs.Progress.{Progress}
 use Rattle.hesc_core.proofs.engine.run.Given as goal

@@ -1,5 +1,5 @@
-use Rattle.hesc_specs.proofs.CanonicalBodies.{encoding-no_opening, decoding-no_escaped_opening, encode_twice, decode_twice, encode_decoding, decode_encoding, encoding-undone}
-use Rattle.hesc_specs.proofs.SameBodies.{encoding-same, decoding-same, same_by_encoding, same_by_decoding}
+use Rattle.hesc_specs.proofs.Bodies.Canonical.{encoding-no_opening, decoding-no_escaped_opening, encode_twice, decode_twice, encode_decoding, decode_encoding, encoding-undone}
+use Rattle.hesc_specs.proofs.Bodies.Same.{encoding-same, decoding-same, same_by_encoding, same_by_decoding}
 use Rattle.hesc_core.proofs.laws.canonical_bodies.Goals as goal
 
 pub returns-clause-no_opening : goal.returns-clause-no_opening

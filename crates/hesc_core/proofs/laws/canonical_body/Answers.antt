@@ -1,5 +1,5 @@
-use Rattle.hesc_specs.proofs.CanonicalBodies.{encoding-no_opening, decoding-no_escaped_opening}
-use Rattle.hesc_specs.proofs.SameBodies.{encoding-same, decoding-same}
+use Rattle.hesc_specs.proofs.Bodies.Canonical.{encoding-no_opening, decoding-no_escaped_opening}
+use Rattle.hesc_specs.proofs.Bodies.Same.{encoding-same, decoding-same}
 use Rattle.hesc_core.proofs.laws.canonical_body.Goals as goal
 
 pub returns-clause-no_opening : goal.returns-clause-no_opening

@@ -1,4 +1,4 @@
-use Rattle.hesc_specs.proofs.DifferentStrings.{escaped-injective, escaped-style}
+use Rattle.hesc_specs.proofs.Strings.Different.{escaped-injective, escaped-style}
 use Rattle.hesc_core.proofs.laws.different_encodings.Goals as goal
 
 pub returns-clause-kept : goal.returns-clause-kept

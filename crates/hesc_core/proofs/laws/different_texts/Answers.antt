@@ -1,4 +1,4 @@
-use Rattle.hesc_specs.proofs.DifferentStrings.{escaped-injective}
+use Rattle.hesc_specs.proofs.Strings.Different.{escaped-injective}
 use Rattle.hesc_core.proofs.laws.different_texts.Goals as goal
 
 pub returns : goal.returns

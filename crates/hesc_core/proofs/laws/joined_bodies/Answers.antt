@@ -1,4 +1,4 @@
-use Rattle.hesc_specs.proofs.BodySeam.{body_encoding-append}
+use Rattle.hesc_specs.proofs.Bodies.Seam.{body_encoding-append}
 use Rattle.hesc_core.proofs.laws.joined_bodies.Goals as goal
 
 pub returns : goal.returns

@@ -1,4 +1,4 @@
-use Rattle.hesc_specs.proofs.JoinedTexts.{escaped-append}
+use Rattle.hesc_specs.proofs.Text.JoinedTexts.{escaped-append}
 use Rattle.hesc_core.proofs.laws.joined_texts.Goals as goal
 
 pub returns : goal.returns

@@ -1,4 +1,4 @@
-use Rattle.hesc_specs.proofs.PlainStrings.{plain-string_encoding}
+use Rattle.hesc_specs.proofs.Strings.Plain.{plain-string_encoding}
 use Rattle.hesc_core.proofs.laws.plain_string_encoding.Goals as goal
 
 pub returns : goal.returns

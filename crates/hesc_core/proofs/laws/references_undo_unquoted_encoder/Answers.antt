@@ -1,4 +1,4 @@
-use Rattle.hesc_specs.proofs.ReferencesUndone.{decoded-unquoted_encoding}
+use Rattle.hesc_specs.proofs.References.Undone.{decoded-unquoted_encoding}
 use Rattle.hesc_core.specs.Table.{rows_of}
 use Rattle.hesc_core.proofs.laws.references_undo_unquoted_encoder.Goals as goal
 

@@ -1,4 +1,4 @@
-use Rattle.hesc_specs.proofs.CanonicalBodies.{encode_twice, decode_twice, encode_decoding, decode_encoding, encoding-undone}
+use Rattle.hesc_specs.proofs.Bodies.Canonical.{encode_twice, decode_twice, encode_decoding, decode_encoding, encoding-undone}
 use Rattle.hesc_core.proofs.laws.repeated_body.Goals as goal
 
 pub returns-clause-encode_twice : goal.returns-clause-encode_twice

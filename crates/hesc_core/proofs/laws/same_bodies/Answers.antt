@@ -1,4 +1,4 @@
-use Rattle.hesc_specs.proofs.SameBodies.{same_by_encoding, same_by_decoding}
+use Rattle.hesc_specs.proofs.Bodies.Same.{same_by_encoding, same_by_decoding}
 use Rattle.hesc_core.proofs.laws.same_bodies.Goals as goal
 
 pub returns-clause-by_encoding : goal.returns-clause-by_encoding

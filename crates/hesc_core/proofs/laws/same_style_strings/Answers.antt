@@ -1,5 +1,5 @@
 use Rattle.hesc_specs.specs.declared.elements.Element.TheVariants.{Style}
-use Rattle.hesc_specs.proofs.DifferentStrings.{same_encoding, same_value}
+use Rattle.hesc_specs.proofs.Strings.Different.{same_encoding, same_value}
 use Rattle.hesc_core.proofs.laws.same_style_strings.Goals as goal
 
 pub returns : goal.returns

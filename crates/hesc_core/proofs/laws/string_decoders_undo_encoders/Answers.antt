@@ -1,4 +1,4 @@
-use Rattle.hesc_specs.proofs.StringsUndone.{string_decoding-encoding}
+use Rattle.hesc_specs.proofs.Strings.Undone.{string_decoding-encoding}
 use Rattle.hesc_core.proofs.laws.string_decoders_undo_encoders.Goals as goal
 
 pub returns : goal.returns

@@ -1,8 +1,8 @@
 use Rattle.std.proofs.Common.{IsTrue, refl}
-use Rattle.hesc_specs.specs.StringTokens.{knows}
+use Rattle.hesc_specs.specs.Strings.Tokens.{knows}
 use Rattle.hesc_specs.specs.declared.quotes.Quotes.{Quotes}
 use Rattle.hesc_specs.specs.declared.quotes.Quotes.TheVariants.{Single, Double, Both}
-use Rattle.hesc_specs.proofs.StringsUndone.{string_decoding-encoding}
+use Rattle.hesc_specs.proofs.Strings.Undone.{string_decoding-encoding}
 use Rattle.hesc_core.proofs.laws.string_round_trip.Goals as goal
 
 knows_own : (quotes : Quotes) → IsTrue (knows quotes quotes)

@@ -1,7 +1,7 @@
 use Rattle.std.proofs.Common.{◌≡◌, ◌+◌, false, ◌∷◌, drop, sym, arith}
 use Rattle.std.proofs.lemmas.List.{take_rest}
-use Rattle.hesc_specs.specs.Ascii.{less_than}
-use Rattle.hesc_specs.specs.Openings.{is_escaped_opening}
+use Rattle.hesc_specs.specs.Text.Ascii.{less_than}
+use Rattle.hesc_specs.specs.Bodies.Openings.{is_escaped_opening}
 use Rattle.hesc_core.proofs.OpeningSearch.{Nowhere, further, past, is_escaped_opening-needs}
 use Rattle.hesc_core.proofs.openings.first_escaped_opening.Goals as goal
 

@@ -1,6 +1,6 @@
 use Rattle.std.proofs.Common.{◌≡◌, ◌≤◌, ◌<◌, ◌-◌, ◌==◌, true, length, slice_index}
-use Rattle.hesc_specs.specs.Ascii.{less_than}
-use Rattle.hesc_specs.specs.Openings.{is_escaped_opening}
+use Rattle.hesc_specs.specs.Text.Ascii.{less_than}
+use Rattle.hesc_specs.specs.Bodies.Openings.{is_escaped_opening}
 use Rattle.hesc_core.proofs.OpeningSearch.{Nowhere}
 use Rattle.hesc_core.proofs.openings.first_escaped_opening.Given as goal
 

@@ -1,9 +1,9 @@
 use Rattle.std.proofs.Common.{◌≡◌, length, drop, sym, ◌∙◌, arith}
 use Rattle.std.proofs.Math.Seq.{drop-length}
 use Rattle.std.proofs.lemmas.List.{take_rest}
-use Rattle.hesc_specs.specs.Elements.{element_name}
-use Rattle.hesc_specs.specs.Openings.{ends_name}
-use Rattle.hesc_specs.specs.Words.{begins_in_any_case}
+use Rattle.hesc_specs.specs.Text.Elements.{element_name}
+use Rattle.hesc_specs.specs.Bodies.Openings.{ends_name}
+use Rattle.hesc_specs.specs.Text.Words.{begins_in_any_case}
 use Rattle.hesc_core.proofs.openings.is_named.Goals as goal
 
 pub returns : goal.returns

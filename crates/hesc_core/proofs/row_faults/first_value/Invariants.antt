@@ -1,5 +1,5 @@
 use Rattle.std.proofs.Common.{◌≡◌, drop}
-use Rattle.hesc_specs.specs.Entities.{value_of}
+use Rattle.hesc_specs.specs.References.Rows.{value_of}
 use Rattle.hesc_core.specs.Rows.{rows_in}
 use Rattle.hesc_core.proofs.row_faults.first_value.Given as goal
 

@@ -1,5 +1,5 @@
 use Rattle.std.proofs.Common.{arith}
-use Rattle.hesc_specs.specs.Classes.{in_class}
+use Rattle.hesc_specs.specs.Text.Classes.{in_class}
 use Rattle.hesc_core.proofs.ChunkSearch.{below_256, chunk_stands, first_by_mask, none_by_mask, slice_rest}
 use Rattle.hesc_core.proofs.scan.first_by_lanes.Goals as goal
 

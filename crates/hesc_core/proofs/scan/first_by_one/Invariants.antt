@@ -1,5 +1,5 @@
 use Rattle.std.proofs.Common.{◌≡◌, ◌≤◌, ◌<◌, ℕ, false, slice_index}
-use Rattle.hesc_specs.specs.Classes.{in_class}
+use Rattle.hesc_specs.specs.Text.Classes.{in_class}
 use Rattle.hesc_core.proofs.scan.first_by_one.Given as goal
 
 -- no byte so far is in the class

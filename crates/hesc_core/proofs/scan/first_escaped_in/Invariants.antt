@@ -1,6 +1,6 @@
 use Rattle.std.proofs.Common.{◌≡◌, ◌≤◌, ◌<◌, ◌-◌, ℕ, true, false, length, slice_index}
-use Rattle.hesc_specs.specs.Classes.{in_class}
-use Rattle.hesc_specs.specs.EscapedPlaces.{escapes_at}
+use Rattle.hesc_specs.specs.Text.Classes.{in_class}
+use Rattle.hesc_specs.specs.Text.EscapedPlaces.{escapes_at}
 use Rattle.hesc_core.proofs.scan.first_escaped_in.Given as goal
 
 -- nothing that is replaced begins before the place, which is that of a byte of the class or the end

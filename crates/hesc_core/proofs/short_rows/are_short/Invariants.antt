@@ -1,5 +1,5 @@
 use Rattle.std.proofs.Common.{◌≡◌, drop}
-use Rattle.hesc_specs.specs.Entities.{are_short}
+use Rattle.hesc_specs.specs.References.Rows.{are_short}
 use Rattle.hesc_core.specs.Rows.{rows_in}
 use Rattle.hesc_core.proofs.short_rows.are_short.Given as goal
 

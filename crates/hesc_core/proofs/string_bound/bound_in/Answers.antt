@@ -1,11 +1,11 @@
 use Rattle.std.proofs.Common.{◌≡◌, ℕ, ◌+◌, ◌≤◌, List, [], Option, Some, None, length, IsUtf8, refl}
 use Rattle.std.specs.List.{sum_by}
-use Rattle.hesc_specs.specs.Classes.{string_class}
-use Rattle.hesc_specs.specs.Escaped.{escaped}
+use Rattle.hesc_specs.specs.Text.Classes.{string_class}
+use Rattle.hesc_specs.specs.Text.Escaped.{escaped}
 use Rattle.hesc_specs.specs.declared.classes.Class.{Class}
 use Rattle.hesc_specs.specs.declared.elements.Element.{Element}
 use Rattle.hesc_specs.specs.declared.quotes.Quotes.{Quotes}
-use Rattle.hesc_specs.proofs.StringBound.{empty-string_encoding, growth, length-string_encoding}
+use Rattle.hesc_specs.proofs.Strings.Bound.{empty-string_encoding, growth, length-string_encoding}
 use Rattle.hesc_core.proofs.Bounds.{empty, enough}
 use Rattle.hesc_core.proofs.string_bound.bound_in.Goals as goal
 

@@ -3,8 +3,8 @@ use Rattle.std.proofs.lemmas.List.Folds.{drop_split}
 use Rattle.std.proofs.lemmas.Str.{IsCharBoundary-start}
 use Rattle.std.specs.Prelude.{slice_range}
 use Rattle.std.specs.String.{string_bytes}
-use Rattle.hesc_specs.specs.Bodies.{body_encoding}
-use Rattle.hesc_specs.specs.Sessions.{settled_encoding}
+use Rattle.hesc_specs.specs.Bodies.Encoding.{body_encoding}
+use Rattle.hesc_specs.specs.Bodies.Sessions.{settled_encoding}
 use Rattle.hesc_specs.specs.declared.elements.Element.{Element}
 use Rattle.html_escape.specs.BodyEncoders.{held_by}
 use Rattle.hesc_tool.proofs.body_lines.append_lines.Goals as goal

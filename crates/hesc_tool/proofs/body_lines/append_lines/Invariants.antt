@@ -1,7 +1,7 @@
 use Rattle.std.proofs.Common.{◌≡◌, ◌-◌, ◌++◌, length, drop}
 use Rattle.std.specs.Str.{IsCharBoundary}
 use Rattle.std.specs.String.{string_bytes}
-use Rattle.hesc_specs.specs.Bodies.{body_encoding}
+use Rattle.hesc_specs.specs.Bodies.Encoding.{body_encoding}
 use Rattle.html_escape.specs.BodyEncoders.{held_by, kind_of}
 use Rattle.hesc_tool.proofs.body_lines.append_lines.Given as goal
 

@@ -1,7 +1,7 @@
 use Rattle.std.proofs.Common.{◌≡◌, ◌<◌, ℕ, length, slice_index, arith}
 use Rattle.std.proofs.lemmas.Bool.{eqb-true}
 use Rattle.std.proofs.lemmas.Str.{IsCharBoundary-after_ascii}
-use Rattle.hesc_specs.specs.Ascii.{line_feed}
+use Rattle.hesc_specs.specs.Text.Ascii.{line_feed}
 use Rattle.hesc_tool.proofs.body_lines.end_of_line.Goals as goal
 
 -- behind a line feed a character begins

@@ -1,8 +1,8 @@
 use Rattle.std.proofs.Common.{ℕ, length, sym, arith, ne_eqb, inl, inr}
 use Rattle.std.proofs.lemmas.Bool.{cases_eq}
-use Rattle.hesc_specs.specs.FirstPlace.{IsFirstAt}
-use Rattle.hesc_specs.specs.Openings.{opens_at}
-use Rattle.hesc_specs.proofs.HeldBytes.{decided-some}
+use Rattle.hesc_specs.specs.Text.FirstPlace.{IsFirstAt}
+use Rattle.hesc_specs.specs.Bodies.Openings.{opens_at}
+use Rattle.hesc_specs.proofs.Bodies.Held.{decided-some}
 use Rattle.html_escape.proofs.released.is_opened.Goals as goal
 
 pub returns-clause-some : goal.returns-clause-some

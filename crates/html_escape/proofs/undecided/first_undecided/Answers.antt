@@ -1,8 +1,8 @@
 use Rattle.std.proofs.Common.{drop, arith, inl, inr}
 use Rattle.std.proofs.lemmas.Bool.{cases_Bool}
 use Rattle.std.proofs.lemmas.List.{length-drop}
-use Rattle.hesc_specs.specs.Sessions.{is_undecided}
-use Rattle.hesc_specs.proofs.HeldBytes.{undecided-short}
+use Rattle.hesc_specs.specs.Bodies.Sessions.{is_undecided}
+use Rattle.hesc_specs.proofs.Bodies.Held.{undecided-short}
 use Rattle.html_escape.proofs.undecided.first_undecided.Goals as goal
 
 -- more bytes than eight are decided

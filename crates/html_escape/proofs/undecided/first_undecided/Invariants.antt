@@ -1,5 +1,5 @@
 use Rattle.std.proofs.Common.{◌≡◌, ◌-◌, ◌≤◌, ◌<◌, ℕ, false, length}
-use Rattle.hesc_specs.specs.SettledChanges.{undecided_at}
+use Rattle.hesc_specs.specs.Bodies.SettledChanges.{undecided_at}
 use Rattle.html_escape.proofs.undecided.first_undecided.Given as goal
 
 -- nothing is undecided before the place

@@ -1,5 +1,5 @@
 use Rattle.std.proofs.Common.{◌≡◌, drop}
-use Rattle.hesc_specs.specs.Words.{is_beginning_in_any_case}
+use Rattle.hesc_specs.specs.Text.Words.{is_beginning_in_any_case}
 use Rattle.html_escape.proofs.undecided.is_beginning.Given as goal
 
 -- the bytes so far are letters of the word, so the rest of it decides

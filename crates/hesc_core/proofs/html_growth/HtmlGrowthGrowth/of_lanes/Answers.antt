@@ -1,7 +1,7 @@
 use Rattle.std.proofs.Common.{ℕ, true, [], ◌≡◌, ap, ◌∙◌, arith}
 use Rattle.std.proofs.lemmas.Simd.{ones-mask_l}
 use Rattle.std.specs.Int.RustNames.{count_ones}
-use Rattle.hesc_specs.specs.Classes.{in_class}
+use Rattle.hesc_specs.specs.Text.Classes.{in_class}
 use Rattle.hesc_core.proofs.GrowthSums.{adds_up-all}
 use Rattle.hesc_core.proofs.html_growth.HtmlGrowthGrowth.of_lanes.Goals as goal
 

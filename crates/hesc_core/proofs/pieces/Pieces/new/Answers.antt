@@ -1,6 +1,6 @@
 use Rattle.std.proofs.Common.{◌∙◌}
 use Rattle.std.proofs.lemmas.Str.{IsCharBoundary-start}
-use Rattle.hesc_specs.proofs.PartLemmas.{parts-joined, parts-few}
+use Rattle.hesc_specs.proofs.Text.Parts.{parts-joined, parts-few}
 use Rattle.hesc_core.proofs.pieces.Pieces.new.Goals as goal
 
 pub invariant_of-result : goal.invariant_of-result

@@ -1,6 +1,6 @@
 use Rattle.std.proofs.Common.{◌≡◌, ◌≤◌, ◌+◌, ◌-◌, length}
 use Rattle.std.specs.Str.{IsCharBoundary}
-use Rattle.hesc_specs.specs.Changes.{applied}
+use Rattle.hesc_specs.specs.Text.Changes.{applied}
 use Rattle.hesc_core.proofs.rule.Rule.total_by_changes.Given as goal
 
 -- what is counted and what is to come are the rule's text

@@ -1,8 +1,8 @@
 use Rattle.std.proofs.Common.{◌<◌, length, ◌∙◌, arith, slice_index}
 use Rattle.std.proofs.lemmas.Str.{IsCharBoundary-after_ascii}
-use Rattle.hesc_specs.specs.FirstPlace.{IsFirstAt}
-use Rattle.hesc_specs.specs.Openings.{opens_at}
-use Rattle.hesc_specs.proofs.BodyEncodingChanges.{no-body_encoding_changes, next-body_encoding_changes, opening-byte}
+use Rattle.hesc_specs.specs.Text.FirstPlace.{IsFirstAt}
+use Rattle.hesc_specs.specs.Bodies.Openings.{opens_at}
+use Rattle.hesc_specs.proofs.Bodies.EncodingChanges.{no-body_encoding_changes, next-body_encoding_changes, opening-byte}
 use Rattle.hesc_core.proofs.rules.bodies.next_body_escape.Goals as goal
 
 pub returns-then-place-bytes-clause-none : goal.returns-then-place-bytes-clause-none

@@ -1,9 +1,9 @@
 use Rattle.std.proofs.Common.{◌<◌, length, ◌∙◌, arith, slice_index}
 use Rattle.std.proofs.lemmas.Str.{IsCharBoundary-before_ascii, IsCharBoundary-after_ascii}
-use Rattle.hesc_specs.specs.Classes.{in_class}
-use Rattle.hesc_specs.specs.FirstPlace.{IsFirstPlace}
-use Rattle.hesc_specs.proofs.HtmlImages.{in_class_is_ascii}
-use Rattle.hesc_specs.proofs.HtmlChanges.{no-html_changes, next-html_changes}
+use Rattle.hesc_specs.specs.Text.Classes.{in_class}
+use Rattle.hesc_specs.specs.Text.FirstPlace.{IsFirstPlace}
+use Rattle.hesc_specs.proofs.Html.Images.{in_class_is_ascii}
+use Rattle.hesc_specs.proofs.Html.Changes.{no-html_changes, next-html_changes}
 use Rattle.hesc_core.proofs.rules.html_escape.next_html_escape.Goals as goal
 
 pub returns-then-start-bytes-clause-none : goal.returns-then-start-bytes-clause-none

@@ -1,8 +1,8 @@
 use Rattle.std.proofs.Common.{◌≡◌, ◌≢◌, refl, ne_eqb, ◌<◌, ◌+◌, true, false, length, ◌∙◌, sym, arith, slice_index}
 use Rattle.std.proofs.lemmas.Bool.Decides.{nat_tests}
 use Rattle.std.proofs.lemmas.Str.{IsCharBoundary-before_ascii, IsCharBoundary-after_ascii}
-use Rattle.hesc_specs.specs.FirstPlace.{IsFirstPlace}
-use Rattle.hesc_specs.proofs.NextReference.{is_start, is_stop, reached, unended, cut, unknown, replaced}
+use Rattle.hesc_specs.specs.Text.FirstPlace.{IsFirstPlace}
+use Rattle.hesc_specs.proofs.References.Next.{is_start, is_stop, reached, unended, cut, unknown, replaced}
 use Rattle.hesc_core.specs.Table.{rows_of}
 use Rattle.hesc_core.specs.Text.{replacement_bytes}
 use Rattle.hesc_core.proofs.rules.references.next_references.Goals as goal

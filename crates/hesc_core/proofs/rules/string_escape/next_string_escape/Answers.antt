@@ -1,6 +1,6 @@
 use Rattle.std.proofs.Common.{◌<◌, length, ◌∙◌, arith}
-use Rattle.hesc_specs.specs.EscapedPlaces.{escapes_at}
-use Rattle.hesc_specs.specs.FirstPlace.{IsFirstAt}
+use Rattle.hesc_specs.specs.Text.EscapedPlaces.{escapes_at}
+use Rattle.hesc_specs.specs.Text.FirstPlace.{IsFirstAt}
 use Rattle.hesc_core.proofs.StringEscapes.{byte_is_ascii, byte_is_next, none_left, separator_is_next, separator_is_within}
 use Rattle.hesc_core.proofs.rules.string_escape.next_string_escape.Goals as goal
 

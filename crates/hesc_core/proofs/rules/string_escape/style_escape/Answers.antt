@@ -1,5 +1,5 @@
 use Rattle.std.proofs.Common.{sym}
-use Rattle.hesc_specs.proofs.CharacterBytes.{encode-replacement_character}
+use Rattle.hesc_specs.proofs.Strings.CharacterBytes.{encode-replacement_character}
 use Rattle.hesc_core.proofs.rules.string_escape.style_escape.Goals as goal
 
 pub returns-then-byte-eq0 : goal.returns-then-byte-eq0

@@ -4,12 +4,12 @@ use Rattle.std.proofs.lemmas.Bool.{eqb-true}
 use Rattle.std.proofs.lemmas.List.{take_rest, get_or-drop, length-drop}
 use Rattle.std.proofs.lemmas.Str.{IsCharBoundary-before_ascii, IsCharBoundary-after_ascii}
 use Rattle.memchr.specs.Find.{is_byte}
-use Rattle.hesc_specs.specs.Ascii.{backslash}
-use Rattle.hesc_specs.specs.FirstPlace.{IsFirstPlace}
-use Rattle.hesc_specs.specs.StringChanges.{is_behind_less}
-use Rattle.hesc_specs.specs.StringTokens.{escape}
-use Rattle.hesc_specs.proofs.StringDecodingChanges.{reached-string_decoding_changes, passed-string_decoding_changes, next-string_decoding_changes}
-use Rattle.hesc_specs.proofs.StringEscapeEnds.{EndsWithin, escape-ends}
+use Rattle.hesc_specs.specs.Text.Ascii.{backslash}
+use Rattle.hesc_specs.specs.Text.FirstPlace.{IsFirstPlace}
+use Rattle.hesc_specs.specs.Strings.Changes.{is_behind_less}
+use Rattle.hesc_specs.specs.Strings.Tokens.{escape}
+use Rattle.hesc_specs.proofs.Strings.DecodingChanges.{reached-string_decoding_changes, passed-string_decoding_changes, next-string_decoding_changes}
+use Rattle.hesc_specs.proofs.Strings.EscapeEnds.{EndsWithin, escape-ends}
 use Rattle.hesc_core.proofs.rules.unescape.next_string_unescape.Goals as goal
 
 pub seeking-init : goal.seeking-init

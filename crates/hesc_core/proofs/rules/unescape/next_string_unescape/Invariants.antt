@@ -1,6 +1,6 @@
 use Rattle.std.proofs.Common.{◌≡◌, ◌≤◌, ◌<◌, ◌-◌, ◌==◌, true, length, slice_index}
-use Rattle.hesc_specs.specs.Ascii.{backslash}
-use Rattle.hesc_specs.specs.StringChanges.{string_decoding_changes}
+use Rattle.hesc_specs.specs.Text.Ascii.{backslash}
+use Rattle.hesc_specs.specs.Strings.Changes.{string_decoding_changes}
 use Rattle.hesc_core.proofs.rules.unescape.next_string_unescape.Given as goal
 
 -- no escape begins before the place, which is that of a `\` or the end

@@ -3,7 +3,7 @@ use Rattle.std.specs.Cmp.Lexicographic.{slice_cmp}
 use Rattle.std.specs.Ordering.{nat_cmp}
 use Rattle.std.specs.Prelude.{Some}
 use Rattle.std.proofs.lemmas.List.{length-map}
-use Rattle.hesc_specs.specs.Entities.{row_at}
+use Rattle.hesc_specs.specs.References.Rows.{row_at}
 use Rattle.hesc_core.specs.Rows.{rows_in}
 use Rattle.hesc_core.specs.Table.{rows_of}
 use Rattle.hesc_core.proofs.Halving.{stored, stored_name, stored_value, Below-more, Above-more, found_in_middle, nowhere}

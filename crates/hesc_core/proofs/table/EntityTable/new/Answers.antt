@@ -1,6 +1,6 @@
 use Rattle.std.proofs.Common.{◌∙◌, sym, ◌<◌, length}
 use Rattle.std.proofs.lemmas.List.{length-map}
-use Rattle.hesc_specs.proofs.Tables.{first_fault-row}
+use Rattle.hesc_specs.proofs.References.Tables.{first_fault-row}
 use Rattle.hesc_core.specs.Rows.{rows_in}
 use Rattle.hesc_core.proofs.table.EntityTable.new.Goals as goal
 

@@ -1,5 +1,5 @@
 use Rattle.std.proofs.Common.{◌≡◌, None, length}
-use Rattle.hesc_specs.specs.TableFaults.{faults_below, missing_below}
+use Rattle.hesc_specs.specs.References.TableFaults.{faults_below, missing_below}
 use Rattle.hesc_core.specs.Rows.{rows_in}
 use Rattle.hesc_core.proofs.table.EntityTable.new.Given as goal
 

@@ -1,5 +1,5 @@
 use Rattle.std.proofs.Common.{◌<◌, ◌==◌, length, refl, sym, arith}
-use Rattle.hesc_specs.specs.Ascii.{semicolon}
+use Rattle.hesc_specs.specs.Text.Ascii.{semicolon}
 use Rattle.hesc_places.proofs.FirstSemicolon.{found_first, absent_first}
 use Rattle.hesc_places.proofs.grammar.references.reference.Goals as goal
 

@@ -1,11 +1,11 @@
 use Rattle.std.proofs.Common.{◌≡◌, List, ℕ, true, ◌++◌, length, take, drop, sym, ap, ◌∙◌}
 use Rattle.std.proofs.lemmas.List.{append-nil, take_rest}
-use Rattle.hesc_specs.specs.FirstPlace.{IsFirstAt}
-use Rattle.hesc_specs.specs.Sessions.{is_undecided}
-use Rattle.hesc_specs.specs.SettledChanges.{undecided_at}
-use Rattle.hesc_specs.proofs.HeldBytes.{undecided-ascii, undecided-front, released-front, undecided_end-front}
-use Rattle.hesc_specs.proofs.SettledBodies.{settled-step, undecided-whole, undecided-nothing}
-use Rattle.hesc_specs.proofs.SettledChanges.{undecided_end-place}
+use Rattle.hesc_specs.specs.Text.FirstPlace.{IsFirstAt}
+use Rattle.hesc_specs.specs.Bodies.Sessions.{is_undecided}
+use Rattle.hesc_specs.specs.Bodies.SettledChanges.{undecided_at}
+use Rattle.hesc_specs.proofs.Bodies.Held.{undecided-ascii, undecided-front, released-front, undecided_end-front}
+use Rattle.hesc_specs.proofs.Bodies.Settled.{settled-step, undecided-whole, undecided-nothing}
+use Rattle.hesc_specs.proofs.Bodies.SettledChanges.{undecided_end-place}
 use Rattle.html_escape.specs.Held.{few_bytes}
 use Rattle.html_escape.specs.BodyEncoders.{held_by, kind_of}
 use Rattle.html_escape.proofs.session.BodyEncoder.append_piece.Goals as goal

@@ -1,5 +1,5 @@
 use Rattle.std.proofs.lemmas.Str.{IsUtf8-from_ascii}
-use Rattle.hesc_specs.proofs.HeldBytes.{undecided-ascii}
+use Rattle.hesc_specs.proofs.Bodies.Held.{undecided-ascii}
 use Rattle.html_escape.proofs.session.BodyEncoder.held_text.Goals as goal
 
 pub from_utf8_unchecked-requires : goal.from_utf8_unchecked-requires

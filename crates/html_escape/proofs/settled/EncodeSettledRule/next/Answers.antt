@@ -1,11 +1,11 @@
 use Rattle.std.proofs.Common.{◌≡◌, ◌≤◌, ◌<◌, length, arith, slice_index}
 use Rattle.std.proofs.lemmas.Str.{IsCharBoundary-after_ascii, IsCharBoundary-end}
-use Rattle.hesc_specs.specs.FirstPlace.{IsFirstAt}
-use Rattle.hesc_specs.specs.Openings.{opens_at}
-use Rattle.hesc_specs.specs.SettledChanges.{undecided_at}
-use Rattle.hesc_specs.proofs.BodyEncodingChanges.{opening-byte}
-use Rattle.hesc_specs.proofs.HeldBytes.{undecided-boundary}
-use Rattle.hesc_specs.proofs.SettledChanges.{next-settled_changes, last-settled_changes, no-settled_changes}
+use Rattle.hesc_specs.specs.Text.FirstPlace.{IsFirstAt}
+use Rattle.hesc_specs.specs.Bodies.Openings.{opens_at}
+use Rattle.hesc_specs.specs.Bodies.SettledChanges.{undecided_at}
+use Rattle.hesc_specs.proofs.Bodies.EncodingChanges.{opening-byte}
+use Rattle.hesc_specs.proofs.Bodies.Held.{undecided-boundary}
+use Rattle.hesc_specs.proofs.Bodies.SettledChanges.{next-settled_changes, last-settled_changes, no-settled_changes}
 use Rattle.html_escape.proofs.settled.EncodeSettledRule.next.Goals as goal
 
 pub returns-then-place-end-clause-found : goal.returns-then-place-end-clause-found

@@ -1,6 +1,6 @@
 use Rattle.std.proofs.Common.{ap, length}
 use Rattle.hesc_specs.specs.declared.elements.Element.TheVariants.{Style}
-use Rattle.hesc_specs.proofs.DecodedBodies.{body_decoding-empty, body_decoding-shorter}
+use Rattle.hesc_specs.proofs.Bodies.Decoded.{body_decoding-empty, body_decoding-shorter}
 use Rattle.hesc_core.proofs.rules.bodies.DecodeStyleRule.bound.Goals as goal
 
 pub returns-clause-enough : goal.returns-clause-enough

@@ -1,5 +1,5 @@
 use Rattle.std.proofs.Common.{◌∙◌, sym, ap, length}
-use Rattle.hesc_specs.proofs.DecodedReferences.{decoded-empty, decoded-shorter}
+use Rattle.hesc_specs.proofs.References.Decoded.{decoded-empty, decoded-shorter}
 use Rattle.hesc_core.specs.Table.{rows_of}
 use Rattle.hesc_core.proofs.rules.references.ReferencesRule.bound.Goals as goal
 

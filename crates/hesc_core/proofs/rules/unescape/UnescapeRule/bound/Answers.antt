@@ -1,5 +1,5 @@
 use Rattle.std.proofs.Common.{ap, length}
-use Rattle.hesc_specs.proofs.DecodedStrings.{unescaped-empty, unescaped-shorter}
+use Rattle.hesc_specs.proofs.Strings.Decoded.{unescaped-empty, unescaped-shorter}
 use Rattle.hesc_core.proofs.rules.unescape.UnescapeRule.bound.Goals as goal
 
 pub returns-clause-enough : goal.returns-clause-enough

@@ -1,0 +1,11 @@
+pub mod Bound
+pub mod DecodingChanges
+pub mod EncodingChanges
+pub mod Seam
+pub mod Canonical
+pub mod Decoded
+pub mod Held
+pub mod Openings
+pub mod Same
+pub mod Settled
+pub mod SettledChanges

@@ -1,0 +1,3 @@
+pub mod DifferentTexts
+pub mod Changes
+pub mod Images

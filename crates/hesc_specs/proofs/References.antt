@@ -1,0 +1,5 @@
+pub mod Applied
+pub mod Decoded
+pub mod Next
+pub mod Undone
+pub mod Tables

@@ -1,0 +1,10 @@
+pub mod CharacterBytes
+pub mod Decoded
+pub mod Different
+pub mod Plain
+pub mod Bound
+pub mod DecodingChanges
+pub mod EncodingChanges
+pub mod EscapeEnds
+pub mod Numbers
+pub mod Undone

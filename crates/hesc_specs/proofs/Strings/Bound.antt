@@ -1,0 +1,94 @@
+-- By how much a string encoding is longer than its text at most, by the bytes of the text.
+use Rattle.std.proofs.Common.{◌≡◌, ℕ, ◌+◌, ◌/◌, ◌%◌, ◌≤◌, ◌<◌, Bool, true, false, ◌||◌, not, ◌==◌, List, [], ◌∷◌, ◌++◌, Some, length, flat_map, if◌then◌else◌, IsUtf8, refl, sym, subst, ap, ◌∙◌, length-append, ne_eqb, inl, inr, arith}
+use Rattle.std.specs.Prelude.{chars}
+use Rattle.std.specs.List.{sum_by}
+use Rattle.std.proofs.lemmas.Bool.{and_parts, cases_eq}
+use Rattle.std.proofs.lemmas.List.Sums.{sum_by-append}
+use Rattle.std.proofs.lemmas.Str.{encode_ascii, encodes-chars}
+use Rattle.std.proofs.Math.Utf8.{encode, encodes}
+use Rattle.hesc_specs.specs.Text.Ascii.{backslash, lower_x, space}
+use Rattle.hesc_specs.specs.Text.Classes.{in_class, separator_lead, string_class}
+use Rattle.hesc_specs.specs.Text.EscapedPlaces.{begins_escaped, completes_separator}
+use Rattle.hesc_specs.specs.Text.HexDigits.{hex_digit}
+use Rattle.hesc_specs.specs.Strings.Encoding.{is_escaped, is_mark, line_separator, paragraph_separator, string_encoding, string_escape, string_image}
+use Rattle.hesc_specs.specs.declared.classes.Class.{Class}
+use Rattle.hesc_specs.specs.declared.elements.Element.{Element}
+use Rattle.hesc_specs.specs.declared.elements.Element.TheVariants.{Script, Style}
+use Rattle.hesc_specs.specs.declared.quotes.Quotes.{Quotes}
+use Rattle.hesc_specs.proofs.Strings.CharacterBytes.{begins_escaped-character, encode-line_separator, encode-paragraph_separator, encode-replacement_character, is_escaped-cases}
+use Rattle.hesc_specs.proofs.Text.SomeImages.{some-string_image}
+
+-- an ASCII character becomes four bytes at most, and a separator, which has three, six
+abbrev pub growth : Class → ℕ → ℕ
+growth class b = if in_class class b then 3 else 0
+
+-- the escape of an ASCII character
+mark_or_number : (mark : Bool) (c : ℕ) (number : List ℕ) → length number ≡ 4 → length (if mark then backslash ∷ c ∷ [] else number) ≤ 4
+mark_or_number true c number long = omega arith
+mark_or_number false c number long = omega arith
+
+length-string_escape : (element : Element) (c : ℕ) → c < 128 → length (string_escape element c) ≤ 4
+length-string_escape Script c small =
+    rw (ne_eqb c line_separator (λ is. omega arith), ne_eqb c paragraph_separator (λ is. omega arith))
+    (mark_or_number (is_mark c) c (backslash ∷ lower_x ∷ hex_digit (c / 16) ∷ hex_digit (c % 16) ∷ []) refl)
+length-string_escape Style c small = elim (cases_eq c 0) [
+  | inl nul ↦ rw (nul, encode-replacement_character) (omega arith)
+  | inr other ↦
+      rw (ne_eqb c 0 other)
+      (mark_or_number (is_mark c) c (backslash ∷ hex_digit (c / 16) ∷ hex_digit (c % 16) ∷ space ∷ []) refl)
+]
+
+module _ (class : Class) (element : Element) (quotes : Quotes) (is : string_class class ≡ Some (element, quotes)) where
+  -- the first byte of a replaced character is in the class
+  first_in_class : (c b : ℕ) (bytes : List ℕ) → is_escaped element quotes c ≡ true → encode c ≡ b ∷ bytes → in_class class b ≡ true
+  first_in_class c b bytes replaced spelt =
+      let begins : begins_escaped class (b ∷ (bytes ++ [])) ≡ true =
+      ap (λ all. begins_escaped class (all ++ [])) (sym spelt) ∙ begins_escaped-character class element quotes is c [] ∙ replaced in
+      (and_parts (in_class class b) (not (b == separator_lead) || completes_separator (bytes ++ [])) begins).0
+
+  separator-grows : (c last : ℕ) → is_escaped element quotes c ≡ true → encode c ≡ separator_lead ∷ 0x80 ∷ last ∷ []
+      → 6 ≤ length (encode c) + sum_by (growth class) (encode c)
+  separator-grows c last replaced spelt =
+      let lead : growth class separator_lead ≡ 3 = rw (first_in_class c separator_lead (0x80 ∷ last ∷ []) replaced spelt) refl in
+      rw spelt (omega (arith, lead))
+
+  replaced-grows : (c : ℕ) → is_escaped element quotes c ≡ true → length (string_escape element c) ≤ length (encode c) + sum_by (growth class) (encode c)
+  replaced-grows c replaced = elim (is_escaped-cases element quotes c replaced) [
+    | inl small ↦
+        let there = first_in_class c c [] replaced (encode_ascii c small) in
+        let short = length-string_escape element c small in
+        rw (encode_ascii c small, there) (omega arith)
+    | inr separator ↦ elim separator.1 [
+      | inl line ↦
+          let long = separator-grows c 0xA8 replaced (ap encode line ∙ encode-line_separator) in
+          let written : length (string_escape element c) ≡ 6 = rw (separator.0, line) refl in
+          omega (arith, long, written)
+      | inr paragraph ↦
+          let long = separator-grows c 0xA9 replaced (ap encode paragraph ∙ encode-paragraph_separator) in
+          let written : length (string_escape element c) ≡ 6 = rw (separator.0, paragraph) refl in
+          omega (arith, long, written)
+    ]
+  ]
+
+  image-grows : (c : ℕ) (replaced : Bool) → is_escaped element quotes c ≡ replaced
+      → length (string_image element quotes c) ≤ length (encode c) + sum_by (growth class) (encode c)
+  image-grows c true is_replaced = rw is_replaced (replaced-grows c is_replaced)
+  image-grows c false is_kept = rw is_kept (omega arith)
+
+  images-grow : (characters : List ℕ) → length (flat_map (string_image element quotes) characters) ≤ length (encodes characters) + sum_by (growth class) (encodes characters)
+  images-grow [] = omega arith
+  images-grow (c ∷ characters) =
+      let image = string_image element quotes c in
+      omega (arith, image-grows c (is_escaped element quotes c) refl, images-grow characters, length-append image (flat_map (string_image element quotes) characters), length-append (encode c) (encodes characters), sum_by-append (growth class) (encode c) (encodes characters))
+
+  pub length-string_encoding : (text : List ℕ) → IsUtf8 text → length (string_encoding element quotes text) ≤ length text + sum_by (growth class) text
+  length-string_encoding text utf8 =
+      subst (λ bytes. length (string_encoding element quotes text) ≤ length bytes + sum_by (growth class) bytes) (encodes-chars text utf8) (images-grow (chars text))
+
+no_characters : (element : Element) (quotes : Quotes) (characters : List ℕ) → flat_map (string_image element quotes) characters ≡ [] → characters ≡ []
+no_characters element quotes [] none = refl
+no_characters element quotes (c ∷ characters) none =
+    absurd (omega (arith, some-string_image element quotes c, length-append (string_image element quotes c) (flat_map (string_image element quotes) characters), ap length none))
+
+pub empty-string_encoding : (element : Element) (quotes : Quotes) (text : List ℕ) → IsUtf8 text → string_encoding element quotes text ≡ [] → text ≡ []
+empty-string_encoding element quotes text utf8 none = sym (encodes-chars text utf8) ∙ ap encodes (no_characters element quotes (chars text) none)

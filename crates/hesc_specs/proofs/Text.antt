@@ -1,0 +1,9 @@
+pub mod EscapeChanges
+pub mod HexDigits
+pub mod HighBytes
+pub mod JoinedTexts
+pub mod NulCharacters
+pub mod Parts
+pub mod SliceRanges
+pub mod SomeImages
+pub mod UnescapeChanges

@@ -1,0 +1,12 @@
+pub mod Ascii
+pub mod Words
+pub mod HexDigits
+pub mod Nul
+pub mod Elements
+pub mod Classes
+pub mod EscapedPlaces
+pub mod Changes
+pub mod Parts
+pub mod FirstPlace
+pub mod Beginning
+pub mod Escaped
