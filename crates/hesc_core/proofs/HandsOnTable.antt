@@ -44,8 +44,8 @@ use denote.Ref.{shr_vals, shr_Tells}
 use denote.Signature.{shr_ref_to, named_lft}
 use Rattle.hesc_core.specs.contracts.table.EntityTable as table
 use Rattle.std.specs.declared.alloc.Allocator.{Ghosts}
-use Rattle.hesc_core.specs.Forms.{string_row, vec_row}
-use Rattle.hesc_core.proofs.HandsOn.{over, text_answer, bytes_answer, bytes_laws}
+use Rattle.hesc_engine.specs.Forms.{string_row, vec_row}
+use Rattle.hesc_engine.proofs.HandsOn.{over, text_answer, bytes_answer, bytes_laws}
 
 abbrev pub turned_lfts : Lfts 5 → Lfts 5
 turned_lfts κs = (κs.1.1.1.0, (κs.0, (κs.1.0, (κs.1.1.0, (κs.1.1.1.1.0, tt)))))

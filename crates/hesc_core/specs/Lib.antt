@@ -1,10 +1,3 @@
-pub mod Text
-pub mod ClassNumbers
-pub mod Next
-pub mod Pieces
-pub mod Sinks
-pub mod Forms
-pub mod Groups
 pub mod NamedRows
 pub mod Numbers
 pub mod Rows

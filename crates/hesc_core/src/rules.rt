@@ -7,7 +7,6 @@ pub(crate) mod html_references;
 mod reference_values;
 pub mod references;
 pub mod string_escape;
-pub mod unchanged;
 pub mod unescape;
 
 pub use crate::rules::bodies::{
@@ -15,5 +14,5 @@ pub use crate::rules::bodies::{
 };
 pub use crate::rules::escape::{Escape, next_escape};
 pub use crate::rules::references::{References, next_references};
-pub use crate::rules::unchanged::Unchanged;
 pub use crate::rules::unescape::{Unescape, next_string_unescape, next_unescape};
+pub use hesc_engine::Unchanged;

@@ -17,7 +17,7 @@ ghost use Rattle.hesc_specs.specs.Strings.Tokens.{
 };
 ghost use Rattle.hesc_specs.specs.Text.Words.{begins_in_any_case};
 
-use crate::openings::{is_named, name_of};
+use hesc_scan::openings::{is_named, name_of};
 use hesc_specs::{Element, Quotes};
 
 /// The escape that a `\` before these bytes begins, if any: how many bytes it has behind the `\`,

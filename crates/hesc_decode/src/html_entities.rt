@@ -2,7 +2,7 @@
 ghost use Rattle.std.specs.Borrow.{sem};
 ghost use Rattle.hesc_specs.specs.References.Changes.{reference_changes};
 ghost use Rattle.hesc_specs.specs.References.Decoding.{decoded};
-ghost use Rattle.hesc_core.specs.Forms.{
+ghost use Rattle.hesc_engine.specs.Forms.{
   AnswersPart,
   AnswersText,
   StringAppended,

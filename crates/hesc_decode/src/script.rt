@@ -4,7 +4,7 @@ ghost use Rattle.std.specs.Borrow.{sem};
 ghost use Rattle.hesc_specs.specs.Bodies.Encoding.{body_decoding};
 ghost use Rattle.hesc_specs.specs.Bodies.Changes.{body_decoding_changes};
 ghost use Rattle.hesc_specs.specs.declared.elements.Element.TheVariants.{Script};
-ghost use Rattle.hesc_core.specs.Forms.{
+ghost use Rattle.hesc_engine.specs.Forms.{
   AnswersPart,
   AnswersText,
   StringAppended,

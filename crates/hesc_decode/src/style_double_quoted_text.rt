@@ -7,7 +7,7 @@ ghost use Rattle.hesc_specs.specs.Strings.Changes.{string_decoding_changes};
 ghost use Rattle.hesc_specs.specs.Strings.Tokens.{string_decoding};
 ghost use Rattle.hesc_specs.specs.declared.elements.Element.TheVariants.{Style};
 ghost use Rattle.hesc_specs.specs.declared.quotes.Quotes.TheVariants.{Double};
-ghost use Rattle.hesc_core.specs.Forms.{
+ghost use Rattle.hesc_engine.specs.Forms.{
   AnswersPart,
   AnswersText,
   StringAppended,

@@ -5,7 +5,7 @@ ghost use Rattle.hesc_specs.specs.Strings.Changes.{string_encoding_changes};
 ghost use Rattle.hesc_specs.specs.Strings.Encoding.{string_encoding};
 ghost use Rattle.hesc_specs.specs.declared.elements.Element.TheVariants.{Script};
 ghost use Rattle.hesc_specs.specs.declared.quotes.Quotes.TheVariants.{Both};
-ghost use Rattle.hesc_core.specs.Forms.{
+ghost use Rattle.hesc_engine.specs.Forms.{
   AnswersPart,
   AnswersText,
   StringAppended,

@@ -2,7 +2,7 @@
 ghost use Rattle.std.specs.Borrow.{sem};
 ghost use Rattle.hesc_specs.specs.Text.Changes.{html_changes};
 ghost use Rattle.hesc_specs.specs.Html.{encoding};
-ghost use Rattle.hesc_core.specs.Forms.{
+ghost use Rattle.hesc_engine.specs.Forms.{
   AnswersPart,
   AnswersText,
   StringAppended,

@@ -1,7 +1,7 @@
 //! What an encoder writes for a text, between the marks of a place: to any sink, and appended.
 ghost use Rattle.std.specs.Prelude.{◌≡◌, ◌≤◌, ◌++◌, length, IsOk, OnOk};
 ghost use Rattle.std.specs.String.{string_bytes};
-ghost use Rattle.hesc_core.specs.Forms.{Appended, string_room};
+ghost use Rattle.hesc_engine.specs.Forms.{Appended, string_room};
 ghost use Rattle.hesc_places.specs.Enclosed.{enclosed};
 
 use crate::marks::{closing, opening};

@@ -3,7 +3,7 @@
 ghost use Rattle.std.specs.Prelude.{◌≡◌, ◌≤◌, ◌↔◌, length, IfOk, IsOk, IsTrue, OnOk};
 ghost use Rattle.std.specs.Borrow.{sem};
 ghost use Rattle.std.specs.String.{string_bytes};
-ghost use Rattle.hesc_core.specs.Forms.{Appended, StringAppended, string_room};
+ghost use Rattle.hesc_engine.specs.Forms.{Appended, StringAppended, string_room};
 ghost use Rattle.hesc_places.specs.Enclosed.{AnswersFirstFault, IsReadAsText, enclosed};
 ghost use Rattle.hesc_places.specs.Suits.{MayHold, suits};
 

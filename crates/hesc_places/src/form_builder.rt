@@ -2,7 +2,7 @@
 ghost use Rattle.std.specs.Prelude.{◌≡◌, ◌≤◌, length, map, IfOk, IsOk};
 ghost use Rattle.std.specs.Borrow.{sem};
 ghost use Rattle.std.specs.String.{string_bytes};
-ghost use Rattle.hesc_core.specs.Forms.{Appended, StringAppended, string_room};
+ghost use Rattle.hesc_engine.specs.Forms.{Appended, StringAppended, string_room};
 ghost use Rattle.hesc_places.specs.FormFaults.{AnswersFormFault};
 ghost use Rattle.hesc_places.specs.FormTexts.{AreGood, form_text, written};
 

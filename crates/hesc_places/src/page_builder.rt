@@ -2,7 +2,7 @@
 ghost use Rattle.std.specs.Prelude.{◌≡◌, ◌≢◌, ◌≤◌, ◌↔◌, [], length, IfOk, IsErrOf, IsOk};
 ghost use Rattle.std.specs.Borrow.{sem};
 ghost use Rattle.std.specs.String.{string_bytes};
-ghost use Rattle.hesc_core.specs.Forms.{Appended, StringAppended, string_room};
+ghost use Rattle.hesc_engine.specs.Forms.{Appended, StringAppended, string_room};
 ghost use Rattle.hesc_places.specs.PageTexts.{page_text};
 ghost use Rattle.hesc_places.specs.declared.fault.PlaceFault.TheVariants.{EmptyUnquoted, NotForPlace};
 

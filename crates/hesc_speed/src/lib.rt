@@ -16,7 +16,7 @@ ghost use Rattle.std.specs.Prelude.{
   true,
 };
 ghost use Rattle.std.specs.Str.{IsUtf8};
-ghost use Rattle.hesc_core.specs.Forms.{AnswersText};
+ghost use Rattle.hesc_engine.specs.Forms.{AnswersText};
 ghost use Rattle.html_escape.specs.Operations.{operation_changes, operation_text};
 ghost use Rattle.hesc_speed.specs.Measured.{
   AnswersEmpty,

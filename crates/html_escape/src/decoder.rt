@@ -1,7 +1,7 @@
 //! The decoders by name.
 ghost use Rattle.std.specs.Prelude.{◌≡◌, [], IfNone, IfSome};
 ghost use Rattle.std.specs.Str.{IsCharBoundary};
-ghost use Rattle.hesc_core.specs.Next.{IsNext};
+ghost use Rattle.hesc_engine.specs.Next.{IsNext};
 ghost use Rattle.html_escape.specs.Decoders.{decoder_changes};
 
 use hesc_core::rules::{next_body_unescape, next_references, next_unescape};

@@ -1,7 +1,7 @@
 //! The encoders by name.
 ghost use Rattle.std.specs.Prelude.{◌≡◌, [], IfNone, IfSome};
 ghost use Rattle.std.specs.Str.{IsCharBoundary};
-ghost use Rattle.hesc_core.specs.Next.{IsNext};
+ghost use Rattle.hesc_engine.specs.Next.{IsNext};
 ghost use Rattle.html_escape.specs.Encoders.{
   applied-encoder_changes,
   encoded,

@@ -1,7 +1,7 @@
 //! An operation as a value, and its pieces.
 ghost use Rattle.std.specs.Prelude.{◌≡◌, ◌≤◌, ◌*◌, ◌+◌, length};
 ghost use Rattle.hesc_specs.specs.Text.Parts.{joined, parts};
-ghost use Rattle.hesc_core.specs.Pieces.{parts_left};
+ghost use Rattle.hesc_engine.specs.Pieces.{parts_left};
 ghost use Rattle.html_escape.specs.Operations.{
   applied-operation_changes,
   operation_changes,

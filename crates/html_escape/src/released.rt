@@ -5,7 +5,7 @@ ghost use Rattle.std.specs.Str.{IsAscii};
 ghost use Rattle.std.specs.String.{string_bytes};
 ghost use Rattle.hesc_specs.specs.Bodies.Openings.{is_opening};
 ghost use Rattle.hesc_specs.specs.Bodies.Sessions.{is_undecided, released, settled_encoding};
-ghost use Rattle.hesc_core.specs.Forms.{Appended, string_room};
+ghost use Rattle.hesc_engine.specs.Forms.{Appended, string_room};
 
 use crate::settled::EncodeSettled;
 use hesc_core::openings::first_opening;

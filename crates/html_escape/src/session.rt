@@ -5,7 +5,7 @@ ghost use Rattle.std.specs.Borrow.{sem};
 ghost use Rattle.std.specs.String.{string_bytes};
 ghost use Rattle.hesc_specs.specs.Bodies.Encoding.{body_encoding};
 ghost use Rattle.hesc_specs.specs.Bodies.Sessions.{IsStep, is_undecided as undecided, undecided_end};
-ghost use Rattle.hesc_core.specs.Forms.{AnswersPart, Appended, StringAppended, string_room};
+ghost use Rattle.hesc_engine.specs.Forms.{AnswersPart, Appended, StringAppended, string_room};
 ghost use Rattle.html_escape.specs.Held.{few_bytes};
 
 use crate::encoder::Encoder;

@@ -7,13 +7,13 @@ ghost use Rattle.hesc_specs.specs.Bodies.Changes.{body_decoding_changes, body_en
 ghost use Rattle.hesc_specs.specs.declared.elements.Element.TheVariants.{Script, Style};
 ghost use Rattle.hesc_specs.proofs.Bodies.DecodingChanges.{applied-body_decoding_changes};
 ghost use Rattle.hesc_specs.proofs.Bodies.EncodingChanges.{applied-body_encoding_changes};
-ghost use Rattle.hesc_core.specs.Next.{IsNext};
+ghost use Rattle.hesc_engine.specs.Next.{IsNext};
 
-use crate::body_bound::body_bound;
-use crate::found::{Found, Replacement};
-use crate::openings::{first_escaped_opening, first_opening};
-use crate::rule::Rule;
-use crate::small_text::SmallText;
+use hesc_engine::found::{Found, Replacement};
+use hesc_engine::rule::Rule;
+use hesc_engine::small_text::SmallText;
+use hesc_scan::length::body_bound;
+use hesc_scan::openings::{first_escaped_opening, first_opening};
 use hesc_specs::Element;
 
 /// The encoder of a script's body.

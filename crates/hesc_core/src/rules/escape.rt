@@ -4,15 +4,14 @@ ghost use Rattle.std.specs.Str.{IsCharBoundary};
 ghost use Rattle.hesc_specs.specs.Text.Classes.{element_of as element_in_class};
 ghost use Rattle.hesc_specs.specs.Text.Escaped.{escape_changes, escaped};
 ghost use Rattle.hesc_specs.proofs.Text.EscapeChanges.{applied-escape_changes};
-ghost use Rattle.hesc_core.specs.Next.{IsNext};
+ghost use Rattle.hesc_engine.specs.Next.{IsNext};
 
-use crate::found::Found;
-use crate::html_length::encoded_length;
-use crate::rule::Rule;
 use crate::rules::html_escape::next_html_escape;
 use crate::rules::string_escape::next_string_escape;
-use crate::string_bound::string_bound;
 use crate::string_classes::string_class;
+use hesc_engine::found::Found;
+use hesc_engine::rule::Rule;
+use hesc_scan::length::{encoded_length, string_bound};
 use hesc_specs::{Class, Element};
 
 /// The encoder of a class.

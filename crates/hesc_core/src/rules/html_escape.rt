@@ -3,11 +3,11 @@ ghost use Rattle.std.specs.Prelude.{◌≡◌, [], IfNone, IfSome};
 ghost use Rattle.std.specs.Str.{IsCharBoundary};
 ghost use Rattle.hesc_specs.specs.Text.Changes.{html_changes};
 ghost use Rattle.hesc_specs.specs.Text.Classes.{IsHtml};
-ghost use Rattle.hesc_core.specs.Next.{IsNext};
+ghost use Rattle.hesc_engine.specs.Next.{IsNext};
 
-use crate::found::{Found, Replacement};
 use crate::rules::html_references::reference;
-use crate::scan::first_in;
+use hesc_engine::found::{Found, Replacement};
+use hesc_scan::scan::first_in;
 use hesc_specs::Class;
 
 /// The first byte of the class at or after `from`, a character boundary, and its reference.

@@ -1,9 +1,9 @@
 //! The references to the ASCII bytes.
 ghost use Rattle.std.specs.Prelude.{◌≡◌, ◌<◌, [], length, slice_index_or};
 ghost use Rattle.hesc_specs.specs.Html.{reference_to};
-ghost use Rattle.hesc_core.specs.Text.{small_text_bytes};
+ghost use Rattle.hesc_engine.specs.Text.{small_text_bytes};
 
-use crate::small_text::SmallText;
+use hesc_engine::small_text::SmallText;
 
 /// The reference that stands for each ASCII byte, and its length; behind it NULs that say nothing.
 const REFERENCES: [([u8; 8], usize); 128] = [

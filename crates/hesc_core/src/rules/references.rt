@@ -4,14 +4,14 @@ ghost use Rattle.std.specs.Str.{IsCharBoundary};
 ghost use Rattle.hesc_specs.specs.References.Changes.{reference_changes};
 ghost use Rattle.hesc_specs.specs.References.Decoding.{decoded};
 ghost use Rattle.hesc_specs.proofs.References.Applied.{applied-reference_changes};
-ghost use Rattle.hesc_core.specs.Next.{IsNext};
+ghost use Rattle.hesc_engine.specs.Next.{IsNext};
 ghost use Rattle.hesc_core.specs.Table.{rows_of};
 
-use crate::find::{first_byte, first_of_two};
-use crate::found::Found;
-use crate::rule::Rule;
 use crate::rules::reference_values::value_of_body;
 use crate::table::EntityTable;
+use hesc_engine::found::Found;
+use hesc_engine::rule::Rule;
+use hesc_scan::find::{first_byte, first_of_two};
 
 /// The decoder of the references of a table.
 #[derive(Clone, Copy)]

@@ -11,13 +11,13 @@ ghost use Rattle.hesc_specs.specs.Strings.Encoding.{
   string_escape,
 };
 ghost use Rattle.hesc_specs.specs.declared.elements.Element.TheVariants.{Script, Style};
-ghost use Rattle.hesc_core.specs.Next.{IsNext};
-ghost use Rattle.hesc_core.specs.Text.{replacement_bytes};
+ghost use Rattle.hesc_engine.specs.Next.{IsNext};
+ghost use Rattle.hesc_engine.specs.Text.{replacement_bytes};
 
-use crate::found::{Found, Replacement};
 use crate::rules::hex_digits::upper_hex_digit;
-use crate::scan::first_escaped;
-use crate::small_text::SmallText;
+use hesc_engine::found::{Found, Replacement};
+use hesc_engine::small_text::SmallText;
+use hesc_scan::scan::first_escaped;
 use hesc_specs::{Class, Element};
 
 /// The first character at or after `from`, a character boundary, that the encoder of the class

@@ -5,15 +5,15 @@ ghost use Rattle.std.specs.Str.{IsCharBoundary};
 ghost use Rattle.hesc_specs.specs.Text.Escaped.{unescape_changes, unescaped};
 ghost use Rattle.hesc_specs.specs.Strings.Changes.{string_decoding_changes};
 ghost use Rattle.hesc_specs.proofs.Text.UnescapeChanges.{applied-unescape_changes};
-ghost use Rattle.hesc_core.specs.Next.{IsNext};
-ghost use Rattle.hesc_core.specs.Text.{replacement_bytes};
+ghost use Rattle.hesc_engine.specs.Next.{IsNext};
+ghost use Rattle.hesc_engine.specs.Text.{replacement_bytes};
 
-use crate::find::first_byte;
-use crate::found::{Found, Replacement};
-use crate::rule::Rule;
-use crate::small_text::SmallText;
 use crate::string_classes::string_class;
 use crate::string_tokens::{escape, is_behind_less};
+use hesc_engine::found::{Found, Replacement};
+use hesc_engine::rule::Rule;
+use hesc_engine::small_text::SmallText;
+use hesc_scan::find::first_byte;
 use hesc_specs::{Class, Element, Quotes};
 
 /// The decoder of a class. That of an HTML encoder's class changes nothing.

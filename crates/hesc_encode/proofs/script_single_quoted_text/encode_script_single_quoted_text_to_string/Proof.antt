@@ -1,7 +1,7 @@
 use base.Logic.{id⊢}
 use Rattle.hesc_encode.specs.contracts.script_single_quoted_text.encode_script_single_quoted_text_to_string as f
 use Rattle.hesc_encode.specs.contracts.script_single_quoted_text.encode_script_single_quoted_text_onto_string as g
-use Rattle.hesc_core.proofs.HandsOn.{hands_on, string_form}
+use Rattle.hesc_engine.proofs.HandsOn.{hands_on, string_form}
 use Rattle.hesc_encode.proofs.script_single_quoted_text.encode_script_single_quoted_text_to_string.Statement.{statement}
 use Rattle.hesc_encode.proofs.script_single_quoted_text.encode_script_single_quoted_text_to_string.Code as code
 use Rattle.hesc_encode.proofs.script_single_quoted_text.encode_script_single_quoted_text_onto_string.Met as callee

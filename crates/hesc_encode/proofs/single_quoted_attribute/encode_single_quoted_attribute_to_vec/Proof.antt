@@ -1,7 +1,7 @@
 use base.Logic.{id⊢}
 use Rattle.hesc_encode.specs.contracts.single_quoted_attribute.encode_single_quoted_attribute_to_vec as f
 use Rattle.hesc_encode.specs.contracts.single_quoted_attribute.encode_single_quoted_attribute_onto_vec as g
-use Rattle.hesc_core.proofs.HandsOn.{hands_on, vec_form}
+use Rattle.hesc_engine.proofs.HandsOn.{hands_on, vec_form}
 use Rattle.hesc_encode.proofs.single_quoted_attribute.encode_single_quoted_attribute_to_vec.Statement.{statement}
 use Rattle.hesc_encode.proofs.single_quoted_attribute.encode_single_quoted_attribute_to_vec.Code as code
 use Rattle.hesc_encode.proofs.single_quoted_attribute.encode_single_quoted_attribute_onto_vec.Met as callee

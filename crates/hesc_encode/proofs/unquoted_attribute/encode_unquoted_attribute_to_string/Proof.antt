@@ -1,7 +1,7 @@
 use base.Logic.{id⊢}
 use Rattle.hesc_encode.specs.contracts.unquoted_attribute.encode_unquoted_attribute_to_string as f
 use Rattle.hesc_encode.specs.contracts.unquoted_attribute.encode_unquoted_attribute_onto_string as g
-use Rattle.hesc_core.proofs.HandsOn.{hands_on, string_form}
+use Rattle.hesc_engine.proofs.HandsOn.{hands_on, string_form}
 use Rattle.hesc_encode.proofs.unquoted_attribute.encode_unquoted_attribute_to_string.Statement.{statement}
 use Rattle.hesc_encode.proofs.unquoted_attribute.encode_unquoted_attribute_to_string.Code as code
 use Rattle.hesc_encode.proofs.unquoted_attribute.encode_unquoted_attribute_onto_string.Met as callee

@@ -32,8 +32,8 @@ use borrow.Table.Str.{str_laws}
 use Rattle.std.proofs.result.Result.TheLaws.{the_row_laws as result_laws}
 use Rattle.html_escape.specs.contracts.encoder.Encoder as encoder
 use Rattle.html_escape.proofs.encoder.Encoder.TheLaws as encoder_laws
-use Rattle.hesc_core.specs.Forms.{string_row}
-use Rattle.hesc_core.proofs.HandsOn.{over, turned_lfts}
+use Rattle.hesc_engine.specs.Forms.{string_row}
+use Rattle.hesc_engine.proofs.HandsOn.{over, turned_lfts}
 use Rattle.hesc_places.specs.contracts.places.Place as place
 use Rattle.hesc_places.proofs.places.Place.TheLaws as place_laws
 use Rattle.hesc_places.specs.contracts.fault.PlaceFault as fault

@@ -29,8 +29,8 @@ use denote.Triple.Table.{framed}
 use denote.Triple.Walked.{Stays, stay_dropped, Goes-dropped, Goes-spent_ref, walk_of, ends_at}
 use borrow.Table.Str.{str_laws}
 use Rattle.std.proofs.result.Result.TheLaws.{the_row_laws as result_laws}
-use Rattle.hesc_core.specs.Forms.{string_row}
-use Rattle.hesc_core.proofs.HandsOn.{over}
+use Rattle.hesc_engine.specs.Forms.{string_row}
+use Rattle.hesc_engine.proofs.HandsOn.{over}
 use Rattle.hesc_places.specs.contracts.attribute.Attribute as attribute
 use Rattle.hesc_places.specs.contracts.form_fault.FormFault as fault
 use Rattle.hesc_places.proofs.form_fault.FormFault.TheLaws as fault_laws

@@ -4,7 +4,7 @@ use Rattle.std.proofs.lemmas.Str.{IsCharBoundary-before_ascii, IsCharBoundary-af
 use Rattle.hesc_specs.specs.Text.FirstPlace.{IsFirstPlace}
 use Rattle.hesc_specs.proofs.References.Next.{is_start, is_stop, reached, unended, cut, unknown, replaced}
 use Rattle.hesc_core.specs.Table.{rows_of}
-use Rattle.hesc_core.specs.Text.{replacement_bytes}
+use Rattle.hesc_engine.specs.Text.{replacement_bytes}
 use Rattle.hesc_core.proofs.rules.references.next_references.Goals as goal
 
 pub seeking-init : goal.seeking-init

@@ -28,8 +28,8 @@ use borrow.Table.Str.{str_laws}
 use Rattle.std.proofs.result.Result.TheLaws.{the_row_laws as result_laws}
 use Rattle.std.proofs.alloc.AllocError.TheLaws.{the_row_laws as error_laws}
 use Rattle.std.specs.contracts.alloc.AllocError as error
-use Rattle.hesc_core.specs.Forms.{string_row}
-use Rattle.hesc_core.proofs.HandsOn.{over, turned_lfts}
+use Rattle.hesc_engine.specs.Forms.{string_row}
+use Rattle.hesc_engine.proofs.HandsOn.{over, turned_lfts}
 use Rattle.html_escape.specs.contracts.session.BodyEncoder as encoder
 use Rattle.html_escape.specs.contracts.session.BodyEncoder.finish as f
 use Rattle.html_escape.specs.contracts.session.BodyEncoder.finish_onto as g

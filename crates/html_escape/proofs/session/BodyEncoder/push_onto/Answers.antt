@@ -1,7 +1,7 @@
 use Rattle.std.proofs.Common.{ap, length}
 use Rattle.std.specs.String.{string_bytes}
 use Rattle.std.proofs.lemmas.Str.{IsUtf8-string_bytes}
-use Rattle.hesc_core.proofs.Seam.{seam}
+use Rattle.hesc_engine.proofs.Seam.{seam}
 use Rattle.html_escape.proofs.session.BodyEncoder.push_onto.Goals as goal
 
 pub range_from-requires : goal.range_from-requires

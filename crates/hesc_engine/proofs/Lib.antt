@@ -1,0 +1,7 @@
+pub mod Blocks
+pub mod HandsOn
+pub mod Progress
+pub mod Seam
+pub mod TakenText
+pub mod Told
+pub mod Turns

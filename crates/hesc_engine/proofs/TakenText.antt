@@ -1,0 +1,17 @@
+-- Texts behind texts are texts.
+use Rattle.std.proofs.Common.{◌≡◌, List, ℕ, ◌++◌}
+use Rattle.std.proofs.lemmas.Str.{IsUtf8-append, IsUtf8-had}
+use Rattle.std.specs.Prelude.{Result, Ok, Err, OnOk}
+use Rattle.std.specs.Str.{IsUtf8}
+use Rattle.hesc_engine.specs.Forms.{Appended}
+
+pub text_more : (taken piece all : List ℕ) → all ≡ taken ++ piece → ∥ IsUtf8 taken ∥₁ → IsUtf8 piece → ∥ IsUtf8 all ∥₁
+text_more taken piece all is before more = rw is (∣ IsUtf8-append taken piece (IsUtf8-had taken before) more ∣₁)
+
+pub text_kept : (taken all : List ℕ) → all ≡ taken → ∥ IsUtf8 taken ∥₁ → ∥ IsUtf8 all ∥₁
+text_kept taken all is before = rw is before
+
+-- a text with a text appended, or as it was, is a text
+pub text_appended : {T E : Type 0} (result : Result T E) (old new added : List ℕ) → Appended old new added result → OnOk result (IsUtf8 added) → IsUtf8 old → IsUtf8 new
+text_appended (Ok v) old new added is more before = rw is (IsUtf8-append old added before more)
+text_appended (Err e) old new added is more before = rw is before

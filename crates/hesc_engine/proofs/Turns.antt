@@ -1,0 +1,18 @@
+-- The parts that a turn stands for, one after another.
+use Rattle.std.proofs.Common.{◌≡◌, ℕ, List, [], ◌∷◌, ◌++◌, refl, sym, ◌∙◌, ap, append_assoc}
+use Rattle.hesc_specs.specs.Text.Parts.{Part, joined, renewed}
+use Rattle.hesc_engine.specs.Pieces.{kept_unless_empty, stretch_of, turn_bytes}
+use Rattle.hesc_engine.specs.Text.{replacement_bytes}
+use Rattle.hesc_engine.specs.declared.turn.Turn.{Turn}
+
+joined-renewed : (new : List ℕ) (later : List Part) → joined (renewed new ++ later) ≡ new ++ joined later
+joined-renewed [] later = refl
+joined-renewed (b ∷ bytes) later = refl
+
+joined-parts : (start : ℕ) (kept new : List ℕ) (later : List Part) → joined (kept_unless_empty start kept ++ (renewed new ++ later)) ≡ (kept ++ new) ++ joined later
+joined-parts start [] new later = joined-renewed new later
+joined-parts start (b ∷ bytes) new later =
+    ap (λ (rest : List ℕ). (b ∷ bytes) ++ rest) (joined-renewed new later) ∙ sym (append_assoc (b ∷ bytes) new (joined later))
+
+pub joined-turn : (turn : Turn) (later : List Part) → joined (stretch_of turn ++ (renewed (replacement_bytes turn.new) ++ later)) ≡ turn_bytes turn ++ joined later
+joined-turn turn later = joined-parts turn.start turn.kept.now (replacement_bytes turn.new) later

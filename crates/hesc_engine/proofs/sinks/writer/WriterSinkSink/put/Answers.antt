@@ -1,0 +1,8 @@
+use Rattle.hesc_engine.proofs.Told.{told-more, told-kept}
+use Rattle.hesc_engine.proofs.sinks.writer.WriterSinkSink.put.Goals as goal
+
+pub invariant_of-self-in-Ok : goal.invariant_of-self-in-Ok
+invariant_of-self-in-Ok g c = record { told = told-more _ _ _ _ _ _ c.after_taking-self.ensures.taken c.in-Ok.ensures.bytes c.offering.self.told }
+
+pub invariant_of-self-in-Err : goal.invariant_of-self-in-Err
+invariant_of-self-in-Err g c = record { told = told-kept _ _ _ _ _ c.after_failing-self-in-Err.ensures.taken c.in-Err.ensures.bytes c.offering.self.told }

@@ -1,0 +1,5 @@
+pub mod Text
+pub mod Next
+pub mod Pieces
+pub mod Sinks
+pub mod Forms

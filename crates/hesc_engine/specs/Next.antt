@@ -1,0 +1,19 @@
+-- What a found change says of a rule's changes.
+use Rattle.std.specs.Prelude.{◌≡◌, ℕ, ◌<◌, ◌≤◌, List, ◌∷◌, length}
+use Rattle.std.specs.Str.{IsCharBoundary}
+use Rattle.hesc_specs.specs.Text.Changes.{Change}
+use Rattle.hesc_engine.specs.Text.{replacement_bytes}
+use Rattle.hesc_engine.specs.declared.found.Found.{Found}
+
+abbrev pub change_of : Found → Change
+change_of found = record { start = found.start; end = found.end; bytes = replacement_bytes found.replacement }
+
+-- the found change is the first from this place on, and cuts the source between characters
+pub record IsNext (source : List ℕ) (from : ℕ) (changes_from : ℕ → List Change) (found : Found) : Type 0 where
+  pub after : from ≤ found.start
+  pub ordered : found.start ≤ found.end
+  pub moves : from < found.end
+  pub within : found.end ≤ length source
+  pub start_boundary : IsCharBoundary source found.start
+  pub end_boundary : IsCharBoundary source found.end
+  pub changes : changes_from from ≡ change_of found ∷ changes_from found.end

@@ -1,0 +1,26 @@
+//! A rule's text as a text that is borrowed where nothing changes.
+ghost use Rattle.hesc_engine.specs.Forms.{AnswersText};
+
+use crate::forms::vec::append_by_pieces;
+use crate::rule::Rule;
+use std::alloc::{AllocError, Allocator};
+use std::borrow::CowStr;
+
+/// What `rule` makes of `text`: `text` itself where nothing changes, which takes no memory.
+#[inline(always)]
+pub fn to_cow<'t, R: Rule, A: Allocator>(
+    alloc: A,
+    rule: &R,
+    text: &'t str,
+) -> Result<CowStr<'t, A>, AllocError>
+    ensures { AnswersText text.now (R.made rule.now text.now)
+        (R.changes_from rule.now text.now 0) result }
+{
+    if rule.next(text, 0).is_none() {
+        return Ok(CowStr::Borrowed(text));
+    }
+    let mut bytes = Vec::new(alloc);
+    append_by_pieces(&mut bytes, rule, text)?;
+    // What is made of a text is a text.
+    Ok(CowStr::Owned(unsafe { String::from_utf8_unchecked(bytes) }))
+}

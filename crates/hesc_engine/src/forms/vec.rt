@@ -1,0 +1,73 @@
+//! A rule's text appended to a vector of bytes.
+ghost use Rattle.std.specs.Prelude.{◌≤◌, IsOk, OnOk, length};
+ghost use Rattle.std.specs.Borrow.{sem};
+ghost use Rattle.std.specs.Str.{IsUtf8};
+ghost use Rattle.hesc_engine.specs.Forms.{AnswersPart, Appended, VecAppended, vec_room};
+
+use crate::engine::run;
+use crate::forms::measure::room_for;
+use crate::rule::Rule;
+use crate::sinks::vec::VecSink;
+use crate::unchanged::Unchanged;
+use std::alloc::{AllocError, Allocator};
+
+/// Appends what `rule` makes of `text`, or leaves the output as it was.
+#[inline(always)]
+pub fn append_to_vec<R: Rule, A: Allocator>(
+    output: &mut Vec<u8, A>,
+    rule: &R,
+    text: &str,
+) -> Result<(), AllocError>
+    ensures appended { Appended output.old.items output.new.items
+        (R.made rule.now text.now) result }
+    ensures fits { length (R.made rule.now text.now) ≤ vec_room output.old → IsOk result }
+    ensures utf8 { OnOk result (IsUtf8 (R.made rule.now text.now)) }
+{
+    // Most texts stay as they are, and that is found out once.
+    if rule.next(text, 0).is_none() {
+        return append_by_pieces(output, &Unchanged, text);
+    }
+    append_by_pieces(output, rule, text)
+}
+
+/// The same, with no question first whether anything changes.
+#[inline(always)]
+pub(crate) fn append_by_pieces<R: Rule, A: Allocator>(
+    output: &mut Vec<u8, A>,
+    rule: &R,
+    text: &str,
+) -> Result<(), AllocError>
+    ensures appended { Appended output.old.items output.new.items
+        (R.made rule.now text.now) result }
+    ensures fits { length (R.made rule.now text.now) ≤ vec_room output.old → IsOk result }
+    ensures utf8 { OnOk result (IsUtf8 (R.made rule.now text.now)) }
+{
+    let Ok(room) = room_for(rule, text, output.capacity() - output.len()) else {
+        return Err(AllocError);
+    };
+    if room == 0 {
+        return Ok(());
+    }
+    output.reserve(room)?;
+    let mut sink = VecSink::new(output);
+    let outcome = run(rule, text, &mut sink);
+    let _output = sink.into_output();
+    outcome
+}
+
+/// Appends what `rule` makes of `text`, and answers the part that was added. On a refusal the
+/// output is as it was.
+#[inline(always)]
+pub fn onto_vec<'o, R: Rule, A: Allocator>(
+    output: &'o mut Vec<u8, A>,
+    rule: &R,
+    text: &str,
+) -> Result<&'o [u8], AllocError>
+    ensures part { AnswersPart (vec_room output.old) (R.made rule.now text.now) result }
+    ensures* appended { sem 𝓛 (VecAppended A.row A.Allocator output.entry
+        (R.made rule.now text.now) result) }
+{
+    let start = output.len();
+    append_to_vec(output, rule, text)?;
+    Ok(&output.as_slice()[start..])
+}

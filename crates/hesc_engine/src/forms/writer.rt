@@ -1,0 +1,20 @@
+//! A rule's text written to a writer.
+ghost use Rattle.hesc_engine.specs.Forms.{WritesText};
+
+use crate::engine::run;
+use crate::rule::Rule;
+use crate::sinks::writer::WriterSink;
+use std::io::{self, Write};
+
+/// Writes what `rule` makes of `text`, or a beginning of it and then the writer's fault. It takes
+/// no memory and never flushes.
+#[inline(always)]
+pub fn to_writer<R: Rule, W: Write>(rule: &R, text: &str, output: &mut W) -> Result<(), io::Error>
+    ensures { WritesText (W.contents output.old) (W.contents output.new)
+        (R.made rule.now text.now) result }
+{
+    let mut sink = WriterSink::new(output);
+    let outcome = run(rule, text, &mut sink);
+    let _output = sink.into_output();
+    outcome
+}

@@ -1,0 +1,63 @@
+//! Rules: an operation as the changes that it makes, one after another.
+ghost use Rattle.std.specs.Prelude.{◌≡◌, ◌≤◌, ◌<◌, ◌^◌, ℕ, List, [], length, IfNone, IfSome, IsSome};
+ghost use Rattle.std.specs.Str.{IsCharBoundary, IsUtf8};
+ghost use Rattle.hesc_specs.specs.Text.Changes.{Change, applied};
+ghost use Rattle.hesc_engine.specs.Next.{IsNext};
+
+use crate::found::Found;
+
+/// An operation on texts. It holds no state and takes no memory.
+///
+/// The rule's text of a source is `made`, and its changes from a place on are `changes_from`. The
+/// rule's text from a place is the source from there with those changes made (`applied`).
+pub trait Rule {
+    ghost changes_from: { Self → List ℕ → ℕ → List Change };
+
+    ghost made: { Self → List ℕ → List ℕ };
+
+    /// The first change at or after `from`, a character boundary, or `None` where there is none.
+    fn next(&self, text: &str, from: usize) -> Option<Found<'_>>
+        requires { IsCharBoundary text.now from }
+        ensures none { IfNone result (changes_from self.now text.now from ≡ []) }
+        ensures found { IfSome result (IsNext text.now from (changes_from self.now text.now)) };
+
+    /// How many bytes the rule's text has, or `None` where they pass the greatest `usize`.
+    #[inline(always)]
+    fn total(&self, text: &str) -> Option<usize>
+        ensures count { IfSome result (λ count. count ≡ length (made self.now text.now)) }
+        ensures fits { length (made self.now text.now) < 2 ^ 64 → IsSome result }
+    {
+        self.total_by_changes(text)
+    }
+
+    /// The same, by going from change to change.
+    #[inline(always)]
+    fn total_by_changes(&self, text: &str) -> Option<usize>
+        ensures count { IfSome result (λ count. count ≡ length (made self.now text.now)) }
+        ensures fits { length (made self.now text.now) < 2 ^ 64 → IsSome result }
+    {
+        let mut count: usize = 0;
+        let mut from = 0;
+        'counting: while let Some(found) = self.next(text, from) {
+            count = count
+                .checked_add(found.start - from)?
+                .checked_add(found.replacement.as_str().len())?;
+            from = found.end;
+        }
+        count.checked_add(text.len() - from)
+    }
+
+    /// At least as many bytes as the rule's text has, told without going from change to change, and
+    /// 0 where it has none; or `None` where the rule knows of no such number.
+    #[inline(always)]
+    fn bound(&self, text: &str) -> Option<usize>
+        ensures enough { IfSome result (λ bound. length (made self.now text.now) ≤ bound) }
+        ensures empty { IfSome result (λ bound. made self.now text.now ≡ [] → bound ≡ 0) }
+    {
+        None
+    }
+
+    // The changes, made, are the rule's text.
+    ghost makes: { (rule : Self) (source : List ℕ) → IsUtf8 source →
+        applied source 0 (changes_from rule source 0) ≡ made rule source };
+}

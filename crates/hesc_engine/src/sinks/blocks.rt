@@ -1,0 +1,55 @@
+//! Short texts appended to a vector by copies of a constant length, which are a store or two. What
+//! was copied too much is cut off again.
+ghost use Rattle.std.specs.Prelude.{◌≡◌, ◌≤◌, ◌+◌, ◌++◌, IsOk, OnOk, if◌then◌else◌, is_ok, length, take};
+ghost use Rattle.hesc_engine.specs.Forms.{vec_room};
+ghost use Rattle.hesc_engine.specs.Text.{small_text_bytes};
+
+use crate::small_text::SmallText;
+use std::alloc::{AllocError, Allocator};
+
+const BLOCK: usize = 16;
+
+/// Appends the first `count` of the bytes, or leaves the output as it was.
+#[inline(always)]
+pub(crate) fn append_first<A: Allocator>(
+    output: &mut Vec<u8, A>,
+    bytes: &[u8],
+    count: usize,
+) -> Result<(), AllocError>
+    requires { count ≤ length bytes.now }
+    ensures items { output.new.items
+        ≡ (if is_ok result then output.old.items ++ take count bytes.now else output.old.items) }
+    ensures fits { count ≤ vec_room output.old → IsOk result }
+    ensures room { OnOk result (vec_room output.old ≤ vec_room output.new + count) }
+{
+    let len = output.len();
+    if count <= BLOCK && BLOCK <= bytes.len() && BLOCK <= output.capacity() - len {
+        output.extend_from_slice(&bytes[..BLOCK])?;
+        output.truncate(len + count);
+        return Ok(());
+    }
+    output.extend_from_slice(&bytes[..count])
+}
+
+/// Appends the text, or leaves the output as it was.
+#[inline(always)]
+pub(crate) fn append_small<A: Allocator>(
+    output: &mut Vec<u8, A>,
+    text: SmallText,
+) -> Result<(), AllocError>
+    ensures items { output.new.items
+        ≡ (if is_ok result then output.old.items ++ small_text_bytes text
+        else output.old.items) }
+    ensures fits { length (small_text_bytes text) ≤ vec_room output.old → IsOk result }
+    ensures room { OnOk result
+        (vec_room output.old ≤ vec_room output.new + length (small_text_bytes text)) }
+{
+    let len = output.len();
+    let block = text.block();
+    if block.len() <= output.capacity() - len {
+        output.extend_from_slice(&block)?;
+        output.truncate(len + text.len());
+        return Ok(());
+    }
+    output.extend_from_slice(text.as_str().as_bytes())
+}

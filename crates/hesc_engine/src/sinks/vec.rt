@@ -1,0 +1,162 @@
+//! The sink that appends to a vector of bytes.
+ghost use Rattle.std.specs.Prelude.{◌≡◌, [], ◌++◌, Some};
+ghost use Rattle.std.specs.Str.{IsUtf8};
+
+use crate::found::Replacement;
+use crate::sink::Sink;
+use crate::sinks::blocks::{append_first, append_small};
+use crate::sinks::log::Log;
+use crate::small_text::SmallText;
+use crate::turn::Turn;
+use std::alloc::{AllocError, Allocator};
+use std::snapshot::Snapshot;
+
+/// Appends to a vector, which grows where its room runs out.
+#[derive(Drop)]
+pub struct VecSink<'a, A: Allocator> {
+    output: &'a mut Vec<u8, A>,
+    start: Snapshot<Vec<u8, A>>,
+    log: Log,
+    pub ghost holds: { output.now.items ≡ start.value.items ++ log.taken },
+    pub ghost utf8: { ∥ IsUtf8 log.taken ∥₁ },
+}
+
+impl<'a, A: Allocator> VecSink<'a, A> {
+    ghost use Rattle.std.specs.Prelude.{◌≤◌, ◌+◌, IsOk, OnOk, OnErr, length};
+    ghost use Rattle.hesc_engine.specs.Forms.{vec_room};
+    ghost use Rattle.hesc_engine.specs.Sinks.{
+      vec_sink_failures,
+      vec_sink_output,
+      vec_sink_start,
+      vec_sink_taken,
+    };
+    ghost use Rattle.hesc_engine.specs.Text.{small_text_bytes};
+
+    /// A sink over this output, which stays as it was.
+    #[inline(always)]
+    pub fn new(output: &'a mut Vec<u8, A>) -> VecSink<'a, A>
+        ensures same_reference { (vec_sink_output result).ghost_name ≡ output.entry.ghost_name }
+        ensures start { vec_sink_start result ≡ output.old }
+        ensures unchanged { (vec_sink_output result).now ≡ output.old }
+        ensures nothing { vec_sink_taken result ≡ [] }
+    {
+        let start = Snapshot::of(&*output);
+        VecSink {
+            output,
+            start,
+            log: Log::new(),
+        }
+    }
+
+    /// The output, to be used again: a caller knows of it only what is asked for here.
+    #[inline(always)]
+    pub fn into_output(self) -> &'a mut Vec<u8, A>
+        ensures same_reference { result.ghost_name ≡ (vec_sink_output self.entry).ghost_name }
+        ensures value { result.now ≡ (vec_sink_output self.entry).now }
+        ensures utf8 { IsUtf8 (vec_sink_taken self.entry) }
+    {
+        self.output
+    }
+
+    #[inline(always)]
+    fn put_stretch(&mut self, turn: Turn<'_>) -> Result<(), AllocError>
+        ensures ok_taken { OnOk result
+            (vec_sink_taken self.new ≡ vec_sink_taken self.old ++ turn.entry.kept.now) }
+        ensures ok_failures { OnOk result
+            (vec_sink_failures self.new ≡ vec_sink_failures self.old) }
+        ensures err_taken { OnErr result (vec_sink_taken self.new ≡ vec_sink_taken self.old) }
+        ensures err_failures { OnErr result
+            (vec_sink_failures self.new ≡ vec_sink_failures self.old + 1) }
+        ensures fits { length turn.entry.kept.now ≤ vec_room (vec_sink_output self.old).now → IsOk result }
+        ensures room { OnOk result (vec_room (vec_sink_output self.old).now
+            ≤ vec_room (vec_sink_output self.new).now + length turn.entry.kept.now) }
+        ensures same_reference { (vec_sink_output self.new).ghost_name
+            ≡ (vec_sink_output self.old).ghost_name }
+        ensures same_start { vec_sink_start self.new ≡ vec_sink_start self.old }
+    {
+        match append_first(self.output, turn.rest, turn.kept.len()) {
+            Ok(()) => {
+                self.log = self.log.after_taking(turn.kept.as_bytes());
+                Ok(())
+            }
+            Err(fault) => {
+                self.log = self.log.after_failing();
+                Err(fault)
+            }
+        }
+    }
+
+    #[inline(always)]
+    fn put_small(&mut self, text: SmallText) -> Result<(), AllocError>
+        ensures ok_taken { OnOk result
+            (vec_sink_taken self.new ≡ vec_sink_taken self.old ++ small_text_bytes text) }
+        ensures ok_failures { OnOk result
+            (vec_sink_failures self.new ≡ vec_sink_failures self.old) }
+        ensures err_taken { OnErr result (vec_sink_taken self.new ≡ vec_sink_taken self.old) }
+        ensures err_failures { OnErr result
+            (vec_sink_failures self.new ≡ vec_sink_failures self.old + 1) }
+        ensures fits { length (small_text_bytes text) ≤ vec_room (vec_sink_output self.old).now → IsOk result }
+        ensures room { OnOk result (vec_room (vec_sink_output self.old).now
+            ≤ vec_room (vec_sink_output self.new).now + length (small_text_bytes text)) }
+        ensures same_reference { (vec_sink_output self.new).ghost_name
+            ≡ (vec_sink_output self.old).ghost_name }
+        ensures same_start { vec_sink_start self.new ≡ vec_sink_start self.old }
+    {
+        match append_small(self.output, text) {
+            Ok(()) => {
+                self.log = self.log.after_taking(text.as_str().as_bytes());
+                Ok(())
+            }
+            Err(fault) => {
+                self.log = self.log.after_failing();
+                Err(fault)
+            }
+        }
+    }
+}
+
+impl<A: Allocator> Sink for VecSink<'_, A> {
+    ghost use Rattle.hesc_engine.specs.Forms.{vec_room};
+    ghost use Rattle.hesc_engine.specs.Sinks.{
+      vec_sink_failures,
+      vec_sink_output,
+      vec_sink_start,
+      vec_sink_taken,
+    };
+
+    type Fault = AllocError;
+
+    ghost taken = { vec_sink_taken };
+
+    ghost failures = { vec_sink_failures };
+
+    ghost room = { λ sink. vec_room (vec_sink_output sink).now };
+
+    ghost reference = { λ sink. (vec_sink_output sink).ghost_name };
+
+    ghost before = { λ sink. Some (vec_sink_start sink).items };
+
+    #[inline(always)]
+    fn put(&mut self, piece: &str) -> Result<(), AllocError> {
+        match self.output.extend_from_slice(piece.as_bytes()) {
+            Ok(()) => {
+                self.log = self.log.after_taking(piece.as_bytes());
+                Ok(())
+            }
+            Err(fault) => {
+                self.log = self.log.after_failing();
+                Err(fault)
+            }
+        }
+    }
+
+    // Most stretches and replacements are short.
+    #[inline(always)]
+    fn put_turn(&mut self, turn: Turn<'_>) -> Result<(), AllocError> {
+        self.put_stretch(turn)?;
+        match turn.new {
+            Replacement::Borrowed(text) => self.put_some(text),
+            Replacement::Small(text) => self.put_small(text),
+        }
+    }
+}

@@ -1,0 +1,11 @@
+pub mod Bounds
+pub mod ChunkSearch
+pub mod CountSteps
+pub mod EscapeSearch
+pub mod FlagTable
+pub mod FoundBytes
+pub mod GrowthSums
+pub mod LaneLemmas
+pub mod Lookups
+pub mod OpeningSearch
+pub mod StringGrowthSums

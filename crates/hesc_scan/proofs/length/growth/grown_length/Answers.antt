@@ -1,0 +1,61 @@
+use Rattle.std.proofs.Common.{◌≡◌, ℕ, ◌+◌, ◌*◌, ◌/◌, ◌<◌, ◌^◌, List, length, take, drop, rules, refl, sym, subst, ap, IfSome, ◌∙◌, arith}
+use Rattle.std.proofs.lemmas.List.Sums.{sum_by-append, sum_by-take-drop, sum_by-take-le}
+use Rattle.std.proofs.Math.Seq.{take-add}
+use Rattle.std.specs.List.{sum_by}
+use Rattle.hesc_scan.proofs.ChunkSearch.{StandsAt, below_256, chunk_stands}
+use Rattle.hesc_scan.proofs.length.growth.grown_length.Goals as goal
+
+sum_chunk : (f : ℕ → ℕ) (bytes found : List ℕ) (i : ℕ) → StandsAt bytes (32 * i) found
+    → sum_by f (take (32 * (i + 1)) bytes) ≡ sum_by f (take (32 * i) bytes) + sum_by f found
+sum_chunk f bytes found i stands =
+    let next : 32 * (i + 1) ≡ 32 * i + 32 = omega arith in
+    ap (λ n. sum_by f (take n bytes)) next
+    ∙ ap (sum_by f) (take-add (32 * i) 32 bytes)
+    ∙ sum_by-append f (take (32 * i) bytes) (take 32 (drop (32 * i) bytes))
+    ∙ ap (λ l. sum_by f (take (32 * i) bytes) + sum_by f l) (sym stands.bytes_there)
+
+-- the chunks and the rest
+sum_whole : (f : ℕ → ℕ) (bytes rest : List ℕ) (chunks : ℕ) → chunks ≡ length bytes / 32 → rest ≡ drop (length bytes / 32 * 32) bytes
+    → sum_by f (take (32 * chunks) bytes) + sum_by f rest ≡ sum_by f bytes
+sum_whole f bytes rest chunks many behind =
+    let place : length bytes / 32 * 32 ≡ 32 * chunks = omega (arith, many) in
+    ap (λ l. sum_by f (take (32 * chunks) bytes) + sum_by f l) (behind ∙ ap (λ n. drop n bytes) place)
+    ∙ sum_by-take-drop f bytes (32 * chunks)
+
+pub of_lanes-requires : goal.of_lanes-requires
+of_lanes-requires g c =
+    let chunks = c.as_chunks.ensures in
+    below_256 c.args.bytes.now _ (32 * c.loop-chunk.chunk-index) c.type_inv.bytes
+    (chunk_stands c.args.bytes.now _ 0 c.as_chunks.result.0.now c.loop-chunk.chunk-index (omega arith) refl chunks.front chunks.front_len (omega arith) _ (omega arith))
+
+pub returns-in_err-count-clause-fits : goal.returns-in_err-count-clause-fits
+returns-in_err-count-clause-fits g c =
+    λ fits.
+    let f = g.G.Growth.added c.args.growth.now in
+    let chunks = c.as_chunks.ensures in
+    let here = sum_chunk f c.args.bytes.now _ c.loop-chunk.chunk-index (chunk_stands c.args.bytes.now _ 0 c.as_chunks.result.0.now c.loop-chunk.chunk-index (omega arith) refl chunks.front chunks.front_len (omega arith) _ (omega arith)) in
+    let part = sum_by-take-le f c.args.bytes.now (32 * (c.loop-chunk.chunk-index + 1)) in
+    let room : c.loop-chunk.count + c.of_lanes.result < 2 ^ 64 = omega (arith, fits, here, part, c.loop-chunk.invariant, c.of_lanes.ensures) in
+    search rules
+
+pub loop-chunk-preserved : goal.loop-chunk-preserved
+loop-chunk-preserved g c =
+    let f = g.G.Growth.added c.args.growth.now in
+    let chunks = c.as_chunks.ensures in
+    let here = sum_chunk f c.args.bytes.now _ c.loop-chunk.chunk-index (chunk_stands c.args.bytes.now _ 0 c.as_chunks.result.0.now c.loop-chunk.chunk-index (omega arith) refl chunks.front chunks.front_len (omega arith) _ (omega arith)) in
+    omega (arith, here, c.loop-chunk.invariant, c.of_lanes.ensures)
+
+pub returns-clause-count : goal.returns-clause-count
+returns-clause-count g c =
+    let f = g.G.Growth.added c.args.growth.now in
+    let chunks = c.as_chunks.ensures in
+    let whole = sum_whole f c.args.bytes.now _ c.loop-chunk.chunk-index (omega arith) chunks.back in
+    let same : c.loop-chunk.count + sum_by f c.as_chunks.result.1.now ≡ length c.args.bytes.now + sum_by f c.args.bytes.now = omega (arith, whole, c.loop-chunk.invariant) in
+    subst (λ n. IfSome c.grown_by_one.result (λ count. count ≡ n)) same c.grown_by_one.ensures.count
+
+pub returns-clause-fits : goal.returns-clause-fits
+returns-clause-fits g c =
+    λ fits.
+    let chunks = c.as_chunks.ensures in
+    let whole = sum_whole (g.G.Growth.added c.args.growth.now) c.args.bytes.now _ c.loop-chunk.chunk-index (omega arith) chunks.back in
+    c.grown_by_one.ensures.fits (omega (arith, fits, whole, c.loop-chunk.invariant))

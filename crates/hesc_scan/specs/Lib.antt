@@ -1,0 +1,2 @@
+pub mod ClassNumbers
+pub mod Groups

@@ -1,0 +1,66 @@
+//! The classes of the string encoders by groups of bytes, which are looked up by the halves of 32
+//! bytes at once: a byte is in a group that both its halves may be of.
+ghost use Rattle.std.specs.Prelude.{◌≡◌, ◌<◌, map};
+ghost use Rattle.std.specs.Simd.Lanes.{Each1, mask_l};
+ghost use Rattle.hesc_scan.specs.Groups.{by_high, by_low, in_groups};
+
+use std::simd::prelude::*;
+
+const CONTROLS: u8 = 1;
+
+/// The mark `'`.
+pub(crate) const SINGLE: u8 = 2;
+
+/// The mark `"`.
+pub(crate) const DOUBLE: u8 = 4;
+
+const LESS_OR_BACKSLASH: u8 = 8;
+
+const LEAD: u8 = 16;
+
+/// What is in the classes of all style strings: the C0 controls, `<` and `\`.
+pub(crate) const STYLE: u8 = CONTROLS | LESS_OR_BACKSLASH;
+
+/// What is in the classes of all script strings: the same, and the first byte of U+2028 and U+2029.
+pub(crate) const SCRIPT: u8 = STYLE | LEAD;
+
+/// The groups that a byte may be of, by its low half; twice, as a swizzle reads each 16 lanes.
+const BY_LOW_HALF: [u8; 32] = [
+    1, 1, 21, 1, 1, 1, 1, 3, 1, 1, 1, 1, 9, 1, 1, 1, 1, 1, 21, 1, 1, 1, 1, 3, 1, 1, 1, 1, 9, 1, 1,
+    1,
+];
+
+/// The groups that a byte may be of, by its high half; twice.
+const BY_HIGH_HALF: [u8; 32] = [
+    1, 1, 6, 8, 0, 8, 0, 0, 0, 0, 0, 0, 0, 0, 16, 0, 1, 1, 6, 8, 0, 8, 0, 0, 0, 0, 0, 0, 0, 0, 16,
+    0,
+];
+
+/// Bit `k` of the answer is set exactly if byte `k` is in one of the wanted groups.
+#[inline(always)]
+pub(crate) fn hits_of_groups(wanted: u8, v: u8x32) -> u64
+    requires { Each1 (λ b. b < 256) v }
+    ensures { result ≡ mask_l (map (in_groups wanted) v) }
+{
+    let low = by_low_half(v);
+    let high = by_high_half(v);
+    (low & high & u8x32::splat(wanted))
+        .simd_ne(u8x32::splat(0))
+        .to_bitmask()
+}
+
+#[inline(always)]
+fn by_low_half(v: u8x32) -> u8x32
+    requires { Each1 (λ b. b < 256) v }
+    ensures { result ≡ map by_low v }
+{
+    u8x32::from_array(BY_LOW_HALF).swizzle_dyn_within::<16>(v & u8x32::splat(15))
+}
+
+#[inline(always)]
+fn by_high_half(v: u8x32) -> u8x32
+    requires { Each1 (λ b. b < 256) v }
+    ensures { result ≡ map by_high v }
+{
+    u8x32::from_array(BY_HIGH_HALF).swizzle_dyn_within::<16>(v >> u8x32::splat(4))
+}

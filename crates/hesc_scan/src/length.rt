@@ -1,0 +1,11 @@
+//! How long an encoding is, or how long at most, counted 32 bytes at a time.
+pub mod bodies;
+mod counts;
+mod growth;
+pub mod html;
+mod html_growth;
+pub mod strings;
+
+pub use crate::length::bodies::body_bound;
+pub use crate::length::html::encoded_length;
+pub use crate::length::strings::string_bound;

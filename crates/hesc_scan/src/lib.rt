@@ -1,0 +1,14 @@
+//! Where in a text something may change, and how much longer the text becomes: searches and counts
+//! of bytes, 32 at a time.
+//!
+//! A search answers the first place from a place on, by one statement for all. A length is counted,
+//! or bounded, without going from change to change.
+#![tactic(auto)]
+
+pub mod find;
+mod flags;
+mod groups;
+mod lanes;
+pub mod length;
+pub mod openings;
+pub mod scan;
