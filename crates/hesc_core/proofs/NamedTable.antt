@@ -2,7 +2,7 @@
 use Rattle.std.proofs.Common.{◌≡◌, true, map, refl}
 use Rattle.hesc_specs.specs.References.Rows.{are_short}
 use Rattle.hesc_core.specs.NamedRows.{named_rows}
-use Rattle.hesc_core.specs.declared.entities.TheConstants.{NAMED_ENTITIES}
+use Rattle.hesc_core.specs.declared.table.entities.TheConstants.{NAMED_ENTITIES}
 
 pub constant-named_rows : map (λ row. (row.0.now, row.1.now)) NAMED_ENTITIES ≡ named_rows
 unfolding lib.Utf8.encode

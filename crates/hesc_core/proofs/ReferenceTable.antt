@@ -6,7 +6,7 @@ use Rattle.std.proofs.lemmas.Str.Ascii.{IsAscii-cons, IsAscii-nil}
 use Rattle.std.specs.List.{list_all}
 use Rattle.std.specs.Str.{IsAscii, bytes_eq}
 use Rattle.hesc_specs.specs.Html.{reference_to}
-use Rattle.hesc_core.specs.declared.rules.html_references.TheConstants.{REFERENCES}
+use Rattle.hesc_core.specs.declared.rules.html.references.TheConstants.{REFERENCES}
 
 abbrev row_of : ℕ → List ℕ × ℕ
 row_of b = get_or REFERENCES b ([], 0)

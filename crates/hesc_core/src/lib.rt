@@ -4,17 +4,12 @@
 //! own, which are passed on here.
 #![tactic(auto)]
 
-pub mod entities;
 pub mod laws;
-mod row_faults;
 pub mod rules;
-mod short_rows;
-mod string_classes;
-pub mod string_tokens;
 pub mod table;
 
-pub use crate::entities::NAMED_ENTITIES;
 pub use crate::table::EntityTable;
+pub use crate::table::entities::NAMED_ENTITIES;
 pub use hesc_engine::{
     CountOverflow, Counter, Found, Piece, Pieces, Replacement, Rule, Sink, SmallText, StringSink,
     Turn, VecSink, WriterSink, engine, forms, found, pieces, rule, run, sink, sinks, small_text,

@@ -5,9 +5,13 @@ ghost use Rattle.hesc_specs.specs.References.Rows.{are_short, value_of};
 ghost use Rattle.hesc_specs.specs.References.TableFaults.{is_table};
 ghost use Rattle.hesc_core.specs.Rows.{rows_in};
 
-use crate::entities::NAMED_ENTITIES;
-use crate::row_faults::{COMMON_ENTITIES, fault_of_row, first_value};
-use crate::short_rows::are_short;
+pub mod entities;
+mod row_faults;
+mod short_rows;
+
+use crate::table::entities::NAMED_ENTITIES;
+use crate::table::row_faults::{COMMON_ENTITIES, fault_of_row, first_value};
+use crate::table::short_rows::are_short;
 use hesc_specs::TableFault;
 use std::cmp::Ordering;
 

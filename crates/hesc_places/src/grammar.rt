@@ -7,14 +7,14 @@ mod script_strings;
 mod style_strings;
 
 ghost use Rattle.std.specs.Prelude.{◌≡◌};
-ghost use Rattle.hesc_places.specs.PlaceReadings.{first_mode, step_of};
+ghost use Rattle.hesc_places.specs.Places.Readings.{first_mode, step_of};
 
 use crate::grammar::bodies::{script_body_step, style_body_step};
 use crate::grammar::html::{marked_step, unquoted_step};
 use crate::grammar::script_strings::script_string_step;
 use crate::grammar::style_strings::style_string_step;
-use crate::marks::end_byte;
-use crate::places::Place;
+use crate::place::marks::end_byte;
+use crate::place::places::Place;
 
 /// How far a reading is.
 #[derive(Clone, Copy, Debug, PartialEq, Eq)]

@@ -2,20 +2,20 @@
 ghost use Rattle.std.specs.Prelude.{◌≡◌, ◌≢◌, ◌↔◌, ◌++◌, false, length, map, IsTrue, None, Some};
 ghost use Rattle.hesc_specs.specs.Bodies.Encoding.{body_encoding};
 ghost use Rattle.html_escape.specs.Encoders.{encoded};
-ghost use Rattle.hesc_places.specs.FormFaults.{first_fault};
-ghost use Rattle.hesc_places.specs.FormReadings.{form_reading};
-ghost use Rattle.hesc_places.specs.FormTexts.{AreGood, form_back, form_text, written};
-ghost use Rattle.hesc_places.specs.Marks.{closing};
-ghost use Rattle.hesc_places.specs.PageReadings.{page_reading};
-ghost use Rattle.hesc_places.specs.PageTexts.{page_back, page_text};
-ghost use Rattle.hesc_places.specs.PlaceReadings.{body_of, reading};
-ghost use Rattle.hesc_places.specs.Suits.{suits, MayHold};
-ghost use Rattle.hesc_places.specs.ReadBack.{read_back};
-ghost use Rattle.hesc_places.specs.Trials.{PassesTrial};
-ghost use Rattle.hesc_places.specs.Words.{is_end_tag};
+ghost use Rattle.hesc_places.specs.Pages.FormFaults.{first_fault};
+ghost use Rattle.hesc_places.specs.Pages.FormReadings.{form_reading};
+ghost use Rattle.hesc_places.specs.Pages.FormTexts.{AreGood, form_back, form_text, written};
+ghost use Rattle.hesc_places.specs.Places.Marks.{closing};
+ghost use Rattle.hesc_places.specs.Pages.PageReadings.{page_reading};
+ghost use Rattle.hesc_places.specs.Pages.PageTexts.{page_back, page_text};
+ghost use Rattle.hesc_places.specs.Places.Readings.{body_of, reading};
+ghost use Rattle.hesc_places.specs.Places.Suits.{suits, MayHold};
+ghost use Rattle.hesc_places.specs.Places.ReadBack.{read_back};
+ghost use Rattle.hesc_places.specs.Places.Trials.{PassesTrial};
+ghost use Rattle.hesc_places.specs.Grammars.Words.{is_end_tag};
 
-use crate::attribute::Attribute;
-use crate::places::Place;
+use crate::markup::types::Attribute;
+use crate::place::places::Place;
 use hesc_core::Element;
 use html_escape::Encoder;
 

@@ -8,37 +8,17 @@
 //! back. A page is a form of two attributes: [`build_page`] and [`read_page`].
 #![tactic(auto)]
 
-mod attribute;
-mod attribute_checks;
-mod enclosed;
-mod enclosing;
-mod fault;
-mod form_builder;
-mod form_fault;
-mod form_reader;
-mod form_text;
-mod front;
 mod grammar;
 pub mod laws;
-mod marks;
-mod names;
-mod page_builder;
-mod page_reader;
-mod places;
-mod quoting;
-mod readers;
-mod suiting;
-mod tag_reader;
+mod markup;
+mod place;
 
-pub use crate::attribute::Attribute;
-pub use crate::enclosing::{append_enclosed, enclose};
-pub use crate::fault::PlaceFault;
-pub use crate::form_builder::{append_form, build_form};
-pub use crate::form_fault::FormFault;
-pub use crate::form_reader::{Form, read_form};
-pub use crate::page_builder::{append_page, build_page};
-pub use crate::page_reader::{Page, read_page};
-pub use crate::places::{End, Place};
-pub use crate::quoting::Quoting;
-pub use crate::readers::{Reading, end_of_place, read_place};
-pub use crate::suiting::suits;
+pub use crate::markup::form_builder::{append_form, build_form};
+pub use crate::markup::form_reader::{Form, read_form};
+pub use crate::markup::page_builder::{append_page, build_page};
+pub use crate::markup::page_reader::{Page, read_page};
+pub use crate::markup::types::{Attribute, FormFault, Quoting};
+pub use crate::place::enclosing::{PlaceFault, append_enclosed, enclose};
+pub use crate::place::places::{End, Place};
+pub use crate::place::readers::{Reading, end_of_place, read_place};
+pub use crate::place::suiting::suits;

@@ -2,8 +2,8 @@
 use Rattle.std.proofs.Common.{ℕ, ◌≡◌, ◌≢◌, ◌<◌, ◌≤◌, true, false, List, [], ◌∷◌, bytes_eq, get_or, length, map, inl, inr, refl, sym, subst, arith}
 use Rattle.std.proofs.lemmas.Bool.{cases_Bool}
 use Rattle.std.proofs.lemmas.Slice.Eq.{bytes_eq-Decides}
-use Rattle.hesc_places.specs.declared.quoting.Quoting.{Quoting}
-use Rattle.hesc_places.specs.declared.quoting.Quoting.TheVariants.{Unquoted, Single, Double}
+use Rattle.hesc_places.specs.declared.markup.types.Quoting.{Quoting}
+use Rattle.hesc_places.specs.declared.markup.types.Quoting.TheVariants.{Unquoted, Single, Double}
 use Rattle.hesc_tool.specs.FormWords.{is_letter, name_attributes}
 use Rattle.hesc_tool.specs.Names.{IsNoNameBy, quoting_name}
 

@@ -4,18 +4,18 @@ use Rattle.std.specs.Str.{IsUtf8}
 use Rattle.hesc_specs.specs.Bodies.Encoding.{body_encoding}
 use Rattle.html_escape.specs.Operations.{operation_text}
 use Rattle.html_escape.specs.declared.encoder.Encoder.{Encoder}
-use Rattle.hesc_places.specs.AttributeReadings.{Entry}
-use Rattle.hesc_places.specs.Enclosed.{enclosed}
-use Rattle.hesc_places.specs.FormFaults.{first_fault}
-use Rattle.hesc_places.specs.FormReadings.{FormRead, form_reading}
-use Rattle.hesc_places.specs.FormTexts.{form_text}
-use Rattle.hesc_places.specs.PageReadings.{PageRead, page_reading}
-use Rattle.hesc_places.specs.PageTexts.{page_text}
-use Rattle.hesc_places.specs.Suits.{suits}
-use Rattle.hesc_places.specs.declared.form_fault.FormFault.{FormFault}
-use Rattle.hesc_places.specs.declared.form_fault.FormFault.TheVariants as form_fault
-use Rattle.hesc_places.specs.declared.places.Place.{Place}
-use Rattle.hesc_places.specs.declared.places.Place.TheVariants.{UnquotedAttribute}
+use Rattle.hesc_places.specs.Pages.AttributeReadings.{Entry}
+use Rattle.hesc_places.specs.Places.Enclosed.{enclosed}
+use Rattle.hesc_places.specs.Pages.FormFaults.{first_fault}
+use Rattle.hesc_places.specs.Pages.FormReadings.{FormRead, form_reading}
+use Rattle.hesc_places.specs.Pages.FormTexts.{form_text}
+use Rattle.hesc_places.specs.Pages.PageReadings.{PageRead, page_reading}
+use Rattle.hesc_places.specs.Pages.PageTexts.{page_text}
+use Rattle.hesc_places.specs.Places.Suits.{suits}
+use Rattle.hesc_places.specs.declared.markup.types.FormFault.{FormFault}
+use Rattle.hesc_places.specs.declared.markup.types.FormFault.TheVariants as form_fault
+use Rattle.hesc_places.specs.declared.place.places.Place.{Place}
+use Rattle.hesc_places.specs.declared.place.places.Place.TheVariants.{UnquotedAttribute}
 use Rattle.hesc_tool.specs.FormWords.{AreWordsOf}
 use Rattle.hesc_tool.specs.Lines.{form_lines, page_lines}
 use Rattle.hesc_tool.specs.declared.commands.Command.{Command}

@@ -1,8 +1,8 @@
 -- The words of a form's attributes: for each its name, the letter of its quoting, and its value.
 use Rattle.std.specs.Prelude.{◌≡◌, ℕ, Bool, true, false, ◌&&◌, ◌||◌, List, [], ◌∷◌, bytes_eq}
 use Rattle.std.specs.List.{flat_map}
-use Rattle.hesc_places.specs.AttributeReadings.{Entry}
-use Rattle.hesc_places.specs.declared.quoting.Quoting.TheVariants.{Unquoted, Single, Double}
+use Rattle.hesc_places.specs.Pages.AttributeReadings.{Entry}
+use Rattle.hesc_places.specs.declared.markup.types.Quoting.TheVariants.{Unquoted, Single, Double}
 use Rattle.hesc_tool.specs.Names.{quoting_name}
 
 -- the words of an attribute

@@ -2,9 +2,9 @@
 use Rattle.std.specs.Prelude.{ℕ, List, [], ◌∷◌, ◌++◌, decimal, length}
 use Rattle.std.specs.List.{flat_map}
 use Rattle.hesc_specs.specs.Text.Ascii.{line_feed, space}
-use Rattle.hesc_places.specs.AttributeReadings.{Entry}
-use Rattle.hesc_places.specs.FormReadings.{FormRead}
-use Rattle.hesc_places.specs.PageReadings.{PageRead}
+use Rattle.hesc_places.specs.Pages.AttributeReadings.{Entry}
+use Rattle.hesc_places.specs.Pages.FormReadings.{FormRead}
+use Rattle.hesc_places.specs.Pages.PageReadings.{PageRead}
 use Rattle.hesc_tool.specs.Names.{quoting_name}
 
 -- the length in decimal, a space, the value, and a line feed

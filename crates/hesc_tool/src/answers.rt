@@ -2,8 +2,8 @@
 ghost use Rattle.std.specs.Prelude.{◌≡◌, map, Ok};
 ghost use Rattle.hesc_specs.specs.Bodies.Encoding.{body_encoding};
 ghost use Rattle.html_escape.specs.Operations.{operation_text};
-ghost use Rattle.hesc_places.specs.FormReadings.{form_reading};
-ghost use Rattle.hesc_places.specs.PageReadings.{page_reading};
+ghost use Rattle.hesc_places.specs.Pages.FormReadings.{form_reading};
+ghost use Rattle.hesc_places.specs.Pages.PageReadings.{page_reading};
 ghost use Rattle.hesc_tool.specs.Answers.{
   Answers,
   AnswersForm,

@@ -1,6 +1,6 @@
 //! The words of a form: a script string, and three words for each attribute.
 ghost use Rattle.std.specs.Prelude.{◌≡◌, false, map, IfOk, IsTrue, MatchOption};
-ghost use Rattle.hesc_places.specs.FormTexts.{written};
+ghost use Rattle.hesc_places.specs.Pages.FormTexts.{written};
 ghost use Rattle.hesc_tool.specs.FormWords.{AreWordsOf, name_attributes};
 
 use crate::names::quoting_named;

@@ -2,9 +2,9 @@
 ghost use Rattle.std.specs.Prelude.{◌≡◌, ◌++◌, map, IfOk, OnOk};
 ghost use Rattle.std.specs.List.{flat_map};
 ghost use Rattle.std.specs.Option.{option_map};
-ghost use Rattle.hesc_places.specs.AttributeReadings.{entry};
-ghost use Rattle.hesc_places.specs.FormReadings.{form_reading};
-ghost use Rattle.hesc_places.specs.PageReadings.{page_reading};
+ghost use Rattle.hesc_places.specs.Pages.AttributeReadings.{entry};
+ghost use Rattle.hesc_places.specs.Pages.FormReadings.{form_reading};
+ghost use Rattle.hesc_places.specs.Pages.PageReadings.{page_reading};
 ghost use Rattle.hesc_tool.specs.Lines.{attribute_line, form_lines, page_lines, value_line};
 
 use crate::names::quoting_letter;

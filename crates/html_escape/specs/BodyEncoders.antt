@@ -3,7 +3,7 @@ use Rattle.std.specs.Prelude.{ℕ, List, ◌++◌}
 use Rattle.hesc_specs.specs.Bodies.Sessions.{settled_encoding}
 use Rattle.hesc_specs.specs.declared.elements.Element.{Element}
 use Rattle.html_escape.specs.Held.{few_bytes}
-use Rattle.html_escape.specs.declared.session.BodyEncoder.{BodyEncoder}
+use Rattle.html_escape.specs.declared.body_encoder.session.BodyEncoder.{BodyEncoder}
 
 -- the element whose body is encoded
 abbrev pub kind_of : BodyEncoder → Element

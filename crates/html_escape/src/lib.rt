@@ -7,20 +7,16 @@
 //! [`EntityTable`] that is handed in. A [`BodyEncoder`] encodes a body that itself comes in pieces.
 #![tactic(auto)]
 
+pub mod body_encoder;
 pub mod decoder;
 pub mod encoder;
-mod few_bytes;
 pub mod operation;
-mod released;
-pub mod session;
-mod settled;
-mod undecided;
 
+pub use crate::body_encoder::session::BodyEncoder;
 pub use crate::decoder::Decoder;
 pub use crate::encoder::Encoder;
 pub use crate::operation::Operation;
 pub use crate::operation::pieces;
-pub use crate::session::BodyEncoder;
 pub use hesc_core::Element as BodyKind;
 pub use hesc_core::EntityTable;
 pub use hesc_core::NAMED_ENTITIES;

@@ -6,9 +6,9 @@ ghost use Rattle.hesc_specs.specs.Text.Escaped.{escape_changes, escaped};
 ghost use Rattle.hesc_specs.proofs.Text.EscapeChanges.{applied-escape_changes};
 ghost use Rattle.hesc_engine.specs.Next.{IsNext};
 
-use crate::rules::html_escape::next_html_escape;
-use crate::rules::string_escape::next_string_escape;
-use crate::string_classes::string_class;
+use crate::rules::html::escape::next_html_escape;
+use crate::rules::strings::classes::string_class;
+use crate::rules::strings::escape::next_string_escape;
 use hesc_engine::found::Found;
 use hesc_engine::rule::Rule;
 use hesc_scan::length::{encoded_length, string_bound};

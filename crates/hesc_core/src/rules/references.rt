@@ -7,7 +7,9 @@ ghost use Rattle.hesc_specs.proofs.References.Applied.{applied-reference_changes
 ghost use Rattle.hesc_engine.specs.Next.{IsNext};
 ghost use Rattle.hesc_core.specs.Table.{rows_of};
 
-use crate::rules::reference_values::value_of_body;
+mod values;
+
+use crate::rules::references::values::value_of_body;
 use crate::table::EntityTable;
 use hesc_engine::found::Found;
 use hesc_engine::rule::Rule;

@@ -3,19 +3,19 @@ ghost use Rattle.std.specs.Prelude.{◌≡◌, ◌∷◌};
 ghost use Rattle.hesc_specs.specs.Text.Ascii.{less_than};
 ghost use Rattle.hesc_specs.specs.Text.Elements.{element_name};
 ghost use Rattle.hesc_specs.specs.Text.Words.{begins_in_any_case};
-ghost use Rattle.hesc_places.specs.BodyReadings.{
+ghost use Rattle.hesc_places.specs.Grammars.Bodies.{
   ends_script,
   mode_behind,
   script_body_step,
   style_body_step,
 };
-ghost use Rattle.hesc_places.specs.Words.{ends_tag_name, is_end_tag, is_start_tag};
+ghost use Rattle.hesc_places.specs.Grammars.Words.{ends_tag_name, is_end_tag, is_start_tag};
 
 use crate::grammar::{Mode, Step};
 use hesc_core::Element;
 
 /// The step of a style's body.
-#[tactic(auto, unfolding(crate::specs::BodyReadings::style_body_step))]
+#[tactic(auto, unfolding(crate::specs::Grammars::Bodies::style_body_step))]
 pub fn style_body_step(mode: Mode, bytes: &[u8]) -> Step
     ensures { result ≡ style_body_step mode bytes.now }
 {
@@ -29,7 +29,7 @@ pub fn style_body_step(mode: Mode, bytes: &[u8]) -> Step
 }
 
 /// The step of a script's body.
-#[tactic(auto, unfolding(crate::specs::BodyReadings::script_body_step))]
+#[tactic(auto, unfolding(crate::specs::Grammars::Bodies::script_body_step))]
 pub fn script_body_step(mode: Mode, bytes: &[u8]) -> Step
     ensures { result ≡ script_body_step mode bytes.now }
 {

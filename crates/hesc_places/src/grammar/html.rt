@@ -1,6 +1,6 @@
 //! Steps of text and of attributes' values.
 ghost use Rattle.std.specs.Prelude.{◌≡◌};
-ghost use Rattle.hesc_places.specs.HtmlReadings.{
+ghost use Rattle.hesc_places.specs.Grammars.Html.{
   ends_unquoted,
   is_unquoted_error,
   marked_step,
@@ -11,7 +11,7 @@ use crate::grammar::references::reference;
 use crate::grammar::{Mode, Step};
 
 /// The step of text and of quoted values, which the byte `mark` ends.
-#[tactic(auto, unfolding(crate::specs::HtmlReadings::marked_step))]
+#[tactic(auto, unfolding(crate::specs::Grammars::Html::marked_step))]
 pub fn marked_step(mark: u8, mode: Mode, bytes: &[u8]) -> Step
     ensures { result ≡ marked_step mark mode bytes.now }
 {
@@ -28,7 +28,7 @@ pub fn marked_step(mark: u8, mode: Mode, bytes: &[u8]) -> Step
 }
 
 /// The step of unquoted values, which the byte `end` ends where an item stands before it.
-#[tactic(auto, unfolding(crate::specs::HtmlReadings::unquoted_step))]
+#[tactic(auto, unfolding(crate::specs::Grammars::Html::unquoted_step))]
 pub fn unquoted_step(end: u8, mode: Mode, bytes: &[u8]) -> Step
     ensures { result ≡ unquoted_step end mode bytes.now }
 {

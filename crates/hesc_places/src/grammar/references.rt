@@ -2,7 +2,7 @@
 ghost use Rattle.std.specs.Prelude.{◌≡◌, ◌≤◌, ◌<◌, ◌+◌, ◌*◌, Option, if◌then◌else◌, Some, None};
 ghost use Rattle.std.specs.Str.Parse.{digits_value};
 ghost use Rattle.hesc_core.specs.Numbers.{base_of, capped};
-ghost use Rattle.hesc_places.specs.References.{
+ghost use Rattle.hesc_places.specs.Grammars.References.{
   are_digits,
   body_character,
   digits_character,

@@ -1,6 +1,6 @@
 //! The step of JavaScript string literals.
 ghost use Rattle.std.specs.Prelude.{◌≡◌, ◌≤◌, take};
-ghost use Rattle.hesc_places.specs.ScriptStrings.{
+ghost use Rattle.hesc_places.specs.Grammars.ScriptStrings.{
   begins_line_end,
   hex_escape,
   script_escape,
@@ -12,7 +12,7 @@ use crate::grammar::hex::hex_number;
 use crate::grammar::{Mode, Step};
 
 /// The step of a string literal, which the byte `mark` ends.
-#[tactic(auto, unfolding(crate::specs::ScriptStrings::script_string_step))]
+#[tactic(auto, unfolding(crate::specs::Grammars::ScriptStrings::script_string_step))]
 pub fn script_string_step(mark: u8, mode: Mode, bytes: &[u8]) -> Step
     ensures { result ≡ script_string_step mark mode bytes.now }
 {

@@ -2,7 +2,7 @@
 ghost use Rattle.std.specs.Prelude.{◌≡◌, ◌≤◌, true, length, take};
 ghost use Rattle.std.specs.Char.{is_digit};
 ghost use Rattle.std.specs.List.{list_all, take_while};
-ghost use Rattle.hesc_places.specs.StyleStrings.{
+ghost use Rattle.hesc_places.specs.Grammars.StyleStrings.{
   digits_escape,
   escaped_character,
   style_escape,
@@ -14,7 +14,7 @@ use crate::grammar::hex::hex_number;
 use crate::grammar::{Mode, Step};
 
 /// The step of a string, which the byte `mark` ends.
-#[tactic(auto, unfolding(crate::specs::StyleStrings::style_string_step))]
+#[tactic(auto, unfolding(crate::specs::Grammars::StyleStrings::style_string_step))]
 pub fn style_string_step(mark: u8, mode: Mode, bytes: &[u8]) -> Step
     ensures { result ≡ style_string_step mark mode bytes.now }
 {

@@ -1,4 +1,4 @@
-use Rattle.hesc_places.proofs.BodyPlaces.{read_before_tag}
+use Rattle.hesc_places.proofs.Places.Bodies.{read_before_tag}
 use Rattle.hesc_places.proofs.laws.end_tag_law.Goals as goal
 
 pub returns : goal.returns

@@ -1,6 +1,6 @@
 use Rattle.std.proofs.Common.{map}
-use Rattle.hesc_places.specs.FormTexts.{written}
-use Rattle.hesc_places.proofs.FormLaw.{form_again}
+use Rattle.hesc_places.specs.Pages.FormTexts.{written}
+use Rattle.hesc_places.proofs.Pages.FormLaw.{form_again}
 use Rattle.hesc_places.proofs.laws.form_law.Goals as goal
 
 pub returns : goal.returns

@@ -1,6 +1,6 @@
 use Rattle.std.proofs.Common.{map}
-use Rattle.hesc_places.specs.FormTexts.{written}
-use Rattle.hesc_places.proofs.GoodAttributes.{good_without_fault}
+use Rattle.hesc_places.specs.Pages.FormTexts.{written}
+use Rattle.hesc_places.proofs.Pages.GoodAttributes.{good_without_fault}
 use Rattle.hesc_places.proofs.laws.good_attributes_law.Goals as goal
 
 pub returns : goal.returns

@@ -1,4 +1,4 @@
-use Rattle.hesc_places.proofs.Trials.{no_other_passes}
+use Rattle.hesc_places.proofs.Places.Trials.{no_other_passes}
 use Rattle.hesc_places.proofs.laws.no_other_pair.Goals as goal
 
 pub returns : goal.returns

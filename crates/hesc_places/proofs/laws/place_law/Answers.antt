@@ -1,4 +1,4 @@
-use Rattle.hesc_places.proofs.PlaceLaw.{is_read_back}
+use Rattle.hesc_places.proofs.Places.PlaceLaw.{is_read_back}
 use Rattle.hesc_places.proofs.laws.place_law.Goals as goal
 
 pub returns : goal.returns

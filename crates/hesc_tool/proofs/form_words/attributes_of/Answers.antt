@@ -1,5 +1,5 @@
 use Rattle.std.proofs.Common.{◌++◌, flat_map, map, sym, ap, ◌∙◌, append-nil}
-use Rattle.hesc_places.specs.FormTexts.{written}
+use Rattle.hesc_places.specs.Pages.FormTexts.{written}
 use Rattle.hesc_tool.specs.FormWords.{attribute_words}
 use Rattle.hesc_tool.proofs.Letters.{broken, none_left}
 use Rattle.hesc_tool.proofs.form_words.attributes_of.Goals as goal

@@ -1,5 +1,5 @@
 use Rattle.std.proofs.Common.{◌≡◌, ◌++◌, true, flat_map, length, map}
-use Rattle.hesc_places.specs.FormTexts.{written}
+use Rattle.hesc_places.specs.Pages.FormTexts.{written}
 use Rattle.hesc_tool.specs.FormWords.{attribute_words, name_attributes}
 use Rattle.hesc_tool.proofs.form_words.attributes_of.Given as goal
 

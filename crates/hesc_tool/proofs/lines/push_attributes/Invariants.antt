@@ -1,5 +1,5 @@
 use Rattle.std.proofs.Common.{◌≡◌, ◌++◌, flat_map, length, map}
-use Rattle.hesc_places.specs.AttributeReadings.{entry}
+use Rattle.hesc_places.specs.Pages.AttributeReadings.{entry}
 use Rattle.hesc_tool.specs.Lines.{attribute_line}
 use Rattle.hesc_tool.proofs.lines.push_attributes.Given as goal
 

@@ -2,7 +2,7 @@ use Rattle.std.proofs.Common.{◌≡◌, length, drop, sym, ◌∙◌, arith}
 use Rattle.std.proofs.Math.Seq.{drop-length}
 use Rattle.std.proofs.lemmas.List.{take_rest}
 use Rattle.hesc_specs.specs.Text.Elements.{element_name}
-use Rattle.hesc_places.specs.Words.{ends_tag_name}
+use Rattle.hesc_places.specs.Grammars.Words.{ends_tag_name}
 use Rattle.hesc_specs.specs.Text.Words.{begins_in_any_case}
 use Rattle.hesc_places.proofs.grammar.bodies.is_named.Goals as goal
 

@@ -1,6 +1,6 @@
 use Rattle.std.proofs.Common.{◌≡◌, ◌≤◌, length, drop}
 use Rattle.hesc_specs.specs.Text.Elements.{element_name}
-use Rattle.hesc_places.specs.Words.{ends_tag_name}
+use Rattle.hesc_places.specs.Grammars.Words.{ends_tag_name}
 use Rattle.hesc_specs.specs.Text.Words.{begins_in_any_case}
 use Rattle.hesc_places.proofs.grammar.bodies.is_named.Given as goal
 

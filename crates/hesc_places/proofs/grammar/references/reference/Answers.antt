@@ -1,6 +1,6 @@
 use Rattle.std.proofs.Common.{◌<◌, ◌==◌, length, refl, sym, arith}
 use Rattle.hesc_specs.specs.Text.Ascii.{semicolon}
-use Rattle.hesc_places.proofs.FirstSemicolon.{found_first, absent_first}
+use Rattle.hesc_places.proofs.Grammars.FirstSemicolon.{found_first, absent_first}
 use Rattle.hesc_places.proofs.grammar.references.reference.Goals as goal
 
 pub returns-then-count-bytes : goal.returns-then-count-bytes

@@ -6,7 +6,7 @@ use Rattle.std.specs.Str.Parse.{digits_value}
 use Rattle.std.proofs.Math.Nat.{pow-le-pow_right}
 use Rattle.std.proofs.lemmas.Bool.Decides.{nat_tests}
 use Rattle.hesc_places.specs.declared.grammar.Step.TheVariants.{Nothing}
-use Rattle.hesc_places.specs.ScriptStrings.{hex_escape}
+use Rattle.hesc_places.specs.Grammars.ScriptStrings.{hex_escape}
 use Rattle.hesc_places.proofs.grammar.script_strings.hex_escape.Goals as goal
 
 -- a surrogate is nothing

@@ -1,0 +1,91 @@
+//! Unescaping by a class: in an encoded string each escape becomes the character that it stands
+//! for.
+ghost use Rattle.std.specs.Prelude.{◌≡◌, [], IfNone, IfSome, encode_utf8};
+ghost use Rattle.std.specs.Str.{IsCharBoundary};
+ghost use Rattle.hesc_specs.specs.Text.Escaped.{unescape_changes, unescaped};
+ghost use Rattle.hesc_specs.specs.Strings.Changes.{string_decoding_changes};
+ghost use Rattle.hesc_specs.proofs.Text.UnescapeChanges.{applied-unescape_changes};
+ghost use Rattle.hesc_engine.specs.Next.{IsNext};
+ghost use Rattle.hesc_engine.specs.Text.{replacement_bytes};
+
+use crate::rules::strings::classes::string_class;
+use crate::rules::strings::tokens::{escape, is_behind_less};
+use hesc_engine::found::{Found, Replacement};
+use hesc_engine::rule::Rule;
+use hesc_engine::small_text::SmallText;
+use hesc_scan::find::first_byte;
+use hesc_specs::{Class, Element, Quotes};
+
+/// The decoder of a class. That of an HTML encoder's class changes nothing.
+#[derive(Clone, Copy)]
+pub struct Unescape(pub Class);
+
+impl Rule for Unescape {
+    ghost changes_from = { λ rule. unescape_changes rule.0 };
+
+    ghost made = { λ rule. unescaped rule.0 };
+
+    #[inline(always)]
+    fn next(&self, text: &str, from: usize) -> Option<Found<'_>> {
+        next_unescape(self.0, text, from)
+    }
+
+    /// The source's length: no escape is shorter than its character.
+    #[inline(always)]
+    fn bound(&self, text: &str) -> Option<usize> {
+        Some(text.len())
+    }
+
+    ghost makes = { λ rule source _. applied-unescape_changes rule.0 source };
+}
+
+/// The first escape at or after `from`, a character boundary, where the reading begins, and its
+/// character. In an HTML encoder's class there is none.
+#[inline(always)]
+pub fn next_unescape(class: Class, text: &str, from: usize) -> Option<Found<'static>>
+    requires { IsCharBoundary text.now from }
+    ensures none { IfNone result (unescape_changes class text.now from ≡ []) }
+    ensures found { IfSome result (IsNext text.now from (unescape_changes class text.now)) }
+{
+    match string_class(class) {
+        Some((element, quotes)) => next_string_unescape(element, quotes, text, from),
+        None => None,
+    }
+}
+
+/// The first escape of an encoded string at or after `from`, a character boundary, where the
+/// reading begins, and its character.
+#[inline(always)]
+pub fn next_string_unescape(
+    element: Element,
+    quotes: Quotes,
+    text: &str,
+    from: usize,
+) -> Option<Found<'static>>
+    requires { IsCharBoundary text.now from }
+    ensures none { IfNone result (string_decoding_changes element quotes text.now from ≡ []) }
+    ensures found { IfSome result (IsNext text.now from
+        (string_decoding_changes element quotes text.now)) }
+{
+    let bytes = text.as_bytes();
+    let mut start = first_byte(b'\\', bytes, from);
+    'seeking: while start < bytes.len() {
+        let behind_less = is_behind_less(bytes, start);
+        if let Some((more, character)) = escape(element, quotes, behind_less, &bytes[start + 1..]) {
+            return Some(Found {
+                start,
+                end: start + 1 + more,
+                replacement: replacement(character),
+            });
+        }
+        start = first_byte(b'\\', bytes, start + 1);
+    }
+    None
+}
+
+#[inline(always)]
+fn replacement(character: char) -> Replacement<'static>
+    ensures { replacement_bytes result ≡ encode_utf8 character }
+{
+    Replacement::Small(SmallText::from_char(character))
+}

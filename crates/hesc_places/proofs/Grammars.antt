@@ -1,0 +1,11 @@
+pub mod Takes
+pub mod ReferenceBodies
+pub mod ReferenceImages
+pub mod HtmlPieces
+pub mod KeptCharacters
+pub mod HexEscapes
+pub mod EscapedMarks
+pub mod ParserLaws
+pub mod Fronts
+pub mod FirstSemicolon
+pub mod ReadingTurns

@@ -1,0 +1,24 @@
+-- What the small parsers find in front of what stands behind it.
+use Rattle.std.proofs.Common.{ℕ, ◌≡◌, ◌≢◌, Bool, true, false, List, [], ◌∷◌, ◌++◌, Some, length, refl, arith, ne_eqb}
+use Rattle.std.specs.List.{list_all, prefix_len}
+use Rattle.std.proofs.Math.Seq.{take-append_seam, drop-append_seam}
+use Rattle.std.proofs.lemmas.Bool.{and_parts}
+use Rattle.hesc_places.specs.Pages.Parsers.{some_while}
+
+prefix_len-all : (passes : ℕ → Bool) (bytes : List ℕ) (b : ℕ) (rest : List ℕ) →
+    list_all passes bytes ≡ true → passes b ≡ false → prefix_len passes (bytes ++ b ∷ rest) ≡ length bytes
+prefix_len-all passes [] b rest all stops = rw stops refl
+prefix_len-all passes (c ∷ bytes) b rest all stops =
+    let parts = and_parts (passes c) (list_all passes bytes) all in
+    rw (parts.0, prefix_len-all passes bytes b rest parts.1 stops) (omega arith)
+
+-- all bytes up to the first that does not pass
+pub some_while-all : (passes : ℕ → Bool) (bytes : List ℕ) (b : ℕ) (rest : List ℕ) → length bytes ≢ 0 →
+    list_all passes bytes ≡ true → passes b ≡ false → some_while passes (bytes ++ b ∷ rest) ≡ Some (bytes, b ∷ rest)
+some_while-all passes bytes b rest full all stops =
+    rw (
+      prefix_len-all passes bytes b rest all stops,
+      ne_eqb (length bytes) 0 full,
+      take-append_seam bytes (b ∷ rest),
+      drop-append_seam bytes (b ∷ rest),
+    ) refl

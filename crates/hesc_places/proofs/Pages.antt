@@ -1,0 +1,12 @@
+pub mod AttributeLaws
+pub mod ScriptTexts
+pub mod FormLaw
+pub mod PageLaw
+pub mod AttributeTurns
+pub mod PagesOfTwo
+pub mod NamesOfLetters
+pub mod LastGaps
+pub mod GoodAttributes
+pub mod StoodNames
+pub mod AnsweredFaults
+pub mod OneReading

@@ -1,0 +1,72 @@
+-- The law of forms: a form's text is read back, whatever follows it.
+use Rattle.std.proofs.Common.{ℕ, ◌≡◌, ◌≤◌, ◌-◌, List, [], ◌∷◌, ◌++◌, Some, None, IsUtf8, length, flat_map, map, refl, ap, ◌∙◌, arith, append_assoc, length-append}
+use Rattle.hesc_places.specs.declared.markup.types.Quoting.{Quoting}
+use Rattle.hesc_places.specs.declared.markup.types.Quoting.TheVariants.{Unquoted, Single, Double}
+use Rattle.hesc_places.specs.Pages.AttributeReadings.{Entry, attribute_at, attributes_at}
+use Rattle.hesc_places.specs.Pages.FormReadings.{form_reading, with_attributes}
+use Rattle.hesc_places.specs.Pages.FormTexts.{AreGood, attribute_text, entry_back, form_back, form_text, gap, gap_behind, script_text}
+use Rattle.hesc_places.proofs.Pages.AttributeLaws.{MayEnd, MayFollow, attributes_again}
+use Rattle.hesc_places.proofs.Pages.ScriptTexts.{tail_again}
+
+-- the quoting of the last attribute; a form without attributes has no gap, as behind a quoted one
+last_quoting : List Entry → Quoting
+last_quoting [] = Double
+last_quoting (a ∷ []) = a.quoting
+last_quoting (a ∷ b ∷ others) = last_quoting (b ∷ others)
+
+gap-last : (attributes : List Entry) → gap attributes ≡ gap_behind (last_quoting attributes)
+unfolding last_quoting
+gap-last [] = refl
+gap-last (a ∷ []) = refl
+gap-last (a ∷ b ∷ others) = gap-last (b ∷ others)
+
+gap_follows : (quoting : Quoting) (rest : List ℕ) → MayFollow quoting (gap_behind quoting ++ rest)
+gap_follows Unquoted rest = (rest, refl)
+gap_follows Single rest = tt
+gap_follows Double rest = tt
+
+gap_ends : (attributes : List Entry) (rest : List ℕ) → MayEnd attributes (gap_behind (last_quoting attributes) ++ rest)
+unfolding last_quoting
+gap_ends [] rest = tt
+gap_ends (a ∷ []) rest = gap_follows a.quoting rest
+gap_ends (a ∷ b ∷ others) rest = gap_ends (b ∷ others) rest
+
+-- the end of the tag is no attribute
+no_attribute : (quoting : Quoting) (script rest : List ℕ) → attribute_at (gap_behind quoting ++ (script_text script ++ rest)) ≡ None
+unfolding attribute_at
+no_attribute Unquoted script rest = refl
+no_attribute Single script rest = refl
+no_attribute Double script rest = refl
+
+-- each attribute has bytes
+enough : (attributes : List Entry) → length attributes ≤ length (flat_map attribute_text attributes)
+enough [] = omega arith
+enough (a ∷ others) =
+    omega (arith, enough others, length-append (attribute_text a) (flat_map attribute_text others))
+
+-- the names are read back
+names_again : (attributes : List Entry) → map (λ a. a.name) (map entry_back attributes) ≡ map (λ a. a.name) attributes
+names_again [] = refl
+names_again (a ∷ others) = ap (λ names. a.name ∷ names) (names_again others)
+
+pub form_again : (attributes : List Entry) (script rest : List ℕ) → AreGood attributes → IsUtf8 script →
+    form_reading (form_text attributes script ++ rest) ≡ Some (form_back attributes script)
+unfolding form_reading with_attributes
+form_again attributes script rest good utf8 =
+    let quoting : Quoting = last_quoting attributes in
+    let written : List ℕ = flat_map attribute_text attributes in
+    let tail : List ℕ = gap_behind quoting ++ (script_text script ++ rest) in
+    let inside : List ℕ = (written ++ (gap attributes ++ script_text script)) ++ rest in
+    let regrouped : inside ≡ written ++ tail =
+    append_assoc written (gap attributes ++ script_text script) rest
+    ∙ ap (λ bytes. written ++ bytes) (append_assoc (gap attributes) (script_text script) rest ∙ ap (λ front. front ++ (script_text script ++ rest)) (gap-last attributes)) in
+    let within : length attributes ≤ length inside =
+    omega (arith, enough attributes, ap length regrouped, length-append written tail) in
+    let read : attributes_at (length inside) inside ≡ (map entry_back attributes, tail) =
+    ap (attributes_at (length inside)) regrouped
+    ∙ attributes_again attributes (length inside) tail within good.names good.filled (gap_ends attributes (script_text script ++ rest)) (no_attribute quoting script rest) in
+    let whole : length (form_text attributes script ++ rest) - length rest ≡ length (form_text attributes script) =
+    omega (arith, length-append (form_text attributes script) rest) in
+    ap (with_attributes (length (form_text attributes script ++ rest))) read
+    ∙ rw (tail_again script utf8 quoting rest, names_again attributes, good.differ)
+    (ap (λ end. Some (record { attributes = map entry_back attributes; script = script; end = end })) whole)

@@ -1,0 +1,11 @@
+pub mod ReadBacks
+pub mod Marked
+pub mod Unquoted
+pub mod ScriptStrings
+pub mod StyleStrings
+pub mod Bodies
+pub mod PlaceLaw
+pub mod EnclosedTexts
+pub mod UnquotedEndings
+pub mod PartsTaken
+pub mod Trials

@@ -1,5 +1,0 @@
-use Rattle.hesc_places.proofs.Fronts.{past-strip}
-use Rattle.hesc_places.proofs.front.past.Goals as goal
-
-pub returns : goal.returns
-returns c = past-strip c.args.word.now c.args.bytes.now c.strip_prefix.result c.strip_prefix.ensures.cases

@@ -1,0 +1,9 @@
+use Rattle.std.proofs.Common.{◌++◌, ap, ◌∙◌}
+use Rattle.std.specs.String.{string_bytes}
+use Rattle.hesc_places.proofs.Pages.PageLaw.{page_is_form}
+use Rattle.hesc_places.proofs.markup.page_builder.append_page.Goals as goal
+
+pub returns-in-Ok-clause-appended : goal.returns-in-Ok-clause-appended
+returns-in-Ok-clause-appended g c =
+    c.in-Ok.ensures.appended
+    ∙ ap (λ text. string_bytes c.args.output.now ++ text) (page_is_form c.args.a.now c.args.b.now c.args.c.now)

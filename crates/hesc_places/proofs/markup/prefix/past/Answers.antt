@@ -1,0 +1,5 @@
+use Rattle.hesc_places.proofs.Grammars.Fronts.{past-strip}
+use Rattle.hesc_places.proofs.markup.prefix.past.Goals as goal
+
+pub returns : goal.returns
+returns c = past-strip c.args.word.now c.args.bytes.now c.strip_prefix.result c.strip_prefix.ensures.cases

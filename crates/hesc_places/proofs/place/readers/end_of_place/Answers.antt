@@ -1,0 +1,31 @@
+use Rattle.std.proofs.Common.{◌++◌, ◌∷◌, [], refl, sym, ap, encode_utf8, arith}
+use Rattle.std.proofs.lemmas.Bool.{eqb-false}
+use Rattle.std.specs.Option.{option_map}
+use Rattle.hesc_places.specs.Places.Readings.{end_of}
+use Rattle.hesc_places.proofs.Grammars.ReadingTurns.{ends, knows_nothing, lacks_byte, lacks_character, goes_past_byte, goes_past_character}
+use Rattle.hesc_places.proofs.place.readers.end_of_place.Goals as goal
+
+pub returns-in-Close : goal.returns-in-Close
+returns-in-Close c = ap (option_map end_of) (ends c.reading.invariant.1 (eqb-false _ 0 (sym c.reading-test.ensures)) c.in-Close.ensures)
+
+pub returns-in-Nothing : goal.returns-in-Nothing
+returns-in-Nothing c = ap (option_map end_of) (knows_nothing c.reading.invariant.1 (eqb-false _ 0 (sym c.reading-test.ensures)) c.in-Nothing.ensures)
+
+pub returns-then-more-rest : goal.returns-then-more-rest
+returns-then-more-rest c = ap (option_map end_of) (lacks_byte c.reading.invariant.1 (eqb-false _ 0 (sym c.reading-test.ensures)) c.in-Byte.ensures c.if-more-rest.true)
+
+pub returns-then-more-rest-2 : goal.returns-then-more-rest-2
+returns-then-more-rest-2 c =
+    ap (option_map end_of) (lacks_character c.reading.invariant.1 (eqb-false _ 0 (sym c.reading-test.ensures)) c.in-Character.ensures c.if-more-rest-2.true)
+
+pub reading-preserved-in-Byte : goal.reading-preserved-in-Byte
+reading-preserved-in-Byte c = (
+  c.reading.invariant.0 ++ c.in-Byte.field-1 ∷ [],
+  goes_past_byte c.reading.invariant.1 (eqb-false _ 0 (sym c.reading-test.ensures)) c.in-Byte.ensures (omega arith) refl c.split_at.ensures.back,
+)
+
+pub reading-preserved : goal.reading-preserved
+reading-preserved c = (
+  c.reading.invariant.0 ++ encode_utf8 c.in-Character.field-1,
+  goes_past_character c.reading.invariant.1 (eqb-false _ 0 (sym c.reading-test.ensures)) c.in-Character.ensures (omega arith) refl c.split_at-in-Character.ensures.back,
+)

@@ -1,0 +1,10 @@
+use Rattle.std.proofs.Common.{length}
+use Rattle.hesc_places.proofs.Grammars.ReadingTurns.{Follows}
+use Rattle.hesc_places.proofs.place.readers.read_place.Given as goal
+
+-- what was read, and the reading of the rest, are the reading of the whole
+abbrev pub invariant-reading : goal.invariant-reading
+invariant-reading g l = Follows l.place l.bytes l.value.items l.mode l.rest
+
+abbrev pub decreases-reading : goal.decreases-reading
+decreases-reading g l = length l.rest

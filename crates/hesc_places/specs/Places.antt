@@ -1,0 +1,6 @@
+pub mod Marks
+pub mod Readings
+pub mod Suits
+pub mod ReadBack
+pub mod Trials
+pub mod Enclosed

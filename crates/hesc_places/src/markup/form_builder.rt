@@ -1,0 +1,83 @@
+//! The form of any attributes, or the reason why it is not built.
+ghost use Rattle.std.specs.Prelude.{◌≡◌, ◌≤◌, length, map, IfOk, IsOk};
+ghost use Rattle.std.specs.Borrow.{sem};
+ghost use Rattle.std.specs.String.{string_bytes};
+ghost use Rattle.hesc_engine.specs.Forms.{Appended, StringAppended, string_room};
+ghost use Rattle.hesc_places.specs.Pages.FormFaults.{AnswersFormFault};
+ghost use Rattle.hesc_places.specs.Pages.FormTexts.{AreGood, form_text, written};
+
+use crate::markup::attribute_checks::first_fault;
+use crate::markup::form_text::append_form_text;
+use crate::markup::types::{Attribute, FormFault};
+use std::alloc::{AllocError, Allocator};
+
+/// Appends a form: an input with these attributes, in order, and a script that hands `script` to
+/// `alert`. It answers that part. On a fault, the first of [`FormFault`], `output` is as it was.
+///
+/// The attributes are good exactly where none of them has a fault
+/// ([`good_attributes_law`](crate::laws::good_attributes_law)), and then by
+/// [`form_law`](crate::laws::form_law) the part is read back, whatever follows it.
+pub fn build_form<'o, A: Allocator>(
+    attributes: &[Attribute],
+    script: &str,
+    output: &'o mut String<A>,
+) -> Result<&'o str, FormFault>
+    ensures part { IfOk result
+        (λ part. part.now ≡ form_text (map written attributes.now) script.now) }
+    ensures* appended { sem 𝓛 (StringAppended A.row A.Allocator output.entry
+        (form_text (map written attributes.now) script.now) result) }
+
+    ensures faults { AnswersFormFault (map written attributes.now) result }
+    ensures good { IsOk result → AreGood (map written attributes.now) }
+    ensures fits { AreGood (map written attributes.now)
+        → length (form_text (map written attributes.now) script.now) ≤ string_room output.old
+        → IsOk result }
+{
+    build_form_onto(output, attributes, script)
+}
+
+// `build_form` with the output first, the order in which the check follows a loan by itself.
+fn build_form_onto<'o, A: Allocator>(
+    output: &'o mut String<A>,
+    attributes: &[Attribute],
+    script: &str,
+) -> Result<&'o str, FormFault>
+    ensures part { IfOk result
+        (λ part. part.now ≡ form_text (map written attributes.now) script.now) }
+    ensures* appended { sem 𝓛 (StringAppended A.row A.Allocator output.entry
+        (form_text (map written attributes.now) script.now) result) }
+
+    ensures faults { AnswersFormFault (map written attributes.now) result }
+    ensures good { IsOk result → AreGood (map written attributes.now) }
+    ensures fits { AreGood (map written attributes.now)
+        → length (form_text (map written attributes.now) script.now) ≤ string_room output.old
+        → IsOk result }
+{
+    let start = output.as_str().len();
+    append_form(output, attributes, script)?;
+    Ok(&output.as_str()[start..])
+}
+
+/// Appends what [`build_form`] does, and answers nothing. A caller's proof learns from this call what
+/// `output` holds afterwards, and from `build_form` only what its answer is.
+pub fn append_form<A: Allocator>(
+    output: &mut String<A>,
+    attributes: &[Attribute],
+    script: &str,
+) -> Result<(), FormFault>
+    ensures appended { Appended (string_bytes output.old) (string_bytes output.new)
+        (form_text (map written attributes.now) script.now) result }
+    ensures faults { AnswersFormFault (map written attributes.now) result }
+    ensures good { IsOk result → AreGood (map written attributes.now) }
+    ensures fits { AreGood (map written attributes.now)
+        → length (form_text (map written attributes.now) script.now) ≤ string_room output.old
+        → IsOk result }
+{
+    if let Some(fault) = first_fault(output.allocator(), attributes) {
+        return Err(fault);
+    }
+    match append_form_text(output, attributes, script) {
+        Ok(()) => Ok(()),
+        Err(AllocError) => Err(FormFault::Memory),
+    }
+}

@@ -1,0 +1,147 @@
+//! The reader of forms: what stands in a form, and where it ends.
+ghost use Rattle.std.specs.Prelude.{◌≡◌, map, IfOk};
+ghost use Rattle.std.specs.Option.{option_map};
+ghost use Rattle.hesc_places.specs.Pages.AttributeReadings.{entry};
+ghost use Rattle.hesc_places.specs.Pages.FormReadings.{
+  alerted,
+  behind_attributes,
+  form_reading,
+  form_found,
+  script_at,
+  tag_end,
+  with_attributes,
+};
+
+use crate::markup::prefix::{past, past_in_any_case, white_space_at};
+use crate::markup::tag_reader::{attributes_at, differ};
+use crate::markup::types::Quoting;
+use crate::place::places::Place;
+use crate::place::readers::read_place;
+use std::alloc::{AllocError, Allocator, Global};
+
+/// What stands in a form, and where it ends.
+#[derive(Debug, Drop, PartialEq, Eq)]
+pub struct Form<A: Allocator = Global> {
+    /// The attributes in order, each with its name, how its value is quoted, and its value.
+    pub attributes: Vec<(Vec<u8, A>, Quoting, Vec<u8, A>), A>,
+    /// The string that the script hands to `alert`.
+    pub script: Vec<u8, A>,
+    /// The position behind the script's end tag.
+    pub end: usize,
+}
+
+/// Reads a form from the front of the bytes: an input's tag with any attributes, no two of one name,
+/// and a script that hands one string to `alert`. There is `None` exactly where there is no reading,
+/// and `AllocError` where memory, or a copy of `alloc`, is refused. The bytes need be no UTF-8.
+#[tactic(auto, unfolding(crate::specs::Pages::FormReadings::form_reading))]
+pub fn read_form<A: Allocator + Clone>(
+    alloc: A,
+    bytes: &[u8],
+) -> Result<Option<Form<A>>, AllocError>
+    ensures { IfOk result (λ found. option_map (λ f. form_found
+        (map (λ a. entry a.0.items a.1 a.2.items) f.attributes.items) f.script.items f.end) found
+        ≡ form_reading bytes.now) }
+{
+    let Some(inside) = past(bytes, b"<input") else {
+        return Ok(None);
+    };
+    let (attributes, rest) = attributes_at(alloc.clone()?, inside)?;
+    with_attributes(alloc, bytes.len(), attributes, rest)
+}
+
+// The form with these attributes, in so many bytes, of which these stand behind the attributes.
+#[tactic(auto, unfolding(crate::specs::Pages::FormReadings::with_attributes))]
+fn with_attributes<A: Allocator + Clone>(
+    alloc: A,
+    total: usize,
+    attributes: Vec<(Vec<u8, A>, Quoting, Vec<u8, A>), A>,
+    bytes: &[u8],
+) -> Result<Option<Form<A>>, AllocError>
+    ensures { IfOk result (λ found. option_map (λ f. form_found
+        (map (λ a. entry a.0.items a.1 a.2.items) f.attributes.items) f.script.items f.end) found
+        ≡ with_attributes total
+        (map (λ a. entry a.0.items a.1 a.2.items) attributes.items, bytes.now)) }
+{
+    let Some((script, rest)) = behind_attributes(alloc.clone()?, bytes)? else {
+        return Ok(None);
+    };
+    if !differ(alloc, attributes.as_slice())? {
+        return Ok(None);
+    }
+    let end = total.saturating_sub(rest.len());
+    Ok(Some(Form {
+        attributes,
+        script,
+        end,
+    }))
+}
+
+// All that follows the attributes: the literal, and the bytes behind the script.
+#[tactic(auto, unfolding(crate::specs::Pages::FormReadings::behind_attributes))]
+fn behind_attributes<A: Allocator + Clone>(
+    alloc: A,
+    bytes: &[u8],
+) -> Result<Option<(Vec<u8, A>, &[u8])>, AllocError>
+    ensures { IfOk result (λ found. option_map (λ s. (s.0.items, s.1.now)) found
+        ≡ behind_attributes bytes.now) }
+{
+    let Some(tag) = tag_end(bytes) else {
+        return Ok(None);
+    };
+    let Some(body) = past(tag, b"<script>") else {
+        return Ok(None);
+    };
+    script_at(alloc, body)
+}
+
+// White space, at most one `/`, and `>`.
+fn tag_end(bytes: &[u8]) -> Option<&[u8]>
+    ensures { option_map (λ rest. rest.now) result ≡ tag_end bytes.now }
+{
+    let (_, mark) = bytes.split_at(white_space_at(bytes));
+    match past(mark, b"/>") {
+        Some(rest) => Some(rest),
+        None => past(mark, b">"),
+    }
+}
+
+// A body that calls `alert`, and its end tag.
+#[tactic(auto, unfolding(crate::specs::Pages::FormReadings::script_at))]
+fn script_at<A: Allocator + Clone>(
+    alloc: A,
+    bytes: &[u8],
+) -> Result<Option<(Vec<u8, A>, &[u8])>, AllocError>
+    ensures { IfOk result (λ found. option_map (λ s. (s.0.items, s.1.now)) found
+        ≡ script_at bytes.now) }
+{
+    let Some(body) = read_place(alloc.clone()?, Place::ScriptBody, bytes)? else {
+        return Ok(None);
+    };
+    let (_, tag) = bytes.split_at(body.end);
+    let Some(literal) = alerted(alloc, body.value.as_slice())? else {
+        return Ok(None);
+    };
+    let Some(rest) = past_in_any_case(tag, b"</script>") else {
+        return Ok(None);
+    };
+    Ok(Some((literal, rest)))
+}
+
+// The literal in a body that is one call of `alert`.
+#[tactic(auto, unfolding(crate::specs::Pages::FormReadings::alerted))]
+fn alerted<A: Allocator>(alloc: A, body: &[u8]) -> Result<Option<Vec<u8, A>>, AllocError>
+    ensures { IfOk result (λ found. option_map (λ literal. literal.items) found
+        ≡ alerted body.now) }
+{
+    let Some(inside) = past(body, b"alert('") else {
+        return Ok(None);
+    };
+    let Some(literal) = read_place(alloc, Place::ScriptSingle, inside)? else {
+        return Ok(None);
+    };
+    let (_, rest) = inside.split_at(literal.end);
+    if rest != b"');".as_slice() {
+        return Ok(None);
+    }
+    Ok(Some(literal.value))
+}

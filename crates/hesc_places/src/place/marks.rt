@@ -1,0 +1,54 @@
+//! The marks between which each place stands.
+ghost use Rattle.std.specs.Prelude.{◌≡◌};
+ghost use Rattle.hesc_places.specs.Places.Marks.{closing, end_byte, opening};
+
+use crate::place::places::{End, Place};
+
+/// The mark behind which a place begins.
+pub(crate) fn opening(place: Place) -> &'static str
+    ensures { result.now ≡ opening place }
+{
+    match place {
+        Place::Text => ">",
+        Place::DoubleAttribute => "\"",
+        Place::SingleAttribute => "'",
+        Place::UnquotedAttribute(_) => "=",
+        Place::ScriptSingle | Place::StyleSingle => "'",
+        Place::ScriptDouble | Place::StyleDouble => "\"",
+        Place::ScriptBody => "<script>",
+        Place::StyleBody => "<style>",
+    }
+}
+
+/// The mark at which a place ends.
+pub(crate) fn closing(place: Place) -> &'static str
+    ensures { result.now ≡ closing place }
+{
+    match place {
+        Place::Text => "<",
+        Place::DoubleAttribute => "\"",
+        Place::SingleAttribute => "'",
+        Place::UnquotedAttribute(End::Tab) => "\t",
+        Place::UnquotedAttribute(End::LineFeed) => "\n",
+        Place::UnquotedAttribute(End::FormFeed) => "\u{c}",
+        Place::UnquotedAttribute(End::Space) => " ",
+        Place::UnquotedAttribute(End::Greater) => ">",
+        Place::ScriptSingle | Place::StyleSingle => "'",
+        Place::ScriptDouble | Place::StyleDouble => "\"",
+        Place::ScriptBody => "</script>",
+        Place::StyleBody => "</style>",
+    }
+}
+
+/// The byte of an ending.
+pub(crate) fn end_byte(end: End) -> u8
+    ensures { result ≡ end_byte end }
+{
+    match end {
+        End::Tab => b'\t',
+        End::LineFeed => b'\n',
+        End::FormFeed => b'\x0c',
+        End::Space => b' ',
+        End::Greater => b'>',
+    }
+}

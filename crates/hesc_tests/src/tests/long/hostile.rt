@@ -1,0 +1,285 @@
+//! Long and hostile texts: the answers are right, and come in time that grows with the length alone.
+use crate::tests::operations::values::{
+    OPERATIONS, make, make_to_string, make_to_vec, make_to_writer,
+};
+use crate::tests::places::readings::PLACES;
+use hesc_places::{End, Place, end_of_place, read_place};
+use html_escape::{Decoder, Encoder, Operation};
+use std::alloc::{AllocError, Global};
+use std::borrow::CowStr;
+use std::process::Abort;
+use std::test::Fail;
+
+/// A head, a part and how often it stands there, and a tail.
+pub type Long = (&'static str, &'static str, usize, &'static str);
+
+pub fn long_text(alloc: Global, long: Long) -> Result<String, AllocError> {
+    let (head, part, times, tail) = long;
+    let mut text = String::from_str(alloc, head)?;
+    for _ in 0..times {
+        text.push_str(part)?;
+    }
+    text.push_str(tail)?;
+    Ok(text)
+}
+
+// An operation, a text, and what is made of it.
+type Row = (Operation, Long, Long);
+
+const MADE: [Row; 14] = [
+    (ENCODE_TEXT, ("", "<", 4096, ""), ("", "&lt;", 4096, "")),
+    (
+        ENCODE_SCRIPT_STRING,
+        ("", "\\", 4096, ""),
+        ("", "\\", 8192, ""),
+    ),
+    (
+        DECODE_SCRIPT_STRING,
+        ("", "\\", 8192, ""),
+        ("", "\\", 4096, ""),
+    ),
+    (
+        DECODE_SCRIPT_STRING,
+        ("", "\\", 4095, ""),
+        ("", "\\", 2048, ""),
+    ),
+    (
+        DECODE_REFERENCES,
+        ("", "&", 4096, "amp;"),
+        ("", "&", 4096, ""),
+    ),
+    (
+        DECODE_SCRIPT,
+        ("", "<\\", 2048, "!--"),
+        ("", "<\\", 2047, "<!--"),
+    ),
+    (
+        ENCODE_SCRIPT,
+        ("", "<!-", 1, "<!--"),
+        ("", "<!-", 1, "<\\!--"),
+    ),
+    (
+        ENCODE_TEXT,
+        ("", "&", MILLION, ""),
+        ("", "&amp;", MILLION, ""),
+    ),
+    (
+        DECODE_REFERENCES,
+        ("&#", "0", MILLION, "65;"),
+        ("A", "", 0, ""),
+    ),
+    (
+        ENCODE_SCRIPT,
+        ("", "</scrip", MANY, "t"),
+        ("", "</scrip", MANY - 1, "<\\/script"),
+    ),
+    (
+        DECODE_SCRIPT,
+        ("", "<\\/scrip", MANY, "t"),
+        ("", "<\\/scrip", MANY - 1, "</script"),
+    ),
+    (
+        DECODE_SCRIPT_STRING,
+        ("", "<\\/scrip", MANY, "t>"),
+        ("", "<\\/scrip", MANY - 1, "</script>"),
+    ),
+    (
+        ENCODE_SCRIPT_STRING,
+        ("", "\u{2026}", MANY, "\u{2028}"),
+        ("", "\u{2026}", MANY, "\\u2028"),
+    ),
+    (
+        DECODE_STYLE_STRING,
+        ("", "\\3", MANY, "C "),
+        ("", "\\3", MANY - 1, "<"),
+    ),
+];
+
+const ENCODE_TEXT: Operation = Operation::Encode(Encoder::Text);
+
+const ENCODE_SCRIPT: Operation = Operation::Encode(Encoder::Script);
+
+const ENCODE_SCRIPT_STRING: Operation = Operation::Encode(Encoder::ScriptQuoted);
+
+const DECODE_REFERENCES: Operation = Operation::Decode(Decoder::HtmlEntities);
+
+const DECODE_SCRIPT: Operation = Operation::Decode(Decoder::Script);
+
+const DECODE_SCRIPT_STRING: Operation = Operation::Decode(Decoder::ScriptQuoted);
+
+const DECODE_STYLE_STRING: Operation = Operation::Decode(Decoder::StyleQuoted);
+
+const MILLION: usize = 1_000_000;
+
+// Times that a part of some bytes makes a megabyte.
+const MANY: usize = 131_072;
+
+#[test]
+fn a_long_text_is_as_long_as_it_says(rt: HostRuntime) -> Result<(), Fail> {
+    let text = long_text(rt.alloc(), ("ab", "c", MILLION, "def"))?;
+    assert_eq!(rt; text.len(), 1_000_005);
+    let text = long_text(rt.alloc(), ("", "</scrip", MANY, ""))?;
+    assert_eq!(rt; text.len(), 917_504);
+    Ok(())
+}
+
+#[test]
+fn long_texts_are_made(rt: HostRuntime) -> Result<(), Fail> {
+    for (operation, text, made) in MADE {
+        let text = long_text(rt.alloc(), text)?;
+        let made = long_text(rt.alloc(), made)?;
+        let cow = make(operation, rt.alloc(), text.as_str())?;
+        assert!(rt; cow.as_str() == made.as_str(), "{operation:?}");
+        assert!(rt; matches!(cow, CowStr::Owned(_)), "{operation:?}");
+        let mut string = String::new(rt.alloc());
+        assert!(rt; make_to_string(operation, text.as_str(), &mut string)? == made.as_str());
+        let mut vec = Vec::new(rt.alloc());
+        assert!(rt; make_to_vec(operation, text.as_str(), &mut vec)? == made.as_bytes());
+        let mut written = Vec::new(rt.alloc());
+        make_to_writer(operation, text.as_str(), &mut written)?;
+        assert!(rt; written.as_slice() == made.as_bytes(), "{operation:?}");
+    }
+    Ok(())
+}
+
+// An operation, and a text in which it changes nothing.
+const KEPT: [(Operation, Long); 12] = [
+    (ENCODE_SCRIPT, ("", "<", 4096, "")),
+    (ENCODE_SCRIPT, ("", "<", 1, "")),
+    (ENCODE_SCRIPT, ("", "</", 1, "")),
+    (ENCODE_SCRIPT, ("", "</scrip", 1, "")),
+    (ENCODE_SCRIPT, ("", "<!", 1, "")),
+    (ENCODE_SCRIPT, ("", "<!-", 1, "")),
+    (ENCODE_SCRIPT, ("", "</scrip", MANY, "")),
+    (DECODE_REFERENCES, ("", "&", MILLION, "")),
+    (DECODE_REFERENCES, ("&#", "9", MILLION, ";")),
+    (DECODE_REFERENCES, ("&", "a", MILLION, ";")),
+    (DECODE_SCRIPT, ("", "<\\/scrip", MANY, "")),
+    (DECODE_STYLE_STRING, ("", "\\3", MANY, "")),
+];
+
+#[test]
+fn long_texts_are_kept(rt: HostRuntime) -> Result<(), Fail> {
+    for (operation, text) in KEPT {
+        let text = long_text(rt.alloc(), text)?;
+        let cow = make(operation, rt.alloc(), text.as_str())?;
+        assert!(rt; cow.as_str() == text.as_str(), "{operation:?}");
+        assert!(rt; matches!(cow, CowStr::Borrowed(_)), "{operation:?}");
+    }
+    Ok(())
+}
+
+// Texts at which a search that begins anew for each part never comes to its end.
+const TRAPS: [Long; 9] = [
+    ("", "&", MILLION, ""),
+    ("", "<", MILLION, ""),
+    ("", "\\", MILLION, ""),
+    ("", "</scrip", MANY, ""),
+    ("", "<\\/styl", MANY, ""),
+    ("", "<!--<script", MANY, ""),
+    ("&#", "1", MILLION, ";"),
+    ("&#x", "0", MILLION, "41;"),
+    ("&", "a", MILLION, ";"),
+];
+
+#[test]
+fn every_operation_ends(rt: HostRuntime) -> Result<(), Fail> {
+    for trap in TRAPS {
+        let text = long_text(rt.alloc(), trap)?;
+        for operation in OPERATIONS {
+            let cow = make(operation, rt.alloc(), text.as_str())?;
+            let mut output = String::new(rt.alloc());
+            let part = make_to_string(operation, text.as_str(), &mut output)?;
+            assert!(rt; part == cow.as_str(), "{operation:?} of {trap:?}");
+        }
+    }
+    Ok(())
+}
+
+// A place, the text behind its opening mark, its value, and the closing mark.
+const READ: [(Place, Long, Long, &str); 8] = [
+    (
+        Place::Text,
+        ("&lt", ";&lt", MANY - 1, ";"),
+        ("", "<", MANY, ""),
+        "<",
+    ),
+    (
+        Place::DoubleAttribute,
+        ("&#", "0", MILLION, "65;"),
+        ("A", "", 0, ""),
+        "\"",
+    ),
+    (
+        Place::SingleAttribute,
+        ("&amp", ";&amp", MANY - 1, ";"),
+        ("", "&", MANY, ""),
+        "'",
+    ),
+    (
+        Place::UnquotedAttribute(End::Space),
+        ("", "a", MILLION, ""),
+        ("", "a", MILLION, ""),
+        " ",
+    ),
+    (
+        Place::ScriptSingle,
+        ("", "\\\\", MILLION, ""),
+        ("", "\\", MILLION, ""),
+        "'",
+    ),
+    (
+        Place::StyleDouble,
+        ("", "\\\\", MILLION, ""),
+        ("", "\\", MILLION, ""),
+        "\"",
+    ),
+    (
+        Place::ScriptBody,
+        ("", "</scrip", MANY, ""),
+        ("", "</scrip", MANY, ""),
+        "</script>",
+    ),
+    (
+        Place::StyleBody,
+        ("", "</styl", MANY, ""),
+        ("", "</styl", MANY, ""),
+        "</style>",
+    ),
+];
+
+#[test]
+fn long_texts_are_read(rt: HostRuntime) -> Result<(), Fail> {
+    for (place, text, value, mark) in READ {
+        let mut text = long_text(rt.alloc(), text)?;
+        let value = long_text(rt.alloc(), value)?;
+        let end = text.len();
+        text.push_str(mark)?;
+        let bytes = text.as_bytes();
+        assert_eq!(rt; end_of_place(place, bytes), Some(end), "{place:?}");
+        match read_place(rt.alloc(), place, bytes)? {
+            Some(found) => {
+                assert_eq!(rt; found.end, end, "{place:?}");
+                assert!(rt; found.value.as_slice() == value.as_bytes(), "{place:?}");
+            }
+            None => panic!(rt; "{place:?} has no reading"),
+        }
+    }
+    Ok(())
+}
+
+#[test]
+fn every_reader_ends(rt: HostRuntime) -> Result<(), Fail> {
+    for trap in TRAPS {
+        let text = long_text(rt.alloc(), trap)?;
+        for place in PLACES {
+            let end = end_of_place(place, text.as_bytes());
+            let found = match read_place(rt.alloc(), place, text.as_bytes())? {
+                Some(found) => Some(found.end),
+                None => None,
+            };
+            assert_eq!(rt; found, end, "{place:?} of {trap:?}");
+        }
+    }
+    Ok(())
+}

@@ -1,0 +1,156 @@
+//! How many bytes are asked for where places, pages and forms are built and read.
+use crate::Refusing;
+use crate::tests::markup::forms::many_names;
+use crate::tests::memory::amounts::{SMALL, TEXTS, text_of};
+use crate::tests::operations::values::OPERATIONS;
+use crate::tests::places::enclosings::opening_mark;
+use crate::tests::places::readings::PLACES;
+use hesc_places::{
+    Attribute, Place, Quoting, append_enclosed, build_form, build_page, enclose, read_form,
+    read_page, read_place, suits,
+};
+use html_escape::{Encoder, Operation};
+use std::alloc::{AllocError, Allocator, Global};
+use std::process::Abort;
+use std::test::Fail;
+
+// What is read goes into room that is doubled when it is full, so that all requests together are for
+// at most four times of it.
+const DOUBLED: usize = 4;
+
+/// What a reader of forms asks for at most for an attribute beside its bytes: its place in the list,
+/// which doubles too, and the least room of its value.
+pub const FOR_EACH_ATTRIBUTE: usize = 512;
+
+#[test]
+fn enclosing_asks_for_its_answer_alone(rt: HostRuntime) -> Result<(), Fail> {
+    for (part, length) in TEXTS {
+        let text = text_of(rt.alloc(), part, length)?;
+        for operation in OPERATIONS {
+            let Operation::Encode(encoder) = operation else {
+                continue;
+            };
+            for place in PLACES {
+                if suits(encoder, place) && (length <= 1000 || is_one_of_few(encoder)) {
+                    let is_right = asks_little(rt.alloc(), encoder, place, text.as_str())?;
+                    assert!(rt; is_right, "{encoder:?} in {place:?}: {length} of {part:?}");
+                }
+            }
+        }
+    }
+    Ok(())
+}
+
+// The encoders that go over the long texts too.
+fn is_one_of_few(encoder: Encoder) -> bool {
+    matches!(
+        encoder,
+        Encoder::Safe | Encoder::ScriptSingleQuoted | Encoder::Script
+    )
+}
+
+// Both forms of enclosing, and the reading of what was enclosed.
+fn asks_little(
+    alloc: Global,
+    encoder: Encoder,
+    place: Place,
+    text: &str,
+) -> Result<bool, AllocError> {
+    let heap = Refusing::new(alloc, 0);
+    let mut output = String::new(&heap);
+    let is_enclosed = enclose(encoder, place, text, &mut output).is_ok();
+    let asked = heap.asked_bytes();
+    heap.refuse(0);
+    let mut other = String::new(&heap);
+    let is_appended = append_enclosed(&mut other, encoder, place, text).is_ok();
+    let most = output.len().saturating_add(SMALL) as u64;
+    if !is_enclosed || !is_appended || asked > most || heap.asked_bytes() > most {
+        return Ok(false);
+    }
+    match output.as_str().strip_prefix(opening_mark(place)) {
+        Some(behind) => reads_little(alloc, place, behind),
+        None => Ok(false),
+    }
+}
+
+fn reads_little(alloc: Global, place: Place, behind: &str) -> Result<bool, AllocError> {
+    let heap = Refusing::new(alloc, 0);
+    match read_place(&heap, place, behind.as_bytes())? {
+        Some(found) => {
+            let most = found
+                .value
+                .len()
+                .saturating_mul(DOUBLED)
+                .saturating_add(SMALL);
+            Ok(heap.asked_bytes() <= most as u64)
+        }
+        None => Ok(false),
+    }
+}
+
+#[test]
+fn pages_ask_for_what_stands_in_them(rt: HostRuntime) -> Result<(), Fail> {
+    for (part, length) in TEXTS {
+        let text = text_of(rt.alloc(), part, length)?;
+        let heap = Refusing::new(rt.alloc(), 0);
+        let mut page = String::new(&heap);
+        let is_built = build_page(text.as_str(), part, text.as_str(), &mut page).is_ok();
+        assert!(rt;
+            is_built && heap.asked_bytes() <= page.len().saturating_add(SMALL) as u64,
+            "{part:?}"
+        );
+        heap.refuse(0);
+        let is_read = read_page(&heap, page.as_bytes())?.is_some();
+        assert!(rt;
+            is_read && heap.asked_bytes() <= most_of_reading(page.len(), 2),
+            "{part:?}"
+        );
+    }
+    Ok(())
+}
+
+// A value is read once, and the script once as a body and once as a string.
+fn most_of_reading(length: usize, attributes: usize) -> u64 {
+    let values = length.saturating_mul(2).saturating_mul(DOUBLED);
+    let places = attributes.saturating_mul(FOR_EACH_ATTRIBUTE);
+    values.saturating_add(places).saturating_add(SMALL) as u64
+}
+
+#[test]
+fn forms_ask_for_what_stands_in_them(rt: HostRuntime) -> Result<(), Fail> {
+    let names = many_names(rt.alloc())?;
+    for (part, length) in TEXTS {
+        let text = text_of(rt.alloc(), part, length.min(50))?;
+        let mut attributes = Vec::new(rt.alloc());
+        for name in names.iter().take(length / 32) {
+            attributes.push(Attribute {
+                name: name.as_str(),
+                quoting: Quoting::Single,
+                value: text.as_str(),
+            })?;
+        }
+        let is_right = asks_little_for_form(rt.alloc(), attributes.as_slice(), text.as_str())?;
+        assert!(rt; is_right, "{} attributes of {part:?}", attributes.len());
+    }
+    Ok(())
+}
+
+fn asks_little_for_form(
+    alloc: Global,
+    attributes: &[Attribute],
+    script: &str,
+) -> Result<bool, AllocError> {
+    let heap = Refusing::new(alloc, 0);
+    let mut form = String::new(&heap);
+    let is_built = build_form(attributes, script, &mut form).is_ok();
+    if !is_built || heap.asked_bytes() > form.len().saturating_add(SMALL) as u64 {
+        return Ok(false);
+    }
+    heap.refuse(0);
+    let is_read = is_form(&heap, form.as_bytes())?;
+    Ok(is_read && heap.asked_bytes() <= most_of_reading(form.len(), attributes.len()))
+}
+
+fn is_form<A: Allocator + Clone>(alloc: A, bytes: &[u8]) -> Result<bool, AllocError> {
+    Ok(read_form(alloc, bytes)?.is_some())
+}

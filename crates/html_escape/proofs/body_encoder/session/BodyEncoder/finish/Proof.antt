@@ -1,0 +1,86 @@
+-- The call hands the output and the session on for good, so that what `finish_onto` says of their ends holds here.
+use Rattle.std.proofs.Common.{[], ◌∷◌, refl}
+use Rattle.std.proofs.raw_atomic.Walks.{proved}
+use base.Logic.{id⊢}
+use base.Fml.{Fml, ftrue, flft}
+use mir.Syntax.{named}
+use mir.MapTy.{inst_fn}
+use types.Kit.{‵, raw, ◌⊛◌, some, later, ◌$◌, ◌∵◌, !, qed, done, move, drop, use1, split, fsplit, join, pick, await, suffices, group}
+use types.Run.{enter, addr, stop, no_more, and_then, returns}
+use types.ByLocal.{alloc_all, pass_all, free_all, look_at, get, through, sets, lands_as}
+use contract.Lifetimes.{Lfts}
+use contract.Running.{tables}
+use denote.Exit.{no}
+use denote.Laws.{Is, shows}
+use denote.Param.{param}
+use denote.RattleType.{RattleType}
+use denote.Ref.{MutRef, mut_vals, mut_Tells}
+use denote.Signature.{plain, type_at}
+use denote.Steps.{nothing, peeks}
+use denote.Text.{Str}
+use denote.Triple.Call.{calls_at}
+use denote.Triple.Clauses.{Lasts, lasts, at_exit, closing}
+use denote.Triple.Entry.{Args, Res}
+use denote.Triple.Spec.{triple_of}
+use denote.Triple.Table.{framed}
+use denote.Triple.Walked.{Stays, gave_ref, stay_dropped, Goes-gave_ref, Goes-spent_ref, walk_of, ends_at}
+use borrow.Table.Str.{str_laws}
+use Rattle.std.proofs.result.Result.TheLaws.{the_row_laws as result_laws}
+use Rattle.std.proofs.alloc.AllocError.TheLaws.{the_row_laws as error_laws}
+use Rattle.std.specs.contracts.alloc.AllocError as error
+use Rattle.hesc_engine.specs.Forms.{string_row}
+use Rattle.hesc_engine.proofs.HandsOn.{over, turned_lfts}
+use Rattle.html_escape.specs.contracts.body_encoder.session.BodyEncoder as encoder
+use Rattle.html_escape.specs.contracts.body_encoder.session.BodyEncoder.finish as f
+use Rattle.html_escape.specs.contracts.body_encoder.session.BodyEncoder.finish_onto as g
+use Rattle.html_escape.proofs.body_encoder.session.BodyEncoder.finish.Statement.{statement}
+use Rattle.html_escape.proofs.body_encoder.session.BodyEncoder.finish.Code as code
+use Rattle.html_escape.proofs.body_encoder.session.BodyEncoder.finish_onto.Met as callee
+
+pub finish_spec : {M : Type 1} → statement M
+finish_spec 𝓤 𝓛 𝓜 𝓡 wired A L alloc d dd met md =
+    let given = f.ended A alloc d dd in let turned = g.ended A alloc d dd in
+    let c = f.clauses A alloc d dd 𝓛 𝓜.mem 𝓡.returns in let e = g.clauses A alloc d dd 𝓛 𝓜.mem 𝓡.returns in
+    let R = string_row (param 0 A) alloc in
+    let stayed : Stays given.signature.params given.kept = (gave_ref (0 ∷ []) tt (plain (λ _. encoder.the_row)), (stay_dropped _ no, tt)) in
+    let W = walk_of 𝓛 given stayed c in let G = triple_of 𝓛 turned.signature (closing 𝓛 turned e) in
+    proved 𝓛 given stayed c 𝓜 𝓡 (Goes-gave_ref 𝓛 3 0 tt (plain (λ _. encoder.the_row)), (Goes-spent_ref 𝓛 3 (1 ∷ []) tt (plain (λ _. R)), tt))
+    (f.Key.name (over A d dd)) (inst_fn (over A d dd) code.function) (code.unfolded 𝓤 𝓛.H 𝓜 𝓡 wired (A, tt) d dd)
+    (λ κs. (mut_vals, (mut_vals, tt)))
+    (λ κs. (mut_Tells (named 0) κs.0 encoder.the_row, (mut_Tells (named 1) κs.1.0 R, tt)))
+    (λ κs qs bounds a n are.
+    let es = mut_vals a.0 in let os = mut_vals a.1.0 in
+    let E : Fml = (MutRef (named 0) κs.0 encoder.the_row).own_val a.0 es in
+    let O : Fml = (MutRef (named 1) κs.1.0 R).own_val a.1.0 os in
+    let κs' : Lfts 3 = turned_lfts κs in let a' : Args turned.signature κs' = (a.1.0, (a.0, tt)) in
+    let y : W.Ghost = ((κs, qs, bounds, a, (es, (os, tt))), n) in
+    let z : G.Ghost = ((κs', (qs.1.0, (qs.0, (qs.1.1.0, tt))), bounds, a', (os, (es, tt))), n) in
+    let X : RattleType = type_at given.signature.result κs in let Y : RattleType = type_at turned.signature.result κs' in
+    let answer_laws = result_laws (Str (named 0) κs.1.0) error.the_row (str_laws (record { mir = named 0; lft = κs.1.0 })) error_laws in
+    qed 𝓛 (((‵ (flft κs.0 qs.0) ⊛ (‵ (flft κs.1.0 qs.1.0) ⊛ (‵ (flft κs.1.1.0 qs.1.1.0) ⊛ ‵ ftrue))) ⊛ (‵ E ⊛ (‵ O ⊛ ‵ ftrue))) ∷ raw ((c κs a).requires n) ∷ []) ∵
+    -- [the tokens and the parameters; the `requires`]
+    split ! $ split ! $ move ! (2 ∷ []) $ split ! $ move ! (1 ∷ []) $ split ! $
+    -- [output; nothing; session; its token; the other tokens; the `requires`]
+    move ! (2 ∷ 1 ∷ []) $ join ! $ move ! (1 ∷ 0 ∷ []) $ join ! $
+    -- [the parameters; the session's token; the other tokens; the `requires`]
+    move ! (2 ∷ []) $ split ! $ move ! (3 ∷ 1 ∷ []) $ join ! $ move ! (1 ∷ 0 ∷ []) $ join ! $ join ! $ join ! $
+    use1 𝓛 (raw (G.pre z)) (id⊢ 𝓤 _) $
+    enter ! _ _ _ _ _ $
+    alloc_all ! (λ l. pass_all ! refl ((tt, tt), ((tt, tt), tt)) $
+    sets ! (addr ! (through ! refl (stop !))) refl (tt, tt) $ sets ! (addr ! (through ! refl (stop !))) refl (tt, tt) $
+    calls_at ! (framed 𝓤 𝓛.H 𝓜 (tables 𝓤 𝓛.H 𝓜 𝓡 𝓡.env)) G (callee.met 𝓤 𝓛 𝓜 𝓡 (code.calls-html_escape::body_encoder::session::BodyEncoder::finish_onto 𝓡.env wired) A L alloc d dd met md) z
+    (and_then ! (get ! refl) (and_then ! (get ! refl) (no_more !))) (λ v.
+    use1 𝓛 (later (some (λ (r : Res turned.signature κs'). ((‵ (flft κs.1.0 qs.1.0) ⊛ (‵ (flft κs.0 qs.0) ⊛ (‵ (flft κs.1.1.0 qs.1.1.0) ⊛ ‵ ftrue))) ⊛ ‵ (Y.own_val r (v ∷ []))) ⊛
+    some (λ (ws : Lasts turned κs' a'). ‵ (lasts turned κs' a' ws) ⊛ raw ((e κs' a').ensures n r (at_exit turned κs' a' ws)))))) (id⊢ 𝓤 _) $
+    await ! tt $ pick ! (λ r. split ! $ split ! $ move ! (2 ∷ []) $ pick ! (λ ws. split ! $
+    -- [what is left of the output and the session; the clauses; the tokens; the answer]
+    fsplit ! $ drop ! $ fsplit ! $ move ! (1 ∷ []) $ drop ! $ move ! (1 ∷ []) $
+    -- [the clauses; what is left of the session; the tokens; the answer]
+    use1 𝓛 (raw ((c κs a).ensures n r (at_exit given κs a (ws.1.0, (tt, tt))))) (id⊢ 𝓤 _) $
+    move ! (3 ∷ []) $ peeks ! Y (Is Y) (shows 𝓛 Y) r (v ∷ []) (λ is. lands_as ! refl refl (((answer_laws.lawful 𝓛).typed r (v ∷ []) is).0) $
+    use1 𝓛 (‵ (X.own_val r (v ∷ []))) (id⊢ 𝓤 _) $
+    returns ! (look_at ! 0 refl) $ free_all ! refl $
+    -- [the answer; the clauses; what is left of the session; the tokens]
+    move ! (3 ∷ []) $ split ! $ move ! (1 ∷ []) $ split ! $ move ! (2 ∷ 1 ∷ []) $ join ! $ move ! (1 ∷ 0 ∷ []) $ join ! $
+    suffices ! _ (ends_at 𝓛 given stayed c y v r (ws.1.0, (tt, tt)) (tt, (tt, tt))) $
+    nothing ! $ nothing ! $ join ! $ move ! (4 ∷ 0 ∷ []) $ join ! $ move ! (1 ∷ 0 ∷ []) $ group ! 3 $ done !))))))

@@ -1,0 +1,6 @@
+//! The session that encodes a body in pieces.
+mod carry;
+mod decided;
+mod flush;
+mod partial;
+pub mod session;

@@ -1,0 +1,188 @@
+//! A body that is encoded piece by piece. What a piece ends with is held back where only the next
+//! one decides whether an opening begins there.
+ghost use Rattle.std.specs.Prelude.{◌≡◌, ◌≤◌, true, [], ◌++◌, length, IfOk, IsOk, OnErr, OnOk};
+ghost use Rattle.std.specs.Borrow.{sem};
+ghost use Rattle.std.specs.String.{string_bytes};
+ghost use Rattle.hesc_specs.specs.Bodies.Encoding.{body_encoding};
+ghost use Rattle.hesc_specs.specs.Bodies.Sessions.{IsStep, is_undecided as undecided, undecided_end};
+ghost use Rattle.hesc_engine.specs.Forms.{AnswersPart, Appended, StringAppended, string_room};
+ghost use Rattle.html_escape.specs.Held.{few_bytes};
+
+use crate::body_encoder::carry::FewBytes;
+use crate::body_encoder::flush::{append_released, is_opened};
+use crate::body_encoder::partial::{first_undecided, is_undecided};
+use crate::encoder::Encoder;
+use hesc_core::Element;
+use hesc_core::forms::append_to_string;
+use std::alloc::{AllocError, Allocator};
+use std::str;
+
+/// The encoder of one body that comes piece by piece, and may be cut anywhere.
+///
+/// From one call to the next it holds back the end of what it was given, where only what follows
+/// decides whether an opening begins there: `<`, `<!`, `<!-`, or `</` and a beginning of the
+/// element's name. That is at most 8 bytes, which it keeps in itself.
+#[derive(Drop)]
+pub struct BodyEncoder {
+    kind: Element,
+    held: FewBytes,
+    pub ghost undecided: { undecided kind (few_bytes held) ≡ true },
+}
+
+impl BodyEncoder {
+    ghost use Rattle.html_escape.specs.BodyEncoders.{added_with, held_by, kind_of};
+
+    /// A session of this kind, which holds nothing.
+    pub fn new(kind: Element) -> BodyEncoder
+        ensures kind { kind_of result ≡ kind }
+        ensures nothing { held_by result ≡ [] }
+    {
+        BodyEncoder {
+            kind,
+            held: FewBytes::first_of(b"", b""),
+        }
+    }
+
+    /// Appends what is settled of the body with this piece, and answers that part. On a refusal the
+    /// session and `output` are as they were, and the call can be made again.
+    pub fn push<'o, A: Allocator>(
+        &mut self,
+        piece: &str,
+        output: &'o mut String<A>,
+    ) -> Result<&'o str, AllocError>
+        ensures part { AnswersPart (string_room output.old) (added_with self.old piece.now) result }
+        ensures* appended { sem 𝓛 (StringAppended A.row A.Allocator output.entry
+            (added_with self.old piece.now) result) }
+
+        ensures step { IfOk result (λ part. IsStep (kind_of self.old)
+            (held_by self.old) piece.now (held_by self.new) part.now) }
+        ensures held { OnOk result
+            (held_by self.new ≡ undecided_end (kind_of self.old) (held_by self.old ++ piece.now)) }
+        ensures few { length (held_by self.new) ≤ 8 }
+        ensures kind { kind_of self.new ≡ kind_of self.old }
+        ensures refused { OnErr result (self.new ≡ self.old) }
+    {
+        Self::push_onto(output, self, piece)
+    }
+
+    /// Ends the body: appends the encoding of what is held, and answers that part. The session is
+    /// then as new. On a refusal the session and `output` are as they were, and the call can be made
+    /// again.
+    pub fn finish<'o, A: Allocator>(
+        &mut self,
+        output: &'o mut String<A>,
+    ) -> Result<&'o str, AllocError>
+        ensures part { AnswersPart (string_room output.old)
+            (body_encoding (kind_of self.old) (held_by self.old)) result }
+        ensures* appended { sem 𝓛 (StringAppended A.row A.Allocator output.entry
+            (body_encoding (kind_of self.old) (held_by self.old)) result) }
+
+        ensures nothing { OnOk result (held_by self.new ≡ []) }
+        ensures kind { kind_of self.new ≡ kind_of self.old }
+        ensures refused { OnErr result (self.new ≡ self.old) }
+    {
+        Self::finish_onto(output, self)
+    }
+
+    /// Appends what [`push`](Self::push) does, and answers nothing. A caller's proof learns from
+    /// this call what `output` holds afterwards, and from `push` only what its answer is.
+    pub fn append_piece<A: Allocator>(
+        &mut self,
+        piece: &str,
+        output: &mut String<A>,
+    ) -> Result<(), AllocError>
+        ensures appended { Appended (string_bytes output.old) (string_bytes output.new)
+            (added_with self.old piece.now) result }
+        ensures fits { length (added_with self.old piece.now) ≤ string_room output.old
+            → IsOk result }
+
+        ensures step { OnOk result (IsStep (kind_of self.old)
+            (held_by self.old) piece.now (held_by self.new) (added_with self.old piece.now)) }
+        ensures held { OnOk result
+            (held_by self.new ≡ undecided_end (kind_of self.old) (held_by self.old ++ piece.now)) }
+        ensures few { length (held_by self.new) ≤ 8 }
+        ensures kind { kind_of self.new ≡ kind_of self.old }
+        ensures refused { OnErr result (self.new ≡ self.old) }
+    {
+        let front = FewBytes::first_of(self.held.as_slice(), piece.as_bytes());
+        if is_undecided(self.kind, front.as_slice()) {
+            self.held = front;
+            return Ok(());
+        }
+        let opens = is_opened(self.kind, self.held.as_slice(), front.as_slice());
+        append_released(output, self.kind, self.held_text(), opens, piece)?;
+        let bytes = piece.as_bytes();
+        let end = first_undecided(self.kind, bytes, 0);
+        self.held = FewBytes::first_of(b"", &bytes[end..]);
+        Ok(())
+    }
+
+    /// Appends what [`finish`](Self::finish) does, and answers nothing.
+    pub fn append_rest<A: Allocator>(&mut self, output: &mut String<A>) -> Result<(), AllocError>
+        ensures appended { Appended (string_bytes output.old) (string_bytes output.new)
+            (body_encoding (kind_of self.old) (held_by self.old)) result }
+        ensures fits { length (body_encoding (kind_of self.old) (held_by self.old))
+            ≤ string_room output.old → IsOk result }
+
+        ensures nothing { OnOk result (held_by self.new ≡ []) }
+        ensures kind { kind_of self.new ≡ kind_of self.old }
+        ensures refused { OnErr result (self.new ≡ self.old) }
+    {
+        let encoder = match self.kind {
+            Element::Script => Encoder::Script,
+            Element::Style => Encoder::Style,
+        };
+        append_to_string(output, &encoder, self.held_text())?;
+        self.held = FewBytes::first_of(b"", b"");
+        Ok(())
+    }
+
+    fn held_text(&self) -> &str
+        ensures { result.now ≡ held_by self.now }
+    {
+        // What is undecided is ASCII.
+        unsafe { str::from_utf8_unchecked(self.held.as_slice()) }
+    }
+
+    // `push` with the output first, the order in which the check follows a loan by itself.
+    fn push_onto<'o, A: Allocator>(
+        output: &'o mut String<A>,
+        session: &mut BodyEncoder,
+        piece: &str,
+    ) -> Result<&'o str, AllocError>
+        ensures part { AnswersPart (string_room output.old) (added_with session.old piece.now) result }
+        ensures* appended { sem 𝓛 (StringAppended A.row A.Allocator output.entry
+            (added_with session.old piece.now) result) }
+
+        ensures step { IfOk result (λ part. IsStep (kind_of session.old)
+            (held_by session.old) piece.now (held_by session.new) part.now) }
+        ensures held { OnOk result
+            (held_by session.new ≡ undecided_end (kind_of session.old) (held_by session.old ++ piece.now)) }
+        ensures few { length (held_by session.new) ≤ 8 }
+        ensures kind { kind_of session.new ≡ kind_of session.old }
+        ensures refused { OnErr result (session.new ≡ session.old) }
+    {
+        let start = output.as_str().len();
+        session.append_piece(piece, output)?;
+        Ok(&output.as_str()[start..])
+    }
+
+    // `finish` with the output first.
+    fn finish_onto<'o, A: Allocator>(
+        output: &'o mut String<A>,
+        session: &mut BodyEncoder,
+    ) -> Result<&'o str, AllocError>
+        ensures part { AnswersPart (string_room output.old)
+            (body_encoding (kind_of session.old) (held_by session.old)) result }
+        ensures* appended { sem 𝓛 (StringAppended A.row A.Allocator output.entry
+            (body_encoding (kind_of session.old) (held_by session.old)) result) }
+
+        ensures nothing { OnOk result (held_by session.new ≡ []) }
+        ensures kind { kind_of session.new ≡ kind_of session.old }
+        ensures refused { OnErr result (session.new ≡ session.old) }
+    {
+        let start = output.as_str().len();
+        session.append_rest(output)?;
+        Ok(&output.as_str()[start..])
+    }
+}
