@@ -1,7 +1,8 @@
 //! A rule's text as a text that is borrowed where nothing changes.
 ghost use Rattle.hesc_engine.specs.Forms.{AnswersText};
 
-use crate::forms::vec::append_by_pieces;
+use crate::forms::made::Made;
+use crate::forms::parts::append_parts_to_vec;
 use crate::rule::Rule;
 use std::alloc::{AllocError, Allocator};
 use std::borrow::CowStr;
@@ -20,7 +21,7 @@ pub fn to_cow<'t, R: Rule, A: Allocator>(
         return Ok(CowStr::Borrowed(text));
     }
     let mut bytes = Vec::new(alloc);
-    append_by_pieces(&mut bytes, rule, text)?;
+    append_parts_to_vec(&mut bytes, &Made { rule, text })?;
     // What is made of a text is a text.
     Ok(CowStr::Owned(unsafe { String::from_utf8_unchecked(bytes) }))
 }

@@ -5,9 +5,10 @@ ghost use Rattle.std.specs.Str.{IsCharBoundary};
 ghost use Rattle.std.specs.String.{string_bytes};
 ghost use Rattle.hesc_engine.specs.Forms.{AnswersPart, Appended, StringAppended, string_room};
 
-use crate::forms::vec::append_to_vec;
+use crate::forms::made::Made;
+use crate::forms::parts::append_parts;
 use crate::rule::Rule;
-use core::mem::replace_with;
+use crate::unchanged::Unchanged;
 use std::alloc::{AllocError, Allocator};
 
 /// Appends what `rule` makes of `text`, or leaves the output as it was.
@@ -21,24 +22,15 @@ pub fn append_to_string<R: Rule, A: Allocator>(
         (R.made rule.now text.now) result }
     ensures fits { length (R.made rule.now text.now) ≤ string_room output.old → IsOk result }
 {
-    replace_with(output, (rule, text), appended)
-}
-
-// The string with what `rule` makes of `text` behind it, or as it was.
-#[inline(always)]
-fn appended<R: Rule, A: Allocator>(
-    string: String<A>,
-    given: (&R, &str),
-) -> (String<A>, Result<(), AllocError>)
-    ensures appended { Appended (string_bytes string) (string_bytes result.0)
-        (R.made given.entry.0.now given.entry.1.now) result.1 }
-    ensures fits { length (R.made given.entry.0.now given.entry.1.now) ≤ string_room string → IsOk result.1 }
-{
-    let (rule, text) = given;
-    let mut bytes = string.into_bytes();
-    let outcome = append_to_vec(&mut bytes, rule, text);
-    // UTF-8 behind UTF-8 is UTF-8.
-    (unsafe { String::from_utf8_unchecked(bytes) }, outcome)
+    // Most texts stay as they are, and that is found out once.
+    if rule.next(text, 0).is_none() {
+        let unchanged = Made {
+            rule: &Unchanged,
+            text,
+        };
+        return append_parts(output, &unchanged);
+    }
+    append_parts(output, &Made { rule, text })
 }
 
 /// Appends what `rule` makes of `text`, and answers the part that was added. On a refusal the

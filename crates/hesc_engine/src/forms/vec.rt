@@ -4,10 +4,9 @@ ghost use Rattle.std.specs.Borrow.{sem};
 ghost use Rattle.std.specs.Str.{IsUtf8};
 ghost use Rattle.hesc_engine.specs.Forms.{AnswersPart, Appended, VecAppended, vec_room};
 
-use crate::engine::run;
-use crate::forms::measure::room_for;
+use crate::forms::made::Made;
+use crate::forms::parts::append_parts_to_vec;
 use crate::rule::Rule;
-use crate::sinks::vec::VecSink;
 use crate::unchanged::Unchanged;
 use std::alloc::{AllocError, Allocator};
 
@@ -25,34 +24,13 @@ pub fn append_to_vec<R: Rule, A: Allocator>(
 {
     // Most texts stay as they are, and that is found out once.
     if rule.next(text, 0).is_none() {
-        return append_by_pieces(output, &Unchanged, text);
+        let unchanged = Made {
+            rule: &Unchanged,
+            text,
+        };
+        return append_parts_to_vec(output, &unchanged);
     }
-    append_by_pieces(output, rule, text)
-}
-
-/// The same, with no question first whether anything changes.
-#[inline(always)]
-pub(crate) fn append_by_pieces<R: Rule, A: Allocator>(
-    output: &mut Vec<u8, A>,
-    rule: &R,
-    text: &str,
-) -> Result<(), AllocError>
-    ensures appended { Appended output.old.items output.new.items
-        (R.made rule.now text.now) result }
-    ensures fits { length (R.made rule.now text.now) ≤ vec_room output.old → IsOk result }
-    ensures utf8 { OnOk result (IsUtf8 (R.made rule.now text.now)) }
-{
-    let Ok(room) = room_for(rule, text, output.capacity() - output.len()) else {
-        return Err(AllocError);
-    };
-    if room == 0 {
-        return Ok(());
-    }
-    output.reserve(room)?;
-    let mut sink = VecSink::new(output);
-    let outcome = run(rule, text, &mut sink);
-    let _output = sink.into_output();
-    outcome
+    append_parts_to_vec(output, &Made { rule, text })
 }
 
 /// Appends what `rule` makes of `text`, and answers the part that was added. On a refusal the

@@ -7,8 +7,9 @@ ghost use Rattle.hesc_places.specs.Pages.FormFaults.{AnswersFormFault};
 ghost use Rattle.hesc_places.specs.Pages.FormTexts.{AreGood, form_text, written};
 
 use crate::markup::attribute_checks::first_fault;
-use crate::markup::form_text::append_form_text;
+use crate::markup::form_text::FormText;
 use crate::markup::types::{Attribute, FormFault};
+use hesc_core::forms::append_parts;
 use std::alloc::{AllocError, Allocator};
 
 /// Appends a form: an input with these attributes, in order, and a script that hands `script` to
@@ -76,7 +77,7 @@ pub fn append_form<A: Allocator>(
     if let Some(fault) = first_fault(output.allocator(), attributes) {
         return Err(fault);
     }
-    match append_form_text(output, attributes, script) {
+    match append_parts(output, &FormText { attributes, script }) {
         Ok(()) => Ok(()),
         Err(AllocError) => Err(FormFault::Memory),
     }

@@ -1,8 +1,6 @@
-//! The text of a form: to any sink, and appended.
+//! The text of a form, as parts.
 ghost use Rattle.std.specs.Prelude.{◌≡◌, ◌≤◌, ◌+◌, ◌++◌, length, map, IsOk, OnOk};
 ghost use Rattle.std.specs.List.{flat_map};
-ghost use Rattle.std.specs.String.{string_bytes};
-ghost use Rattle.hesc_engine.specs.Forms.{Appended, string_room};
 ghost use Rattle.html_escape.specs.Encoders.{encoded};
 ghost use Rattle.hesc_places.specs.Pages.FormTexts.{
   attribute_text,
@@ -15,49 +13,26 @@ ghost use Rattle.hesc_places.specs.Pages.FormTexts.{
 };
 
 use crate::markup::types::{Attribute, Quoting};
-use hesc_core::{Counter, Sink, StringSink, run};
+use hesc_core::forms::Parts;
+use hesc_core::{Sink, run};
 use html_escape::Encoder;
-use std::alloc::{AllocError, Allocator};
 
-/// Appends the text of the form, or leaves the output as it was. Whether the attributes are good is
-/// the caller's to know.
-///
-/// It measures first and reserves once, so what is put then finds room.
-pub(crate) fn append_form_text<A: Allocator>(
-    output: &mut String<A>,
-    attributes: &[Attribute],
-    script: &str,
-) -> Result<(), AllocError>
-    ensures appended { Appended (string_bytes output.old) (string_bytes output.new)
-        (form_text (map written attributes.now) script.now) result }
-    ensures fits { length (form_text (map written attributes.now) script.now)
-        ≤ string_room output.old → IsOk result }
-{
-    let mut counter = Counter::new();
-    let Ok(()) = put_form(attributes, script, &mut counter) else {
-        return Err(AllocError);
-    };
-    output.reserve(counter.count())?;
-    let mut sink = StringSink::new(output);
-    let outcome = put_form(attributes, script, &mut sink);
-    let _output = sink.into_output();
-    outcome
+/// The text of a form. Whether the attributes are good is the caller's to know.
+#[derive(Drop)]
+pub(crate) struct FormText<'f> {
+    pub(crate) attributes: &'f [Attribute<'f>],
+    pub(crate) script: &'f str,
 }
 
-// The parts of the form, in order.
-fn put_form<S: Sink>(attributes: &[Attribute], script: &str, sink: &mut S) -> Result<(), S::Fault>
-    ensures ok_taken { OnOk result (S.taken sink.new
-        ≡ S.taken sink.old ++ form_text (map written attributes.now) script.now) }
-    ensures ok_failures { OnOk result (S.failures sink.new ≡ S.failures sink.old) }
-    ensures fits { length (form_text (map written attributes.now) script.now)
-        ≤ S.room sink.old → IsOk result }
-    ensures same_reference { S.reference sink.new ≡ S.reference sink.old }
-    ensures same_before { S.before sink.new ≡ S.before sink.old }
-{
-    sink.put("<input")?;
-    put_attributes(attributes, sink)?;
-    sink.put(gap(attributes))?;
-    put_script(script, sink)
+impl Parts for FormText<'_> {
+    ghost text = { λ form. form_text (map written form.attributes.now) form.script.now };
+
+    fn put_into<S: Sink>(&self, sink: &mut S) -> Result<(), S::Fault> {
+        sink.put("<input")?;
+        put_attributes(self.attributes, sink)?;
+        sink.put(gap(self.attributes))?;
+        put_script(self.script, sink)
+    }
 }
 
 fn put_attributes<S: Sink>(attributes: &[Attribute], sink: &mut S) -> Result<(), S::Fault>

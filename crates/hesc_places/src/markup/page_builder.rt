@@ -6,9 +6,10 @@ ghost use Rattle.hesc_engine.specs.Forms.{Appended, StringAppended, string_room}
 ghost use Rattle.hesc_places.specs.Pages.PageTexts.{page_text};
 ghost use Rattle.hesc_places.specs.declared.place.enclosing.PlaceFault.TheVariants.{EmptyUnquoted, NotForPlace};
 
-use crate::markup::form_text::append_form_text;
+use crate::markup::form_text::FormText;
 use crate::markup::types::{Attribute, Quoting};
 use crate::place::enclosing::PlaceFault;
+use hesc_core::forms::append_parts;
 use std::alloc::{AllocError, Allocator};
 
 /// Appends a page: an input whose value is `a`, unquoted, and whose placeholder is `b`, in double
@@ -85,7 +86,11 @@ pub fn append_page<A: Allocator>(
             value: b,
         },
     ];
-    match append_form_text(output, &attributes, c) {
+    let form = FormText {
+        attributes: &attributes,
+        script: c,
+    };
+    match append_parts(output, &form) {
         Ok(()) => Ok(()),
         Err(AllocError) => Err(PlaceFault::Memory),
     }

@@ -7,9 +7,10 @@ ghost use Rattle.hesc_engine.specs.Forms.{Appended, StringAppended, string_room}
 ghost use Rattle.hesc_places.specs.Places.Enclosed.{AnswersFirstFault, IsReadAsText, enclosed};
 ghost use Rattle.hesc_places.specs.Places.Suits.{MayHold, suits};
 
-use crate::place::enclosed::append_between_marks;
+use crate::place::enclosed::Enclosed;
 use crate::place::places::Place;
 use crate::place::suiting::suits;
+use hesc_core::forms::append_parts;
 use html_escape::Encoder;
 use std::alloc::{AllocError, Allocator};
 
@@ -87,7 +88,12 @@ pub fn append_enclosed<A: Allocator>(
         → length (enclosed encoder place text.now) ≤ string_room output.old → IsOk result }
 {
     check_place(encoder, place, text)?;
-    match append_between_marks(output, encoder, place, text) {
+    let enclosed = Enclosed {
+        encoder,
+        place,
+        text,
+    };
+    match append_parts(output, &enclosed) {
         Ok(()) => Ok(()),
         Err(AllocError) => Err(PlaceFault::Memory),
     }

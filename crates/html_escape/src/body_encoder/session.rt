@@ -9,11 +9,11 @@ ghost use Rattle.hesc_engine.specs.Forms.{AnswersPart, Appended, StringAppended,
 ghost use Rattle.html_escape.specs.Held.{few_bytes};
 
 use crate::body_encoder::carry::FewBytes;
-use crate::body_encoder::flush::{append_released, is_opened};
+use crate::body_encoder::flush::{Released, is_opened};
 use crate::body_encoder::partial::{first_undecided, is_undecided};
 use crate::encoder::Encoder;
 use hesc_core::Element;
-use hesc_core::forms::append_to_string;
+use hesc_core::forms::{append_parts, append_to_string};
 use std::alloc::{AllocError, Allocator};
 use std::str;
 
@@ -110,7 +110,13 @@ impl BodyEncoder {
             return Ok(());
         }
         let opens = is_opened(self.kind, self.held.as_slice(), front.as_slice());
-        append_released(output, self.kind, self.held_text(), opens, piece)?;
+        let released = Released {
+            element: self.kind,
+            held: self.held_text(),
+            opens,
+            piece,
+        };
+        append_parts(output, &released)?;
         let bytes = piece.as_bytes();
         let end = first_undecided(self.kind, bytes, 0);
         self.held = FewBytes::first_of(b"", &bytes[end..]);

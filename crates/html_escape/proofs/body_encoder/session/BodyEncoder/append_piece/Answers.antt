@@ -32,19 +32,19 @@ returns-then-is_undecided-clause-appended g c =
     let whole : take 9 text ≡ text = undecided-front kind text undecided in
     rw (undecided-nothing kind text (rw whole at undecided)) (sym (append-nil _))
 
-pub append_released-requires-clause-ascii : goal.append_released-requires-clause-ascii
-append_released-requires-clause-ascii g c =
+pub invariant_of-released-clause-ascii : goal.invariant_of-released-clause-ascii
+invariant_of-released-clause-ascii g c =
     rw c.held_text.ensures (undecided-ascii (kind_of c.args.self.now) (held_by c.args.self.now) c.args.self.now.undecided)
 
-pub returns-in_err-append_released-clause-fits : goal.returns-in_err-append_released-clause-fits
-returns-in_err-append_released-clause-fits g c fits =
+pub returns-in_err-append_parts-clause-fits : goal.returns-in_err-append_parts-clause-fits
+returns-in_err-append_parts-clause-fits g c fits =
     let kind = kind_of c.args.self.now in
     let held = held_by c.args.self.now in
     let front : few_bytes c.first_of-front.result ≡ take 9 (held ++ c.args.piece.now) = rw (c.as_slice.ensures, c.as_bytes.ensures.value) at c.first_of-front.ensures in
     let opened = rw (c.as_slice-3.ensures, c.as_slice-4.ensures) at c.is_opened-opens.ensures in
     let given_out = released-front kind held c.args.piece.now (few_bytes c.first_of-front.result) c.is_opened-opens.result c.args.self.now.undecided front
     (rw c.as_slice-2.ensures at (sym c.if-is_undecided.ensures)) opened.none opened.some in
-    absurd (cc ((rw c.held_text.ensures at c.in_err-append_released.ensures.fits) (rw given_out.0 at fits)))
+    absurd (cc ((rw c.held_text.ensures at c.in_err-append_parts.ensures.fits) (rw given_out.0 at fits)))
 
 pub returns-clause-appended : goal.returns-clause-appended
 returns-clause-appended g c =
@@ -54,7 +54,7 @@ returns-clause-appended g c =
     let opened = rw (c.as_slice-3.ensures, c.as_slice-4.ensures) at c.is_opened-opens.ensures in
     let given_out = released-front kind held c.args.piece.now (few_bytes c.first_of-front.result) c.is_opened-opens.result c.args.self.now.undecided front
     (rw c.as_slice-2.ensures at (sym c.if-is_undecided.ensures)) opened.none opened.some in
-    rw given_out.0 (rw c.held_text.ensures at c.in_ok-append_released.ensures.appended)
+    rw given_out.0 (rw c.held_text.ensures at c.in_ok-append_parts.ensures.appended)
 
 pub returns-clause-held : goal.returns-clause-held
 returns-clause-held g c =

@@ -1,0 +1,92 @@
+//! A text made of parts, appended: room is found out and reserved once, and then the parts are put.
+//! Nothing else grows an output.
+ghost use Rattle.std.specs.Prelude.{◌≡◌, ◌≤◌, ◌<◌, ◌^◌, ℕ, List, [], ◌++◌, length, IfOk, IsOk, OnOk};
+ghost use Rattle.std.specs.Str.{IsUtf8};
+ghost use Rattle.std.specs.String.{string_bytes};
+ghost use Rattle.hesc_engine.specs.Forms.{Appended, string_room, vec_room};
+
+use crate::sink::Sink;
+use crate::sinks::counter::{CountOverflow, Counter};
+use crate::sinks::vec::VecSink;
+use core::mem::replace_with;
+use std::alloc::{AllocError, Allocator};
+
+/// A text as the parts that are put into a sink, one after another.
+pub trait Parts {
+    ghost text: { Self → List ℕ };
+
+    /// Puts all parts, in order.
+    fn put_into<S: Sink>(&self, sink: &mut S) -> Result<(), S::Fault>
+        ensures ok_taken { OnOk result (S.taken sink.new ≡ S.taken sink.old ++ text self.now) }
+        ensures ok_failures { OnOk result (S.failures sink.new ≡ S.failures sink.old) }
+        ensures fits { length (text self.now) ≤ S.room sink.old → IsOk result }
+        ensures same_reference { S.reference sink.new ≡ S.reference sink.old }
+        ensures same_before { S.before sink.new ≡ S.before sink.old };
+
+    /// How many bytes to have room for before the text is appended to an output that has room for
+    /// `spare`: at least as many as it has, none where it has none, and no more than `spare` where
+    /// those suffice.
+    fn room_for(&self, spare: usize) -> Result<usize, CountOverflow>
+        ensures enough { IfOk result (λ room. length (text self.now) ≤ room) }
+        ensures empty { text self.now ≡ [] → IfOk result (λ room. room ≡ 0) }
+        ensures spare { length (text self.now) ≤ spare → IfOk result (λ room. room ≤ spare) }
+        ensures fits { length (text self.now) < 2 ^ 64 → IsOk result }
+    {
+        let _spare = spare;
+        let mut counter = Counter::new();
+        self.put_into(&mut counter)?;
+        Ok(counter.count())
+    }
+}
+
+/// Appends the text of the parts, or leaves the output as it was.
+#[inline(always)]
+pub fn append_parts<P: Parts, A: Allocator>(
+    output: &mut String<A>,
+    parts: &P,
+) -> Result<(), AllocError>
+    ensures appended { Appended (string_bytes output.old) (string_bytes output.new)
+        (P.text parts.now) result }
+    ensures fits { length (P.text parts.now) ≤ string_room output.old → IsOk result }
+{
+    replace_with(output, parts, appended)
+}
+
+// The string with the parts behind it, or as it was.
+#[inline(always)]
+fn appended<P: Parts, A: Allocator>(
+    string: String<A>,
+    parts: &P,
+) -> (String<A>, Result<(), AllocError>)
+    ensures appended { Appended (string_bytes string) (string_bytes result.0)
+        (P.text parts.now) result.1 }
+    ensures fits { length (P.text parts.now) ≤ string_room string → IsOk result.1 }
+{
+    let mut bytes = string.into_bytes();
+    let outcome = append_parts_to_vec(&mut bytes, parts);
+    // UTF-8 behind UTF-8 is UTF-8.
+    (unsafe { String::from_utf8_unchecked(bytes) }, outcome)
+}
+
+/// The same for a vector of bytes.
+#[inline(always)]
+pub fn append_parts_to_vec<P: Parts, A: Allocator>(
+    output: &mut Vec<u8, A>,
+    parts: &P,
+) -> Result<(), AllocError>
+    ensures appended { Appended output.old.items output.new.items (P.text parts.now) result }
+    ensures fits { length (P.text parts.now) ≤ vec_room output.old → IsOk result }
+    ensures utf8 { OnOk result (IsUtf8 (P.text parts.now)) }
+{
+    let Ok(room) = parts.room_for(output.capacity() - output.len()) else {
+        return Err(AllocError);
+    };
+    if room == 0 {
+        return Ok(());
+    }
+    output.reserve(room)?;
+    let mut sink = VecSink::new(output);
+    let outcome = parts.put_into(&mut sink);
+    let _output = sink.into_output();
+    outcome
+}
