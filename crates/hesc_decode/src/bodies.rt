@@ -1,0 +1,154 @@
+//! The body decoders, four forms of each.
+ghost use Rattle.std.specs.Borrow.{sem};
+ghost use Rattle.hesc_specs.specs.Bodies.Encoding.{body_decoding};
+ghost use Rattle.hesc_specs.specs.Bodies.Changes.{body_decoding_changes};
+ghost use Rattle.hesc_specs.specs.declared.elements.Element.TheVariants.{Script, Style};
+ghost use Rattle.hesc_engine.specs.Forms.{AnswersPart, AnswersText, StringAppended, VecAppended, WritesText, string_room, vec_room};
+
+use hesc_core::forms::{onto_string, onto_vec, to_cow, to_writer};
+use hesc_core::rules::{DecodeScript, DecodeStyle};
+use std::alloc::{AllocError, Allocator};
+use std::borrow::CowStr;
+use std::io::{self, Write};
+
+// `decode_script`: each escaped opening of a script's body loses its `\`. So `<\!--` becomes
+// `<!--`, and `<\/script`, in any case where the name ends, becomes `</script`.
+
+/// `text` decoded. Where it has no escaped opening it is `text` itself, and takes no memory.
+pub fn decode_script<'t, A: Allocator>(alloc: A, text: &'t str) -> Result<CowStr<'t, A>, AllocError>
+    ensures { AnswersText text.now (body_decoding Script text.now)
+        (body_decoding_changes Script text.now 0) result }
+{
+    to_cow(alloc, &DecodeScript, text)
+}
+
+/// Appends `text` decoded to `output`, and answers the part that was added. On a refusal
+/// `output` is as it was.
+pub fn decode_script_to_string<'o, A: Allocator>(
+    text: &str,
+    output: &'o mut String<A>,
+) -> Result<&'o str, AllocError>
+    ensures part { AnswersPart (string_room output.old)
+        (body_decoding Script text.now) result }
+    ensures* appended { sem 𝓛 (StringAppended A.row A.Allocator output.entry
+        (body_decoding Script text.now) result) }
+{
+    decode_script_onto_string(output, text)
+}
+
+/// Appends `text` decoded to `output`, and answers the part that was added. On a refusal
+/// `output` is as it was.
+pub fn decode_script_to_vec<'o, A: Allocator>(
+    text: &str,
+    output: &'o mut Vec<u8, A>,
+) -> Result<&'o [u8], AllocError>
+    ensures part { AnswersPart (vec_room output.old)
+        (body_decoding Script text.now) result }
+    ensures* appended { sem 𝓛 (VecAppended A.row A.Allocator output.entry
+        (body_decoding Script text.now) result) }
+{
+    decode_script_onto_vec(output, text)
+}
+
+/// Writes `text` decoded to `output`, or a beginning of it and then the writer's fault.
+pub fn decode_script_to_writer<W: Write>(text: &str, output: &mut W) -> Result<(), io::Error>
+    ensures { WritesText (W.contents output.old) (W.contents output.new)
+        (body_decoding Script text.now) result }
+{
+    to_writer(&DecodeScript, text, output)
+}
+
+fn decode_script_onto_string<'o, A: Allocator>(
+    output: &'o mut String<A>,
+    text: &str,
+) -> Result<&'o str, AllocError>
+    ensures part { AnswersPart (string_room output.old)
+        (body_decoding Script text.now) result }
+    ensures* appended { sem 𝓛 (StringAppended A.row A.Allocator output.entry
+        (body_decoding Script text.now) result) }
+{
+    onto_string(output, &DecodeScript, text)
+}
+
+fn decode_script_onto_vec<'o, A: Allocator>(
+    output: &'o mut Vec<u8, A>,
+    text: &str,
+) -> Result<&'o [u8], AllocError>
+    ensures part { AnswersPart (vec_room output.old)
+        (body_decoding Script text.now) result }
+    ensures* appended { sem 𝓛 (VecAppended A.row A.Allocator output.entry
+        (body_decoding Script text.now) result) }
+{
+    onto_vec(output, &DecodeScript, text)
+}
+
+// `decode_style`: each escaped opening of a style's body loses its `\`. So `<\!--` becomes `<!--`,
+// and `<\/style`, in any case where the name ends, becomes `</style`.
+
+/// `text` decoded. Where it has no escaped opening it is `text` itself, and takes no memory.
+pub fn decode_style<'t, A: Allocator>(alloc: A, text: &'t str) -> Result<CowStr<'t, A>, AllocError>
+    ensures { AnswersText text.now (body_decoding Style text.now)
+        (body_decoding_changes Style text.now 0) result }
+{
+    to_cow(alloc, &DecodeStyle, text)
+}
+
+/// Appends `text` decoded to `output`, and answers the part that was added. On a refusal
+/// `output` is as it was.
+pub fn decode_style_to_string<'o, A: Allocator>(
+    text: &str,
+    output: &'o mut String<A>,
+) -> Result<&'o str, AllocError>
+    ensures part { AnswersPart (string_room output.old)
+        (body_decoding Style text.now) result }
+    ensures* appended { sem 𝓛 (StringAppended A.row A.Allocator output.entry
+        (body_decoding Style text.now) result) }
+{
+    decode_style_onto_string(output, text)
+}
+
+/// Appends `text` decoded to `output`, and answers the part that was added. On a refusal
+/// `output` is as it was.
+pub fn decode_style_to_vec<'o, A: Allocator>(
+    text: &str,
+    output: &'o mut Vec<u8, A>,
+) -> Result<&'o [u8], AllocError>
+    ensures part { AnswersPart (vec_room output.old)
+        (body_decoding Style text.now) result }
+    ensures* appended { sem 𝓛 (VecAppended A.row A.Allocator output.entry
+        (body_decoding Style text.now) result) }
+{
+    decode_style_onto_vec(output, text)
+}
+
+/// Writes `text` decoded to `output`, or a beginning of it and then the writer's fault.
+pub fn decode_style_to_writer<W: Write>(text: &str, output: &mut W) -> Result<(), io::Error>
+    ensures { WritesText (W.contents output.old) (W.contents output.new)
+        (body_decoding Style text.now) result }
+{
+    to_writer(&DecodeStyle, text, output)
+}
+
+fn decode_style_onto_string<'o, A: Allocator>(
+    output: &'o mut String<A>,
+    text: &str,
+) -> Result<&'o str, AllocError>
+    ensures part { AnswersPart (string_room output.old)
+        (body_decoding Style text.now) result }
+    ensures* appended { sem 𝓛 (StringAppended A.row A.Allocator output.entry
+        (body_decoding Style text.now) result) }
+{
+    onto_string(output, &DecodeStyle, text)
+}
+
+fn decode_style_onto_vec<'o, A: Allocator>(
+    output: &'o mut Vec<u8, A>,
+    text: &str,
+) -> Result<&'o [u8], AllocError>
+    ensures part { AnswersPart (vec_room output.old)
+        (body_decoding Style text.now) result }
+    ensures* appended { sem 𝓛 (VecAppended A.row A.Allocator output.entry
+        (body_decoding Style text.now) result) }
+{
+    onto_vec(output, &DecodeStyle, text)
+}

@@ -1,0 +1,173 @@
+//! The decoding of references, in four forms, and the same by a table that is handed in.
+ghost use Rattle.std.specs.Borrow.{sem};
+ghost use Rattle.hesc_specs.specs.References.Changes.{reference_changes};
+ghost use Rattle.hesc_specs.specs.References.Decoding.{decoded};
+ghost use Rattle.hesc_engine.specs.Forms.{AnswersPart, AnswersText, StringAppended, VecAppended, WritesText, string_room, vec_room};
+ghost use Rattle.hesc_core.specs.NamedRows.{named_rows};
+ghost use Rattle.hesc_core.specs.Table.{rows_of};
+
+use hesc_core::EntityTable;
+use hesc_core::forms::{onto_string, onto_vec, to_cow, to_writer};
+use hesc_core::rules::References;
+use std::alloc::{AllocError, Allocator};
+use std::borrow::CowStr;
+use std::io::{self, Write};
+
+// `decode_html_entities`: each reference that has a value by the built-in table becomes it.
+
+/// `text` decoded. Where no reference has a value it is `text` itself, and takes no memory.
+pub fn decode_html_entities<'t, A: Allocator>(
+    alloc: A,
+    text: &'t str,
+) -> Result<CowStr<'t, A>, AllocError>
+    ensures { AnswersText text.now (decoded named_rows text.now)
+        (reference_changes named_rows text.now 0) result }
+{
+    to_cow(alloc, &References(&EntityTable::built_in()), text)
+}
+
+/// Appends `text` decoded to `output`, and answers the part that was added. On a refusal
+/// `output` is as it was.
+pub fn decode_html_entities_to_string<'o, A: Allocator>(
+    text: &str,
+    output: &'o mut String<A>,
+) -> Result<&'o str, AllocError>
+    ensures part { AnswersPart (string_room output.old)
+        (decoded named_rows text.now) result }
+    ensures* appended { sem 𝓛 (StringAppended A.row A.Allocator output.entry
+        (decoded named_rows text.now) result) }
+{
+    decode_html_entities_onto_string(output, text)
+}
+
+/// Appends `text` decoded to `output`, and answers the part that was added. On a refusal
+/// `output` is as it was.
+pub fn decode_html_entities_to_vec<'o, A: Allocator>(
+    text: &str,
+    output: &'o mut Vec<u8, A>,
+) -> Result<&'o [u8], AllocError>
+    ensures part { AnswersPart (vec_room output.old)
+        (decoded named_rows text.now) result }
+    ensures* appended { sem 𝓛 (VecAppended A.row A.Allocator output.entry
+        (decoded named_rows text.now) result) }
+{
+    decode_html_entities_onto_vec(output, text)
+}
+
+/// Writes `text` decoded to `output`, or a beginning of it and then the writer's fault.
+pub fn decode_html_entities_to_writer<W: Write>(text: &str, output: &mut W) -> Result<(), io::Error>
+    ensures { WritesText (W.contents output.old) (W.contents output.new)
+        (decoded named_rows text.now) result }
+{
+    to_writer(&References(&EntityTable::built_in()), text, output)
+}
+
+fn decode_html_entities_onto_string<'o, A: Allocator>(
+    output: &'o mut String<A>,
+    text: &str,
+) -> Result<&'o str, AllocError>
+    ensures part { AnswersPart (string_room output.old)
+        (decoded named_rows text.now) result }
+    ensures* appended { sem 𝓛 (StringAppended A.row A.Allocator output.entry
+        (decoded named_rows text.now) result) }
+{
+    onto_string(output, &References(&EntityTable::built_in()), text)
+}
+
+fn decode_html_entities_onto_vec<'o, A: Allocator>(
+    output: &'o mut Vec<u8, A>,
+    text: &str,
+) -> Result<&'o [u8], AllocError>
+    ensures part { AnswersPart (vec_room output.old)
+        (decoded named_rows text.now) result }
+    ensures* appended { sem 𝓛 (VecAppended A.row A.Allocator output.entry
+        (decoded named_rows text.now) result) }
+{
+    onto_vec(output, &References(&EntityTable::built_in()), text)
+}
+
+// `decode_html_entities_with`: each reference that has a value by a given table becomes it.
+
+/// `text` decoded by the table. Where no reference has a value it is `text` itself, and takes no
+/// memory.
+pub fn decode_html_entities_with<'t, A: Allocator>(
+    alloc: A,
+    table: &EntityTable<'_>,
+    text: &'t str,
+) -> Result<CowStr<'t, A>, AllocError>
+    ensures { AnswersText text.now (decoded (rows_of table.now) text.now)
+        (reference_changes (rows_of table.now) text.now 0) result }
+{
+    to_cow(alloc, &References(table), text)
+}
+
+/// Appends `text` decoded by the table to `output`, and answers the part that was added. On a
+/// refusal `output` is as it was.
+pub fn decode_html_entities_with_to_string<'o, A: Allocator>(
+    table: &EntityTable<'_>,
+    text: &str,
+    output: &'o mut String<A>,
+) -> Result<&'o str, AllocError>
+    ensures part { AnswersPart (string_room output.old)
+        (decoded (rows_of table.now) text.now) result }
+    ensures* appended { sem 𝓛 (StringAppended A.row A.Allocator output.entry
+        (decoded (rows_of table.now) text.now) result) }
+{
+    decode_html_entities_with_onto_string(output, table, text)
+}
+
+/// Appends `text` decoded by the table to `output`, and answers the part that was added. On a
+/// refusal `output` is as it was.
+pub fn decode_html_entities_with_to_vec<'o, A: Allocator>(
+    table: &EntityTable<'_>,
+    text: &str,
+    output: &'o mut Vec<u8, A>,
+) -> Result<&'o [u8], AllocError>
+    ensures part { AnswersPart (vec_room output.old)
+        (decoded (rows_of table.now) text.now) result }
+    ensures* appended { sem 𝓛 (VecAppended A.row A.Allocator output.entry
+        (decoded (rows_of table.now) text.now) result) }
+{
+    decode_html_entities_with_onto_vec(output, table, text)
+}
+
+/// Writes `text` decoded by the table to `output`, or a beginning of it and then the writer's
+/// fault.
+pub fn decode_html_entities_with_to_writer<W: Write>(
+    table: &EntityTable<'_>,
+    text: &str,
+    output: &mut W,
+) -> Result<(), io::Error>
+    ensures { WritesText (W.contents output.old) (W.contents output.new)
+        (decoded (rows_of table.now) text.now) result }
+{
+    to_writer(&References(table), text, output)
+}
+
+// The table is lent again, since the answer borrows from `output` alone.
+fn decode_html_entities_with_onto_string<'o, A: Allocator>(
+    output: &'o mut String<A>,
+    table: &EntityTable<'_>,
+    text: &str,
+) -> Result<&'o str, AllocError>
+    ensures part { AnswersPart (string_room output.old)
+        (decoded (rows_of table.now) text.now) result }
+    ensures* appended { sem 𝓛 (StringAppended A.row A.Allocator output.entry
+        (decoded (rows_of table.now) text.now) result) }
+{
+    onto_string(output, &References(&*table), text)
+}
+
+// The table is lent again, since the answer borrows from `output` alone.
+fn decode_html_entities_with_onto_vec<'o, A: Allocator>(
+    output: &'o mut Vec<u8, A>,
+    table: &EntityTable<'_>,
+    text: &str,
+) -> Result<&'o [u8], AllocError>
+    ensures part { AnswersPart (vec_room output.old)
+        (decoded (rows_of table.now) text.now) result }
+    ensures* appended { sem 𝓛 (VecAppended A.row A.Allocator output.entry
+        (decoded (rows_of table.now) text.now) result) }
+{
+    onto_vec(output, &References(&*table), text)
+}

@@ -1,0 +1,488 @@
+//! The string decoders, four forms of each.
+ghost use Rattle.std.specs.Borrow.{sem};
+ghost use Rattle.hesc_specs.specs.Strings.Changes.{string_decoding_changes};
+ghost use Rattle.hesc_specs.specs.Strings.Tokens.{string_decoding};
+ghost use Rattle.hesc_specs.specs.declared.elements.Element.TheVariants.{Script, Style};
+ghost use Rattle.hesc_specs.specs.declared.quotes.Quotes.TheVariants.{Single, Double, Both};
+ghost use Rattle.hesc_engine.specs.Forms.{AnswersPart, AnswersText, StringAppended, VecAppended, WritesText, string_room, vec_room};
+
+use hesc_core::Class;
+use hesc_core::forms::{onto_string, onto_vec, to_cow, to_writer};
+use hesc_core::rules::Unescape;
+use std::alloc::{AllocError, Allocator};
+use std::borrow::CowStr;
+use std::io::{self, Write};
+
+// `decode_script_single_quoted_text`: in a script's string `\\`, `\'`, `\x` and two upper-case hex
+// digits of a C0 control or of `<`, `\u2028` and `\u2029` become their characters. Right behind a
+// `<` so do `\!` before `--`, and `\/` before `script` in any case where the name ends before the
+// text does. Any other `\` stays.
+
+/// `text` decoded. Where it has no escape it is `text` itself, and takes no memory.
+pub fn decode_script_single_quoted_text<'t, A: Allocator>(
+    alloc: A,
+    text: &'t str,
+) -> Result<CowStr<'t, A>, AllocError>
+    ensures { AnswersText text.now (string_decoding Script Single text.now)
+        (string_decoding_changes Script Single text.now 0) result }
+{
+    to_cow(alloc, &Unescape(Class::ScriptSingleQuoted), text)
+}
+
+/// Appends `text` decoded to `output`, and answers the part that was added. On a refusal
+/// `output` is as it was.
+pub fn decode_script_single_quoted_text_to_string<'o, A: Allocator>(
+    text: &str,
+    output: &'o mut String<A>,
+) -> Result<&'o str, AllocError>
+    ensures part { AnswersPart (string_room output.old)
+        (string_decoding Script Single text.now) result }
+    ensures* appended { sem 𝓛 (StringAppended A.row A.Allocator output.entry
+        (string_decoding Script Single text.now) result) }
+{
+    decode_script_single_quoted_text_onto_string(output, text)
+}
+
+/// Appends `text` decoded to `output`, and answers the part that was added. On a refusal
+/// `output` is as it was.
+pub fn decode_script_single_quoted_text_to_vec<'o, A: Allocator>(
+    text: &str,
+    output: &'o mut Vec<u8, A>,
+) -> Result<&'o [u8], AllocError>
+    ensures part { AnswersPart (vec_room output.old)
+        (string_decoding Script Single text.now) result }
+    ensures* appended { sem 𝓛 (VecAppended A.row A.Allocator output.entry
+        (string_decoding Script Single text.now) result) }
+{
+    decode_script_single_quoted_text_onto_vec(output, text)
+}
+
+/// Writes `text` decoded to `output`, or a beginning of it and then the writer's fault.
+pub fn decode_script_single_quoted_text_to_writer<W: Write>(
+    text: &str,
+    output: &mut W,
+) -> Result<(), io::Error>
+    ensures { WritesText (W.contents output.old) (W.contents output.new)
+        (string_decoding Script Single text.now) result }
+{
+    to_writer(&Unescape(Class::ScriptSingleQuoted), text, output)
+}
+
+fn decode_script_single_quoted_text_onto_string<'o, A: Allocator>(
+    output: &'o mut String<A>,
+    text: &str,
+) -> Result<&'o str, AllocError>
+    ensures part { AnswersPart (string_room output.old)
+        (string_decoding Script Single text.now) result }
+    ensures* appended { sem 𝓛 (StringAppended A.row A.Allocator output.entry
+        (string_decoding Script Single text.now) result) }
+{
+    onto_string(output, &Unescape(Class::ScriptSingleQuoted), text)
+}
+
+fn decode_script_single_quoted_text_onto_vec<'o, A: Allocator>(
+    output: &'o mut Vec<u8, A>,
+    text: &str,
+) -> Result<&'o [u8], AllocError>
+    ensures part { AnswersPart (vec_room output.old)
+        (string_decoding Script Single text.now) result }
+    ensures* appended { sem 𝓛 (VecAppended A.row A.Allocator output.entry
+        (string_decoding Script Single text.now) result) }
+{
+    onto_vec(output, &Unescape(Class::ScriptSingleQuoted), text)
+}
+
+// `decode_script_double_quoted_text`: in a script's string `\\`, `\"`, `\x` and two upper-case hex
+// digits of a C0 control or of `<`, `\u2028` and `\u2029` become their characters. Right behind a
+// `<` so do `\!` before `--`, and `\/` before `script` in any case where the name ends before the
+// text does. Any other `\` stays.
+
+/// `text` decoded. Where it has no escape it is `text` itself, and takes no memory.
+pub fn decode_script_double_quoted_text<'t, A: Allocator>(
+    alloc: A,
+    text: &'t str,
+) -> Result<CowStr<'t, A>, AllocError>
+    ensures { AnswersText text.now (string_decoding Script Double text.now)
+        (string_decoding_changes Script Double text.now 0) result }
+{
+    to_cow(alloc, &Unescape(Class::ScriptDoubleQuoted), text)
+}
+
+/// Appends `text` decoded to `output`, and answers the part that was added. On a refusal
+/// `output` is as it was.
+pub fn decode_script_double_quoted_text_to_string<'o, A: Allocator>(
+    text: &str,
+    output: &'o mut String<A>,
+) -> Result<&'o str, AllocError>
+    ensures part { AnswersPart (string_room output.old)
+        (string_decoding Script Double text.now) result }
+    ensures* appended { sem 𝓛 (StringAppended A.row A.Allocator output.entry
+        (string_decoding Script Double text.now) result) }
+{
+    decode_script_double_quoted_text_onto_string(output, text)
+}
+
+/// Appends `text` decoded to `output`, and answers the part that was added. On a refusal
+/// `output` is as it was.
+pub fn decode_script_double_quoted_text_to_vec<'o, A: Allocator>(
+    text: &str,
+    output: &'o mut Vec<u8, A>,
+) -> Result<&'o [u8], AllocError>
+    ensures part { AnswersPart (vec_room output.old)
+        (string_decoding Script Double text.now) result }
+    ensures* appended { sem 𝓛 (VecAppended A.row A.Allocator output.entry
+        (string_decoding Script Double text.now) result) }
+{
+    decode_script_double_quoted_text_onto_vec(output, text)
+}
+
+/// Writes `text` decoded to `output`, or a beginning of it and then the writer's fault.
+pub fn decode_script_double_quoted_text_to_writer<W: Write>(
+    text: &str,
+    output: &mut W,
+) -> Result<(), io::Error>
+    ensures { WritesText (W.contents output.old) (W.contents output.new)
+        (string_decoding Script Double text.now) result }
+{
+    to_writer(&Unescape(Class::ScriptDoubleQuoted), text, output)
+}
+
+fn decode_script_double_quoted_text_onto_string<'o, A: Allocator>(
+    output: &'o mut String<A>,
+    text: &str,
+) -> Result<&'o str, AllocError>
+    ensures part { AnswersPart (string_room output.old)
+        (string_decoding Script Double text.now) result }
+    ensures* appended { sem 𝓛 (StringAppended A.row A.Allocator output.entry
+        (string_decoding Script Double text.now) result) }
+{
+    onto_string(output, &Unescape(Class::ScriptDoubleQuoted), text)
+}
+
+fn decode_script_double_quoted_text_onto_vec<'o, A: Allocator>(
+    output: &'o mut Vec<u8, A>,
+    text: &str,
+) -> Result<&'o [u8], AllocError>
+    ensures part { AnswersPart (vec_room output.old)
+        (string_decoding Script Double text.now) result }
+    ensures* appended { sem 𝓛 (VecAppended A.row A.Allocator output.entry
+        (string_decoding Script Double text.now) result) }
+{
+    onto_vec(output, &Unescape(Class::ScriptDoubleQuoted), text)
+}
+
+// `decode_script_quoted_text`: in a script's string `\\`, `\'`, `\"`, `\x` and two upper-case hex
+// digits of a C0 control or of `<`, `\u2028` and `\u2029` become their characters. Right behind a
+// `<` so do `\!` before `--`, and `\/` before `script` in any case where the name ends before the
+// text does. Any other `\` stays.
+
+/// `text` decoded. Where it has no escape it is `text` itself, and takes no memory.
+pub fn decode_script_quoted_text<'t, A: Allocator>(
+    alloc: A,
+    text: &'t str,
+) -> Result<CowStr<'t, A>, AllocError>
+    ensures { AnswersText text.now (string_decoding Script Both text.now)
+        (string_decoding_changes Script Both text.now 0) result }
+{
+    to_cow(alloc, &Unescape(Class::ScriptQuoted), text)
+}
+
+/// Appends `text` decoded to `output`, and answers the part that was added. On a refusal
+/// `output` is as it was.
+pub fn decode_script_quoted_text_to_string<'o, A: Allocator>(
+    text: &str,
+    output: &'o mut String<A>,
+) -> Result<&'o str, AllocError>
+    ensures part { AnswersPart (string_room output.old)
+        (string_decoding Script Both text.now) result }
+    ensures* appended { sem 𝓛 (StringAppended A.row A.Allocator output.entry
+        (string_decoding Script Both text.now) result) }
+{
+    decode_script_quoted_text_onto_string(output, text)
+}
+
+/// Appends `text` decoded to `output`, and answers the part that was added. On a refusal
+/// `output` is as it was.
+pub fn decode_script_quoted_text_to_vec<'o, A: Allocator>(
+    text: &str,
+    output: &'o mut Vec<u8, A>,
+) -> Result<&'o [u8], AllocError>
+    ensures part { AnswersPart (vec_room output.old)
+        (string_decoding Script Both text.now) result }
+    ensures* appended { sem 𝓛 (VecAppended A.row A.Allocator output.entry
+        (string_decoding Script Both text.now) result) }
+{
+    decode_script_quoted_text_onto_vec(output, text)
+}
+
+/// Writes `text` decoded to `output`, or a beginning of it and then the writer's fault.
+pub fn decode_script_quoted_text_to_writer<W: Write>(
+    text: &str,
+    output: &mut W,
+) -> Result<(), io::Error>
+    ensures { WritesText (W.contents output.old) (W.contents output.new)
+        (string_decoding Script Both text.now) result }
+{
+    to_writer(&Unescape(Class::ScriptQuoted), text, output)
+}
+
+fn decode_script_quoted_text_onto_string<'o, A: Allocator>(
+    output: &'o mut String<A>,
+    text: &str,
+) -> Result<&'o str, AllocError>
+    ensures part { AnswersPart (string_room output.old)
+        (string_decoding Script Both text.now) result }
+    ensures* appended { sem 𝓛 (StringAppended A.row A.Allocator output.entry
+        (string_decoding Script Both text.now) result) }
+{
+    onto_string(output, &Unescape(Class::ScriptQuoted), text)
+}
+
+fn decode_script_quoted_text_onto_vec<'o, A: Allocator>(
+    output: &'o mut Vec<u8, A>,
+    text: &str,
+) -> Result<&'o [u8], AllocError>
+    ensures part { AnswersPart (vec_room output.old)
+        (string_decoding Script Both text.now) result }
+    ensures* appended { sem 𝓛 (VecAppended A.row A.Allocator output.entry
+        (string_decoding Script Both text.now) result) }
+{
+    onto_vec(output, &Unescape(Class::ScriptQuoted), text)
+}
+
+// `decode_style_single_quoted_text`: in a style's string `\\`, `\'`, and `\`, two upper-case hex
+// digits of a C0 control but NUL or of `<`, and a space become their characters. Right behind a
+// `<` so do `\!` before `--`, and `\/` before `style` in any case where the name ends before the
+// text does. Any other `\` stays.
+
+/// `text` decoded. Where it has no escape it is `text` itself, and takes no memory.
+pub fn decode_style_single_quoted_text<'t, A: Allocator>(
+    alloc: A,
+    text: &'t str,
+) -> Result<CowStr<'t, A>, AllocError>
+    ensures { AnswersText text.now (string_decoding Style Single text.now)
+        (string_decoding_changes Style Single text.now 0) result }
+{
+    to_cow(alloc, &Unescape(Class::StyleSingleQuoted), text)
+}
+
+/// Appends `text` decoded to `output`, and answers the part that was added. On a refusal
+/// `output` is as it was.
+pub fn decode_style_single_quoted_text_to_string<'o, A: Allocator>(
+    text: &str,
+    output: &'o mut String<A>,
+) -> Result<&'o str, AllocError>
+    ensures part { AnswersPart (string_room output.old)
+        (string_decoding Style Single text.now) result }
+    ensures* appended { sem 𝓛 (StringAppended A.row A.Allocator output.entry
+        (string_decoding Style Single text.now) result) }
+{
+    decode_style_single_quoted_text_onto_string(output, text)
+}
+
+/// Appends `text` decoded to `output`, and answers the part that was added. On a refusal
+/// `output` is as it was.
+pub fn decode_style_single_quoted_text_to_vec<'o, A: Allocator>(
+    text: &str,
+    output: &'o mut Vec<u8, A>,
+) -> Result<&'o [u8], AllocError>
+    ensures part { AnswersPart (vec_room output.old)
+        (string_decoding Style Single text.now) result }
+    ensures* appended { sem 𝓛 (VecAppended A.row A.Allocator output.entry
+        (string_decoding Style Single text.now) result) }
+{
+    decode_style_single_quoted_text_onto_vec(output, text)
+}
+
+/// Writes `text` decoded to `output`, or a beginning of it and then the writer's fault.
+pub fn decode_style_single_quoted_text_to_writer<W: Write>(
+    text: &str,
+    output: &mut W,
+) -> Result<(), io::Error>
+    ensures { WritesText (W.contents output.old) (W.contents output.new)
+        (string_decoding Style Single text.now) result }
+{
+    to_writer(&Unescape(Class::StyleSingleQuoted), text, output)
+}
+
+fn decode_style_single_quoted_text_onto_string<'o, A: Allocator>(
+    output: &'o mut String<A>,
+    text: &str,
+) -> Result<&'o str, AllocError>
+    ensures part { AnswersPart (string_room output.old)
+        (string_decoding Style Single text.now) result }
+    ensures* appended { sem 𝓛 (StringAppended A.row A.Allocator output.entry
+        (string_decoding Style Single text.now) result) }
+{
+    onto_string(output, &Unescape(Class::StyleSingleQuoted), text)
+}
+
+fn decode_style_single_quoted_text_onto_vec<'o, A: Allocator>(
+    output: &'o mut Vec<u8, A>,
+    text: &str,
+) -> Result<&'o [u8], AllocError>
+    ensures part { AnswersPart (vec_room output.old)
+        (string_decoding Style Single text.now) result }
+    ensures* appended { sem 𝓛 (VecAppended A.row A.Allocator output.entry
+        (string_decoding Style Single text.now) result) }
+{
+    onto_vec(output, &Unescape(Class::StyleSingleQuoted), text)
+}
+
+// `decode_style_double_quoted_text`: in a style's string `\\`, `\"`, and `\`, two upper-case hex
+// digits of a C0 control but NUL or of `<`, and a space become their characters. Right behind a
+// `<` so do `\!` before `--`, and `\/` before `style` in any case where the name ends before the
+// text does. Any other `\` stays.
+
+/// `text` decoded. Where it has no escape it is `text` itself, and takes no memory.
+pub fn decode_style_double_quoted_text<'t, A: Allocator>(
+    alloc: A,
+    text: &'t str,
+) -> Result<CowStr<'t, A>, AllocError>
+    ensures { AnswersText text.now (string_decoding Style Double text.now)
+        (string_decoding_changes Style Double text.now 0) result }
+{
+    to_cow(alloc, &Unescape(Class::StyleDoubleQuoted), text)
+}
+
+/// Appends `text` decoded to `output`, and answers the part that was added. On a refusal
+/// `output` is as it was.
+pub fn decode_style_double_quoted_text_to_string<'o, A: Allocator>(
+    text: &str,
+    output: &'o mut String<A>,
+) -> Result<&'o str, AllocError>
+    ensures part { AnswersPart (string_room output.old)
+        (string_decoding Style Double text.now) result }
+    ensures* appended { sem 𝓛 (StringAppended A.row A.Allocator output.entry
+        (string_decoding Style Double text.now) result) }
+{
+    decode_style_double_quoted_text_onto_string(output, text)
+}
+
+/// Appends `text` decoded to `output`, and answers the part that was added. On a refusal
+/// `output` is as it was.
+pub fn decode_style_double_quoted_text_to_vec<'o, A: Allocator>(
+    text: &str,
+    output: &'o mut Vec<u8, A>,
+) -> Result<&'o [u8], AllocError>
+    ensures part { AnswersPart (vec_room output.old)
+        (string_decoding Style Double text.now) result }
+    ensures* appended { sem 𝓛 (VecAppended A.row A.Allocator output.entry
+        (string_decoding Style Double text.now) result) }
+{
+    decode_style_double_quoted_text_onto_vec(output, text)
+}
+
+/// Writes `text` decoded to `output`, or a beginning of it and then the writer's fault.
+pub fn decode_style_double_quoted_text_to_writer<W: Write>(
+    text: &str,
+    output: &mut W,
+) -> Result<(), io::Error>
+    ensures { WritesText (W.contents output.old) (W.contents output.new)
+        (string_decoding Style Double text.now) result }
+{
+    to_writer(&Unescape(Class::StyleDoubleQuoted), text, output)
+}
+
+fn decode_style_double_quoted_text_onto_string<'o, A: Allocator>(
+    output: &'o mut String<A>,
+    text: &str,
+) -> Result<&'o str, AllocError>
+    ensures part { AnswersPart (string_room output.old)
+        (string_decoding Style Double text.now) result }
+    ensures* appended { sem 𝓛 (StringAppended A.row A.Allocator output.entry
+        (string_decoding Style Double text.now) result) }
+{
+    onto_string(output, &Unescape(Class::StyleDoubleQuoted), text)
+}
+
+fn decode_style_double_quoted_text_onto_vec<'o, A: Allocator>(
+    output: &'o mut Vec<u8, A>,
+    text: &str,
+) -> Result<&'o [u8], AllocError>
+    ensures part { AnswersPart (vec_room output.old)
+        (string_decoding Style Double text.now) result }
+    ensures* appended { sem 𝓛 (VecAppended A.row A.Allocator output.entry
+        (string_decoding Style Double text.now) result) }
+{
+    onto_vec(output, &Unescape(Class::StyleDoubleQuoted), text)
+}
+
+// `decode_style_quoted_text`: in a style's string `\\`, `\'`, `\"`, and `\`, two upper-case hex
+// digits of a C0 control but NUL or of `<`, and a space become their characters. Right behind a
+// `<` so do `\!` before `--`, and `\/` before `style` in any case where the name ends before the
+// text does. Any other `\` stays.
+
+/// `text` decoded. Where it has no escape it is `text` itself, and takes no memory.
+pub fn decode_style_quoted_text<'t, A: Allocator>(
+    alloc: A,
+    text: &'t str,
+) -> Result<CowStr<'t, A>, AllocError>
+    ensures { AnswersText text.now (string_decoding Style Both text.now)
+        (string_decoding_changes Style Both text.now 0) result }
+{
+    to_cow(alloc, &Unescape(Class::StyleQuoted), text)
+}
+
+/// Appends `text` decoded to `output`, and answers the part that was added. On a refusal
+/// `output` is as it was.
+pub fn decode_style_quoted_text_to_string<'o, A: Allocator>(
+    text: &str,
+    output: &'o mut String<A>,
+) -> Result<&'o str, AllocError>
+    ensures part { AnswersPart (string_room output.old)
+        (string_decoding Style Both text.now) result }
+    ensures* appended { sem 𝓛 (StringAppended A.row A.Allocator output.entry
+        (string_decoding Style Both text.now) result) }
+{
+    decode_style_quoted_text_onto_string(output, text)
+}
+
+/// Appends `text` decoded to `output`, and answers the part that was added. On a refusal
+/// `output` is as it was.
+pub fn decode_style_quoted_text_to_vec<'o, A: Allocator>(
+    text: &str,
+    output: &'o mut Vec<u8, A>,
+) -> Result<&'o [u8], AllocError>
+    ensures part { AnswersPart (vec_room output.old)
+        (string_decoding Style Both text.now) result }
+    ensures* appended { sem 𝓛 (VecAppended A.row A.Allocator output.entry
+        (string_decoding Style Both text.now) result) }
+{
+    decode_style_quoted_text_onto_vec(output, text)
+}
+
+/// Writes `text` decoded to `output`, or a beginning of it and then the writer's fault.
+pub fn decode_style_quoted_text_to_writer<W: Write>(
+    text: &str,
+    output: &mut W,
+) -> Result<(), io::Error>
+    ensures { WritesText (W.contents output.old) (W.contents output.new)
+        (string_decoding Style Both text.now) result }
+{
+    to_writer(&Unescape(Class::StyleQuoted), text, output)
+}
+
+fn decode_style_quoted_text_onto_string<'o, A: Allocator>(
+    output: &'o mut String<A>,
+    text: &str,
+) -> Result<&'o str, AllocError>
+    ensures part { AnswersPart (string_room output.old)
+        (string_decoding Style Both text.now) result }
+    ensures* appended { sem 𝓛 (StringAppended A.row A.Allocator output.entry
+        (string_decoding Style Both text.now) result) }
+{
+    onto_string(output, &Unescape(Class::StyleQuoted), text)
+}
+
+fn decode_style_quoted_text_onto_vec<'o, A: Allocator>(
+    output: &'o mut Vec<u8, A>,
+    text: &str,
+) -> Result<&'o [u8], AllocError>
+    ensures part { AnswersPart (vec_room output.old)
+        (string_decoding Style Both text.now) result }
+    ensures* appended { sem 𝓛 (VecAppended A.row A.Allocator output.entry
+        (string_decoding Style Both text.now) result) }
+{
+    onto_vec(output, &Unescape(Class::StyleQuoted), text)
+}

@@ -1,0 +1,154 @@
+//! The body encoders, four forms of each.
+ghost use Rattle.std.specs.Borrow.{sem};
+ghost use Rattle.hesc_specs.specs.Bodies.Encoding.{body_encoding};
+ghost use Rattle.hesc_specs.specs.Bodies.Changes.{body_encoding_changes};
+ghost use Rattle.hesc_specs.specs.declared.elements.Element.TheVariants.{Script, Style};
+ghost use Rattle.hesc_engine.specs.Forms.{AnswersPart, AnswersText, StringAppended, VecAppended, WritesText, string_room, vec_room};
+
+use hesc_core::forms::{onto_string, onto_vec, to_cow, to_writer};
+use hesc_core::rules::{EncodeScript, EncodeStyle};
+use std::alloc::{AllocError, Allocator};
+use std::borrow::CowStr;
+use std::io::{self, Write};
+
+// `encode_script`: a `\` goes into each opening of a script's body, behind its `<`. An opening is
+// `<!--`, or `</script` in any case where the name ends.
+
+/// The encoding of `text`. Where nothing changes it is `text` itself, and takes no memory.
+pub fn encode_script<'t, A: Allocator>(alloc: A, text: &'t str) -> Result<CowStr<'t, A>, AllocError>
+    ensures { AnswersText text.now (body_encoding Script text.now)
+        (body_encoding_changes Script text.now 0) result }
+{
+    to_cow(alloc, &EncodeScript, text)
+}
+
+/// Appends the encoding of `text` to `output`, and answers the part that was added. On a refusal
+/// `output` is as it was.
+pub fn encode_script_to_string<'o, A: Allocator>(
+    text: &str,
+    output: &'o mut String<A>,
+) -> Result<&'o str, AllocError>
+    ensures part { AnswersPart (string_room output.old)
+        (body_encoding Script text.now) result }
+    ensures* appended { sem 𝓛 (StringAppended A.row A.Allocator output.entry
+        (body_encoding Script text.now) result) }
+{
+    encode_script_onto_string(output, text)
+}
+
+/// Appends the encoding of `text` to `output`, and answers the part that was added. On a refusal
+/// `output` is as it was.
+pub fn encode_script_to_vec<'o, A: Allocator>(
+    text: &str,
+    output: &'o mut Vec<u8, A>,
+) -> Result<&'o [u8], AllocError>
+    ensures part { AnswersPart (vec_room output.old)
+        (body_encoding Script text.now) result }
+    ensures* appended { sem 𝓛 (VecAppended A.row A.Allocator output.entry
+        (body_encoding Script text.now) result) }
+{
+    encode_script_onto_vec(output, text)
+}
+
+/// Writes the encoding of `text` to `output`, or a beginning of it and then the writer's fault.
+pub fn encode_script_to_writer<W: Write>(text: &str, output: &mut W) -> Result<(), io::Error>
+    ensures { WritesText (W.contents output.old) (W.contents output.new)
+        (body_encoding Script text.now) result }
+{
+    to_writer(&EncodeScript, text, output)
+}
+
+fn encode_script_onto_string<'o, A: Allocator>(
+    output: &'o mut String<A>,
+    text: &str,
+) -> Result<&'o str, AllocError>
+    ensures part { AnswersPart (string_room output.old)
+        (body_encoding Script text.now) result }
+    ensures* appended { sem 𝓛 (StringAppended A.row A.Allocator output.entry
+        (body_encoding Script text.now) result) }
+{
+    onto_string(output, &EncodeScript, text)
+}
+
+fn encode_script_onto_vec<'o, A: Allocator>(
+    output: &'o mut Vec<u8, A>,
+    text: &str,
+) -> Result<&'o [u8], AllocError>
+    ensures part { AnswersPart (vec_room output.old)
+        (body_encoding Script text.now) result }
+    ensures* appended { sem 𝓛 (VecAppended A.row A.Allocator output.entry
+        (body_encoding Script text.now) result) }
+{
+    onto_vec(output, &EncodeScript, text)
+}
+
+// `encode_style`: a `\` goes into each opening of a style's body, behind its `<`. An opening is
+// `<!--`, or `</style` in any case where the name ends.
+
+/// The encoding of `text`. Where nothing changes it is `text` itself, and takes no memory.
+pub fn encode_style<'t, A: Allocator>(alloc: A, text: &'t str) -> Result<CowStr<'t, A>, AllocError>
+    ensures { AnswersText text.now (body_encoding Style text.now)
+        (body_encoding_changes Style text.now 0) result }
+{
+    to_cow(alloc, &EncodeStyle, text)
+}
+
+/// Appends the encoding of `text` to `output`, and answers the part that was added. On a refusal
+/// `output` is as it was.
+pub fn encode_style_to_string<'o, A: Allocator>(
+    text: &str,
+    output: &'o mut String<A>,
+) -> Result<&'o str, AllocError>
+    ensures part { AnswersPart (string_room output.old)
+        (body_encoding Style text.now) result }
+    ensures* appended { sem 𝓛 (StringAppended A.row A.Allocator output.entry
+        (body_encoding Style text.now) result) }
+{
+    encode_style_onto_string(output, text)
+}
+
+/// Appends the encoding of `text` to `output`, and answers the part that was added. On a refusal
+/// `output` is as it was.
+pub fn encode_style_to_vec<'o, A: Allocator>(
+    text: &str,
+    output: &'o mut Vec<u8, A>,
+) -> Result<&'o [u8], AllocError>
+    ensures part { AnswersPart (vec_room output.old)
+        (body_encoding Style text.now) result }
+    ensures* appended { sem 𝓛 (VecAppended A.row A.Allocator output.entry
+        (body_encoding Style text.now) result) }
+{
+    encode_style_onto_vec(output, text)
+}
+
+/// Writes the encoding of `text` to `output`, or a beginning of it and then the writer's fault.
+pub fn encode_style_to_writer<W: Write>(text: &str, output: &mut W) -> Result<(), io::Error>
+    ensures { WritesText (W.contents output.old) (W.contents output.new)
+        (body_encoding Style text.now) result }
+{
+    to_writer(&EncodeStyle, text, output)
+}
+
+fn encode_style_onto_string<'o, A: Allocator>(
+    output: &'o mut String<A>,
+    text: &str,
+) -> Result<&'o str, AllocError>
+    ensures part { AnswersPart (string_room output.old)
+        (body_encoding Style text.now) result }
+    ensures* appended { sem 𝓛 (StringAppended A.row A.Allocator output.entry
+        (body_encoding Style text.now) result) }
+{
+    onto_string(output, &EncodeStyle, text)
+}
+
+fn encode_style_onto_vec<'o, A: Allocator>(
+    output: &'o mut Vec<u8, A>,
+    text: &str,
+) -> Result<&'o [u8], AllocError>
+    ensures part { AnswersPart (vec_room output.old)
+        (body_encoding Style text.now) result }
+    ensures* appended { sem 𝓛 (VecAppended A.row A.Allocator output.entry
+        (body_encoding Style text.now) result) }
+{
+    onto_vec(output, &EncodeStyle, text)
+}
