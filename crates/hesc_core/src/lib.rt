@@ -8,8 +8,8 @@ pub mod laws;
 pub mod rules;
 pub mod table;
 
-pub use crate::table::EntityTable;
 pub use crate::table::entities::NAMED_ENTITIES;
+pub use crate::table::{EntityTable, entities};
 pub use hesc_engine::{
     CountOverflow, Counter, Found, Piece, Pieces, Replacement, Rule, Sink, SmallText, StringSink,
     Turn, VecSink, WriterSink, engine, forms, found, pieces, rule, run, sink, sinks, small_text,

@@ -12,6 +12,7 @@ pub mod decoder;
 pub mod encoder;
 pub mod operation;
 
+pub use crate::body_encoder::session;
 pub use crate::body_encoder::session::BodyEncoder;
 pub use crate::decoder::Decoder;
 pub use crate::encoder::Encoder;
