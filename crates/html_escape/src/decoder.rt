@@ -2,10 +2,14 @@
 ghost use Rattle.std.specs.Prelude.{◌≡◌, [], IfNone, IfSome};
 ghost use Rattle.std.specs.Str.{IsCharBoundary};
 ghost use Rattle.hesc_engine.specs.Next.{IsNext};
-ghost use Rattle.html_escape.specs.Decoders.{decoder_changes};
+ghost use Rattle.html_escape.specs.Decoders.{
+  applied-decoder_changes,
+  decoder_changes,
+  decoder_text,
+};
 
 use hesc_core::rules::{next_body_unescape, next_references, next_unescape};
-use hesc_core::{Class, Element, EntityTable, Found};
+use hesc_core::{Class, Element, EntityTable, Found, Rule};
 
 /// A decoder by its name.
 #[derive(Clone, Copy, Debug, PartialEq, Eq)]
@@ -28,6 +32,23 @@ pub enum Decoder {
     StyleDoubleQuoted,
     /// Replaces the escapes of a style string, both `\'` and `\"` among them.
     StyleQuoted,
+}
+
+impl Rule for Decoder {
+    ghost changes_from = { decoder_changes };
+
+    ghost made = { decoder_text };
+
+    fn next(&self, text: &str, from: usize) -> Option<Found<'_>> {
+        next_decoded(*self, text, from)
+    }
+
+    /// The source's length: no decoder lengthens a text.
+    fn bound(&self, text: &str) -> Option<usize> {
+        Some(text.len())
+    }
+
+    ghost makes = { λ decoder source _. applied-decoder_changes decoder source };
 }
 
 /// The first change of the decoder at or after `from`, a character boundary, where a string

@@ -1,15 +1,18 @@
 //! The encoders by name.
-ghost use Rattle.std.specs.Prelude.{◌≡◌, [], IfNone, IfSome};
+ghost use Rattle.std.specs.Prelude.{◌≡◌, ℕ, List, [], IfNone, IfSome};
 ghost use Rattle.std.specs.Str.{IsCharBoundary};
+ghost use Rattle.hesc_specs.specs.Text.Escaped.{escaped};
 ghost use Rattle.hesc_engine.specs.Next.{IsNext};
 ghost use Rattle.html_escape.specs.Encoders.{
+  IsBodyEncoder,
   applied-encoder_changes,
   encoded,
   encoder_changes,
 };
 
-use hesc_core::rules::{next_body_escape, next_escape};
+use hesc_core::rules::{Escape, next_body_escape, next_escape};
 use hesc_core::{Class, Element, Found, Rule};
+use hesc_scan::length::body_bound;
 
 /// An encoder by its name.
 #[derive(Clone, Copy, Debug, PartialEq, Eq)]
@@ -55,7 +58,45 @@ impl Rule for Encoder {
         next_encoded(*self, text, from)
     }
 
+    // That of the rule that the name stands for.
+    fn total(&self, text: &str) -> Option<usize> {
+        match class_of(*self) {
+            Some(class) => Escape(class).total(text),
+            None => self.total_by_changes(text),
+        }
+    }
+
+    fn bound(&self, text: &str) -> Option<usize> {
+        match class_of(*self) {
+            Some(class) => Escape(class).bound(text),
+            None => body_bound(text.as_bytes()),
+        }
+    }
+
     ghost makes = { applied-encoder_changes };
+}
+
+// The class of an encoder of HTML or of strings; bodies have none.
+fn class_of(encoder: Encoder) -> Option<Class>
+    ensures some { IfSome result (λ class. (text : List ℕ) → encoded encoder text ≡ escaped class text) }
+    ensures none { IfNone result (IsBodyEncoder encoder) }
+{
+    match encoder {
+        Encoder::TextMinimal => Some(Class::TextMinimal),
+        Encoder::Text => Some(Class::Text),
+        Encoder::DoubleQuotedAttribute => Some(Class::DoubleQuotedAttribute),
+        Encoder::SingleQuotedAttribute => Some(Class::SingleQuotedAttribute),
+        Encoder::QuotedAttribute => Some(Class::QuotedAttribute),
+        Encoder::Safe => Some(Class::Safe),
+        Encoder::UnquotedAttribute => Some(Class::UnquotedAttribute),
+        Encoder::ScriptSingleQuoted => Some(Class::ScriptSingleQuoted),
+        Encoder::ScriptDoubleQuoted => Some(Class::ScriptDoubleQuoted),
+        Encoder::ScriptQuoted => Some(Class::ScriptQuoted),
+        Encoder::StyleSingleQuoted => Some(Class::StyleSingleQuoted),
+        Encoder::StyleDoubleQuoted => Some(Class::StyleDoubleQuoted),
+        Encoder::StyleQuoted => Some(Class::StyleQuoted),
+        Encoder::Script | Encoder::Style => None,
+    }
 }
 
 /// The first change of the encoder at or after `from`, a character boundary.

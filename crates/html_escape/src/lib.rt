@@ -7,11 +7,13 @@
 //! [`EntityTable`] that is handed in. A [`BodyEncoder`] encodes a body that itself comes in pieces.
 #![tactic(auto)]
 
+mod appends;
 pub mod body_encoder;
 pub mod decoder;
 pub mod encoder;
 pub mod operation;
 
+pub use crate::appends::{append, append_to_vec};
 pub use crate::body_encoder::session;
 pub use crate::body_encoder::session::BodyEncoder;
 pub use crate::decoder::Decoder;

@@ -31,11 +31,17 @@ impl Rule for Operation {
         }
     }
 
-    /// The source's length for a decoder, which lengthens no text.
+    fn total(&self, text: &str) -> Option<usize> {
+        match *self {
+            Operation::Encode(encoder) => encoder.total(text),
+            Operation::Decode(decoder) => decoder.total(text),
+        }
+    }
+
     fn bound(&self, text: &str) -> Option<usize> {
         match *self {
-            Operation::Encode(_) => None,
-            Operation::Decode(_) => Some(text.len()),
+            Operation::Encode(encoder) => encoder.bound(text),
+            Operation::Decode(decoder) => decoder.bound(text),
         }
     }
 
