@@ -46,7 +46,7 @@ module _ (rows : List Row) (good : is_table rows ≡ true) (name : List ℕ) whe
       (λ (before : k ≢ middle). nat_list_cmp_total.trans (row_at rows k).0 (row_at rows middle).0 name (ascending rows good k middle (omega arith) within) lower)
       (cases_eq k middle)
 
-  -- it has a higher name, and so have those behind it
+  -- it has a higher name, and so have those after it
   pub Above-more : (middle : ℕ) → slice_cmp nat_cmp (row_at rows middle).0 name ≡ Greater → Above rows name middle
   Above-more middle higher k from within =
       ⊎_elim

@@ -11,9 +11,9 @@ pub mod table;
 pub use crate::table::entities::NAMED_ENTITIES;
 pub use crate::table::{EntityTable, entities};
 pub use hesc_engine::{
-    CountOverflow, Counter, Found, Piece, Pieces, Replacement, Rule, Sink, SmallText, StringSink,
-    Turn, VecSink, WriterSink, engine, forms, found, pieces, rule, run, sink, sinks, small_text,
-    turn,
+    CountOverflow, Counter, Found, Piece, Pieces, Replacement, Rule, Segment, Sink, SmallText,
+    StringSink, VecSink, WriterSink, engine, forms, found, pieces, rule, run, segment, sink, sinks,
+    small_text,
 };
 pub use hesc_scan::{find, openings, scan};
 pub use hesc_specs::{Class, Element, Quotes, TableFault};

@@ -14,7 +14,7 @@ use std::borrow::CowStr;
 use std::io::{self, Write};
 
 // `decode_script_single_quoted_text`: in a script's string `\\`, `\'`, `\x` and two upper-case hex
-// digits of a C0 control or of `<`, `\u2028` and `\u2029` become their characters. Right behind a
+// digits of a C0 control or of `<`, `\u2028` and `\u2029` become their characters. Right after a
 // `<` so do `\!` before `--`, and `\/` before `script` in any case where the name ends before the
 // text does. Any other `\` stays.
 
@@ -93,7 +93,7 @@ fn decode_script_single_quoted_text_onto_vec<'o, A: Allocator>(
 }
 
 // `decode_script_double_quoted_text`: in a script's string `\\`, `\"`, `\x` and two upper-case hex
-// digits of a C0 control or of `<`, `\u2028` and `\u2029` become their characters. Right behind a
+// digits of a C0 control or of `<`, `\u2028` and `\u2029` become their characters. Right after a
 // `<` so do `\!` before `--`, and `\/` before `script` in any case where the name ends before the
 // text does. Any other `\` stays.
 
@@ -172,7 +172,7 @@ fn decode_script_double_quoted_text_onto_vec<'o, A: Allocator>(
 }
 
 // `decode_script_quoted_text`: in a script's string `\\`, `\'`, `\"`, `\x` and two upper-case hex
-// digits of a C0 control or of `<`, `\u2028` and `\u2029` become their characters. Right behind a
+// digits of a C0 control or of `<`, `\u2028` and `\u2029` become their characters. Right after a
 // `<` so do `\!` before `--`, and `\/` before `script` in any case where the name ends before the
 // text does. Any other `\` stays.
 
@@ -251,7 +251,7 @@ fn decode_script_quoted_text_onto_vec<'o, A: Allocator>(
 }
 
 // `decode_style_single_quoted_text`: in a style's string `\\`, `\'`, and `\`, two upper-case hex
-// digits of a C0 control but NUL or of `<`, and a space become their characters. Right behind a
+// digits of a C0 control but NUL or of `<`, and a space become their characters. Right after a
 // `<` so do `\!` before `--`, and `\/` before `style` in any case where the name ends before the
 // text does. Any other `\` stays.
 
@@ -330,7 +330,7 @@ fn decode_style_single_quoted_text_onto_vec<'o, A: Allocator>(
 }
 
 // `decode_style_double_quoted_text`: in a style's string `\\`, `\"`, and `\`, two upper-case hex
-// digits of a C0 control but NUL or of `<`, and a space become their characters. Right behind a
+// digits of a C0 control but NUL or of `<`, and a space become their characters. Right after a
 // `<` so do `\!` before `--`, and `\/` before `style` in any case where the name ends before the
 // text does. Any other `\` stays.
 
@@ -409,7 +409,7 @@ fn decode_style_double_quoted_text_onto_vec<'o, A: Allocator>(
 }
 
 // `decode_style_quoted_text`: in a style's string `\\`, `\'`, `\"`, and `\`, two upper-case hex
-// digits of a C0 control but NUL or of `<`, and a space become their characters. Right behind a
+// digits of a C0 control but NUL or of `<`, and a space become their characters. Right after a
 // `<` so do `\!` before `--`, and `\/` before `style` in any case where the name ends before the
 // text does. Any other `\` stays.
 

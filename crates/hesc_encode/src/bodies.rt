@@ -11,7 +11,7 @@ use std::alloc::{AllocError, Allocator};
 use std::borrow::CowStr;
 use std::io::{self, Write};
 
-// `encode_script`: a `\` goes into each opening of a script's body, behind its `<`. An opening is
+// `encode_script`: a `\` goes into each opening of a script's body, after its `<`. An opening is
 // `<!--`, or `</script` in any case where the name ends.
 
 /// The encoding of `text`. Where nothing changes it is `text` itself, and takes no memory.
@@ -82,7 +82,7 @@ fn encode_script_onto_vec<'o, A: Allocator>(
     onto_vec(output, &EncodeScript, text)
 }
 
-// `encode_style`: a `\` goes into each opening of a style's body, behind its `<`. An opening is
+// `encode_style`: a `\` goes into each opening of a style's body, after its `<`. An opening is
 // `<!--`, or `</style` in any case where the name ends.
 
 /// The encoding of `text`. Where nothing changes it is `text` itself, and takes no memory.

@@ -1,4 +1,4 @@
--- More than is wanted behind some bytes, cut off again.
+-- More than is wanted after some bytes, cut off again.
 use Rattle.std.proofs.Common.{◌≡◌, ℕ, ◌+◌, ◌≤◌, List, ◌++◌, ◌∙◌, ap, length, take, take-take}
 use Rattle.std.proofs.Math.Seq.{take-append-add}
 

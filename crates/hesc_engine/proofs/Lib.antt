@@ -4,4 +4,4 @@ pub mod Progress
 pub mod Seam
 pub mod TakenText
 pub mod Told
-pub mod Turns
+pub mod Segments

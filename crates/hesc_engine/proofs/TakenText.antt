@@ -1,4 +1,4 @@
--- Texts behind texts are texts.
+-- Texts after texts are texts.
 use Rattle.std.proofs.Common.{◌≡◌, List, ℕ, ◌++◌}
 use Rattle.std.proofs.lemmas.Str.{IsUtf8-append, IsUtf8-had}
 use Rattle.std.specs.Prelude.{Result, Ok, Err, OnOk}

@@ -6,7 +6,7 @@ use Rattle.hesc_engine.specs.declared.found.Replacement.{Replacement}
 use Rattle.hesc_engine.specs.declared.pieces.Piece.{Piece}
 use Rattle.hesc_engine.specs.declared.pieces.Piece.TheVariants.{Kept, New}
 use Rattle.hesc_engine.specs.declared.pieces.Pieces.{Pieces}
-use Rattle.hesc_engine.specs.declared.turn.Turn.{Turn}
+use Rattle.hesc_engine.specs.declared.segment.Segment.{Segment}
 use Rattle.hesc_engine.specs.declared.rule.Rule.{Ghosts}
 
 -- a stretch with the place where it starts, unless it is empty
@@ -26,18 +26,18 @@ abbrev pub parts_left : {R : Type 0} {rules : Ghosts R} → Pieces R rules → L
 parts_left {rules = rules} pieces =
     pending_parts pieces.pending ++ (if pieces.is_done then [] else parts pieces.text.now pieces.from (rules.changes_from pieces.rule.now pieces.text.now pieces.from))
 
--- nothing is left of the turn that was handed out last
-abbrev pub IsAtTurn : {R : Type 0} {rules : Ghosts R} → Pieces R rules → Type 0
-IsAtTurn pieces = pieces.pending ≡ None
+-- nothing is left of the segment that was handed out last
+abbrev pub IsAtSegment : {R : Type 0} {rules : Ghosts R} → Pieces R rules → Type 0
+IsAtSegment pieces = pieces.pending ≡ None
 
--- the stretch of a turn, unless it is empty
-abbrev pub stretch_of : Turn → List Part
-stretch_of turn = kept_unless_empty turn.start turn.kept.now
+-- the stretch of a segment, unless it is empty
+abbrev pub stretch_of : Segment → List Part
+stretch_of segment = kept_unless_empty segment.start segment.kept.now
 
--- the bytes of a turn
-abbrev pub turn_bytes : Turn → List ℕ
-turn_bytes turn = turn.kept.now ++ replacement_bytes turn.new
+-- the bytes of a segment
+abbrev pub segment_bytes : Segment → List ℕ
+segment_bytes segment = segment.kept.now ++ replacement_bytes segment.new
 
--- more than the turns that pieces still have: a change ends behind its place
-abbrev pub turns_left : {R : Type 0} {rules : Ghosts R} → Pieces R rules → ℕ
-turns_left pieces = if pieces.is_done then 0 else (length pieces.text.now - pieces.from) + 1
+-- more than the segments that pieces still have: a change ends after its place
+abbrev pub segments_left : {R : Type 0} {rules : Ghosts R} → Pieces R rules → ℕ
+segments_left pieces = if pieces.is_done then 0 else (length pieces.text.now - pieces.from) + 1

@@ -26,8 +26,8 @@ pub fn run<R: Rule, S: Sink>(rule: &R, text: &str, sink: &mut S) -> Result<(), S
     ensures same_before { S.before sink.new ≡ S.before sink.old }
 {
     let mut pieces = Pieces::new(rule, text);
-    'putting: while let Some(turn) = pieces.turn() {
-        sink.put_turn(turn)?;
+    'putting: while let Some(segment) = pieces.segment() {
+        sink.put_segment(segment)?;
     }
     Ok(())
 }

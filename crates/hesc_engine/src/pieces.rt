@@ -3,7 +3,7 @@ ghost use Rattle.std.specs.Str.{IsCharBoundary};
 
 use crate::found::Replacement;
 use crate::rule::Rule;
-use crate::turn::Turn;
+use crate::segment::Segment;
 
 /// A piece of a rule's text.
 #[derive(Clone, Copy)]
@@ -61,7 +61,7 @@ impl<'t, R: Rule> Pieces<'t, R> {
       None,
     };
     ghost use Rattle.hesc_specs.specs.Text.Parts.{joined, parts, renewed};
-    ghost use Rattle.hesc_engine.specs.Pieces.{IsAtTurn, parts_left, stretch_of, turns_left};
+    ghost use Rattle.hesc_engine.specs.Pieces.{IsAtSegment, parts_left, stretch_of, segments_left};
     ghost use Rattle.hesc_engine.specs.Text.{replacement_bytes};
 
     /// The pieces of what `rule` makes of `text`.
@@ -72,7 +72,7 @@ impl<'t, R: Rule> Pieces<'t, R> {
             ≡ R.made rule.now text.now }
         ensures few { length (parts text.now 0 (R.changes_from rule.now text.now 0))
             ≤ 2 * length (R.changes_from rule.now text.now 0) + 1 }
-        ensures at_turn { IsAtTurn result }
+        ensures at_segment { IsAtSegment result }
     {
         Pieces {
             rule,
@@ -83,16 +83,16 @@ impl<'t, R: Rule> Pieces<'t, R> {
         }
     }
 
-    /// The next change and the stretch before it, or at last the stretch behind all changes. `None`
+    /// The next change and the stretch before it, or at last the stretch after all changes. `None`
     /// where nothing is left.
     #[inline(always)]
-    pub(crate) fn turn(&mut self) -> Option<Turn<'t>>
-        requires { IsAtTurn self.old }
+    pub(crate) fn segment(&mut self) -> Option<Segment<'t>>
+        requires { IsAtSegment self.old }
         ensures none { IfNone result ((parts_left self.old ≡ []) × (parts_left self.new ≡ [])) }
-        ensures some { IfSome result (λ turn. parts_left self.old
-            ≡ stretch_of turn ++ (renewed (replacement_bytes turn.new) ++ parts_left self.new)) }
-        ensures less { IfSome result (λ turn. turns_left self.new < turns_left self.old) }
-        ensures at_turn { IsAtTurn self.new }
+        ensures some { IfSome result (λ segment. parts_left self.old
+            ≡ stretch_of segment ++ (renewed (replacement_bytes segment.new) ++ parts_left self.new)) }
+        ensures less { IfSome result (λ segment. segments_left self.new < segments_left self.old) }
+        ensures at_segment { IsAtSegment self.new }
     {
         if self.is_done {
             return None;
@@ -102,7 +102,7 @@ impl<'t, R: Rule> Pieces<'t, R> {
         match self.rule.next(self.text, start) {
             Some(found) => {
                 self.from = found.end;
-                Some(Turn {
+                Some(Segment {
                     start,
                     rest,
                     kept: &self.text[start..found.start],
@@ -111,7 +111,7 @@ impl<'t, R: Rule> Pieces<'t, R> {
             }
             None => {
                 self.is_done = true;
-                Some(Turn {
+                Some(Segment {
                     start,
                     rest,
                     kept: &self.text[start..],
@@ -138,19 +138,19 @@ impl<'t, R: Rule> Iterator for Pieces<'t, R> {
             self.pending = None;
             return Some(Piece::New(replacement));
         }
-        'finding: while let Some(turn) = self.turn() {
-            let is_new = !turn.new.as_str().is_empty();
-            if !turn.kept.is_empty() {
+        'finding: while let Some(segment) = self.segment() {
+            let is_new = !segment.new.as_str().is_empty();
+            if !segment.kept.is_empty() {
                 if is_new {
-                    self.pending = Some(turn.new);
+                    self.pending = Some(segment.new);
                 }
                 return Some(Piece::Kept {
-                    start: turn.start,
-                    text: turn.kept,
+                    start: segment.start,
+                    text: segment.kept,
                 });
             }
             if is_new {
-                return Some(Piece::New(turn.new));
+                return Some(Piece::New(segment.new));
             }
         }
         None

@@ -2,9 +2,9 @@
 ghost use Rattle.std.specs.Prelude.{◌≡◌, ◌≤◌, ◌<◌, ◌+◌, ℕ, List, ◌++◌, length, Option, IsOk, OnOk, OnErr};
 ghost use Rattle.std.specs.Borrow.{GName};
 ghost use Rattle.hesc_specs.specs.Text.Beginning.{TookBeginning};
-ghost use Rattle.hesc_engine.specs.Pieces.{turn_bytes};
+ghost use Rattle.hesc_engine.specs.Pieces.{segment_bytes};
 
-use crate::turn::Turn;
+use crate::segment::Segment;
 
 /// Takes texts, one after another.
 ///
@@ -39,21 +39,21 @@ pub trait Sink {
         ensures same_reference { reference self.new ≡ reference self.old }
         ensures same_before { before self.new ≡ before self.old };
 
-    /// Takes the stretch of a turn and then the text behind it, or fails after a beginning of both.
+    /// Takes the stretch of a segment and then the text after it, or fails after a beginning of both.
     #[inline(always)]
-    fn put_turn(&mut self, turn: Turn<'_>) -> Result<(), Self::Fault>
-        ensures ok_taken { OnOk result (taken self.new ≡ taken self.old ++ turn_bytes turn.entry) }
+    fn put_segment(&mut self, segment: Segment<'_>) -> Result<(), Self::Fault>
+        ensures ok_taken { OnOk result (taken self.new ≡ taken self.old ++ segment_bytes segment.entry) }
         ensures ok_failures { OnOk result (failures self.new ≡ failures self.old) }
         ensures err_taken { OnErr result
-            (TookBeginning (taken self.old) (taken self.new) (turn_bytes turn.entry)) }
+            (TookBeginning (taken self.old) (taken self.new) (segment_bytes segment.entry)) }
         ensures err_failures { OnErr result (failures self.new ≡ failures self.old + 1) }
-        ensures fits { length (turn_bytes turn.entry) ≤ room self.old → IsOk result }
-        ensures room { OnOk result (room self.old ≤ room self.new + length (turn_bytes turn.entry)) }
+        ensures fits { length (segment_bytes segment.entry) ≤ room self.old → IsOk result }
+        ensures room { OnOk result (room self.old ≤ room self.new + length (segment_bytes segment.entry)) }
         ensures same_reference { reference self.new ≡ reference self.old }
         ensures same_before { before self.new ≡ before self.old }
     {
-        self.put_some(turn.kept)?;
-        self.put_some(turn.new.as_str())
+        self.put_some(segment.kept)?;
+        self.put_some(segment.new.as_str())
     }
 
     /// Takes the piece, unless it is empty.

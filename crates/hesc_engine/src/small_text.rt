@@ -6,7 +6,7 @@ ghost use Rattle.std.specs.Str.{IsAscii, IsUtf8};
 use std::str;
 
 /// At most six bytes of UTF-8. They stand at the front of eight, which are copied as one; those
-/// behind them say nothing.
+/// after them say nothing.
 #[derive(Clone, Copy)]
 pub struct SmallText {
     bytes: [u8; 8],
@@ -83,7 +83,7 @@ impl SmallText {
         self.len
     }
 
-    /// The bytes of the text, and behind them bytes that say nothing.
+    /// The bytes of the text, and after them bytes that say nothing.
     #[inline(always)]
     pub(crate) fn block(&self) -> [u8; 8]
         ensures { take (length (small_text_bytes self.now)) result ≡ small_text_bytes self.now }

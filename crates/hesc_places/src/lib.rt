@@ -1,6 +1,6 @@
 //! The places of an HTML page where a text may stand, how each is read, and which encoder suits it.
 //!
-//! A place begins behind its opening mark. Its grammar, which comes from a public standard, says
+//! A place begins after its opening mark. Its grammar, which comes from a public standard, says
 //! where it ends and what it holds. The law of places ties the two sides: what a suiting encoder
 //! wrote ends exactly at the closing mark, whatever follows, and is read as the text. [`enclose`]
 //! writes a text for a place, marks and all, or says why it cannot. A form has such places, one for

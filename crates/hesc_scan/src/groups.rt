@@ -24,16 +24,40 @@ pub(crate) const STYLE: u8 = CONTROLS | LESS_OR_BACKSLASH;
 /// What is in the classes of all script strings: the same, and the first byte of U+2028 and U+2029.
 pub(crate) const SCRIPT: u8 = STYLE | LEAD;
 
+// The low halves of bytes in more groups than that of the controls, which may end in any: `"` and
+// the lead byte E2 end in 2, `'` ends in 7, `<` and `\` end in C.
+const ENDS_IN_2: u8 = CONTROLS | DOUBLE | LEAD;
+
+const ENDS_IN_7: u8 = CONTROLS | SINGLE;
+
+const ENDS_IN_C: u8 = CONTROLS | LESS_OR_BACKSLASH;
+
+const ENDS_ELSE: u8 = CONTROLS;
+
 /// The groups that a byte may be of, by its low half; twice, as a swizzle reads each 16 lanes.
 const BY_LOW_HALF: [u8; 32] = [
-    1, 1, 21, 1, 1, 1, 1, 3, 1, 1, 1, 1, 9, 1, 1, 1, 1, 1, 21, 1, 1, 1, 1, 3, 1, 1, 1, 1, 9, 1, 1,
-    1,
+    ENDS_ELSE, ENDS_ELSE, ENDS_IN_2, ENDS_ELSE, ENDS_ELSE, ENDS_ELSE, ENDS_ELSE, ENDS_IN_7,
+    ENDS_ELSE, ENDS_ELSE, ENDS_ELSE, ENDS_ELSE, ENDS_IN_C, ENDS_ELSE, ENDS_ELSE, ENDS_ELSE,
+    ENDS_ELSE, ENDS_ELSE, ENDS_IN_2, ENDS_ELSE, ENDS_ELSE, ENDS_ELSE, ENDS_ELSE, ENDS_IN_7,
+    ENDS_ELSE, ENDS_ELSE, ENDS_ELSE, ENDS_ELSE, ENDS_IN_C, ENDS_ELSE, ENDS_ELSE, ENDS_ELSE,
 ];
+
+// The high halves: the controls begin with 0 and 1, both marks with 2, `<` with 3, `\` with 5, and
+// the lead byte with E.
+const MARKS: u8 = SINGLE | DOUBLE;
+
+const LESS: u8 = LESS_OR_BACKSLASH;
+
+const BACKSLASH: u8 = LESS_OR_BACKSLASH;
+
+const NONE: u8 = 0;
 
 /// The groups that a byte may be of, by its high half; twice.
 const BY_HIGH_HALF: [u8; 32] = [
-    1, 1, 6, 8, 0, 8, 0, 0, 0, 0, 0, 0, 0, 0, 16, 0, 1, 1, 6, 8, 0, 8, 0, 0, 0, 0, 0, 0, 0, 0, 16,
-    0,
+    CONTROLS, CONTROLS, MARKS, LESS, NONE, BACKSLASH, NONE, NONE, //
+    NONE, NONE, NONE, NONE, NONE, NONE, LEAD, NONE, //
+    CONTROLS, CONTROLS, MARKS, LESS, NONE, BACKSLASH, NONE, NONE, //
+    NONE, NONE, NONE, NONE, NONE, NONE, LEAD, NONE, //
 ];
 
 /// Bit `k` of the answer is set exactly if byte `k` is in one of the wanted groups.

@@ -7,5 +7,5 @@ pub mod Decoded
 pub mod Held
 pub mod Openings
 pub mod Same
-pub mod Settled
-pub mod SettledChanges
+pub mod Decided
+pub mod DecidedChanges

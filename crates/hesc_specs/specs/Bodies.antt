@@ -3,4 +3,4 @@ pub mod Encoding
 pub mod Changes
 pub mod SameBody
 pub mod Sessions
-pub mod SettledChanges
+pub mod DecidedChanges

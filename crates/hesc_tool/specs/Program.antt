@@ -20,7 +20,7 @@ abbrev pub fault_without_words : ErrorKind → Fault
 fault_without_words OutOfMemory = Memory
 fault_without_words _ = Usage
 
--- the words behind the program's name, or the fault that stands for them
+-- the words after the program's name, or the fault that stands for them
 abbrev pub words_given : {A : Type 0} → Result (IntoIter (String A) A) Error → Result (List (List ℕ)) Fault
 words_given (Ok words) = Ok (map string_bytes (drop 1 (into_iter_items words)))
 words_given (Err error) = Err (fault_without_words (error_kind error))

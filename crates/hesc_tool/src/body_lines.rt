@@ -28,7 +28,7 @@ pub fn append_lines<A: Allocator>(
     Ok(())
 }
 
-// Where the line that begins at `from` ends, behind its line feed if it has one.
+// Where the line that begins at `from` ends, after its line feed if it has one.
 fn end_of_line(text: &str, from: usize) -> usize
     requires { from < length text.now }
     ensures after { from < result }

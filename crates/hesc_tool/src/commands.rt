@@ -18,7 +18,7 @@ pub enum Command<'w> {
     Enclose(Encoder, Place),
     /// `page A B C`: the page of these three texts. It reads no input.
     Page(&'w str, &'w str, &'w str),
-    /// `read-page`: the three texts that are read from a page, each behind its length.
+    /// `read-page`: the three texts that are read from a page, each after its length.
     ReadPage,
     /// `form SCRIPT [NAME QUOTING VALUE]..`: the form of these attributes. It reads no input.
     Form(FormWords<'w>),

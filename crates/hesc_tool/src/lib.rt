@@ -28,7 +28,7 @@ use std::io::{Read, Write};
 /// Runs the command that `args`, the words after the program's name, name: reads all that `input`
 /// has left, unless the command reads no input, and writes the command's text of it to `output`.
 ///
-/// Nothing is written before all else has succeeded, so only `Fault::Write` leaves anything behind,
+/// Nothing is written before all else has succeeded, so only `Fault::Write` leaves anything after,
 /// a beginning of the text. A reader that never ends comes to `Fault::Memory`.
 #[tactic(auto, using(crate::proofs::Ran::ran))]
 pub fn run<A: Allocator, R: Read, W: Write>(

@@ -1,4 +1,4 @@
-//! The texts of a page or a form in lines: each behind its length.
+//! The texts of a page or a form in lines: each after its length.
 ghost use Rattle.std.specs.Prelude.{◌≡◌, ◌++◌, map, IfOk, OnOk};
 ghost use Rattle.std.specs.List.{flat_map};
 ghost use Rattle.std.specs.Option.{option_map};

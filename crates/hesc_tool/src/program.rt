@@ -17,7 +17,7 @@ use std::io::{self, Read, Write};
 
 /// Runs the whole program over what the system gave it, and answers the status that it ends with.
 ///
-/// `args` is what `std::env::args` answered: the program's name and the words behind it, or why they
+/// `args` is what `std::env::args` answered: the program's name and the words after it, or why they
 /// could not be had, as where one of them is not UTF-8. After success the output is flushed, once.
 /// A fault's line goes to `errors`; where that fails the line is cut off, and the status stays the
 /// fault's.

@@ -9,7 +9,7 @@ use std::alloc::{AllocError, Allocator};
 use std::env::Args;
 use std::io::{self, ErrorKind};
 
-/// The words behind the program's name.
+/// The words after the program's name.
 pub fn words_behind_name<A: Allocator, B: Allocator>(
     alloc: A,
     args: Args<B>,

@@ -1,8 +1,8 @@
 -- What a body encoder is of, what it holds back, and what it adds.
 use Rattle.std.specs.Prelude.{ℕ, List, ◌++◌}
-use Rattle.hesc_specs.specs.Bodies.Sessions.{settled_encoding}
+use Rattle.hesc_specs.specs.Bodies.Sessions.{decided_encoding}
 use Rattle.hesc_specs.specs.declared.elements.Element.{Element}
-use Rattle.html_escape.specs.Held.{few_bytes}
+use Rattle.html_escape.specs.Held.{carry_bytes}
 use Rattle.html_escape.specs.declared.body_encoder.session.BodyEncoder.{BodyEncoder}
 
 -- the element whose body is encoded
@@ -11,8 +11,8 @@ kind_of session = session.kind
 
 -- the bytes that are held back
 abbrev pub held_by : BodyEncoder → List ℕ
-held_by session = few_bytes session.held
+held_by session = carry_bytes session.held
 
--- what is added with a piece: what is settled of the held bytes and the piece
+-- what is added with a piece: what is decided of the held bytes and the piece
 abbrev pub added_with : BodyEncoder → List ℕ → List ℕ
-added_with session piece = settled_encoding (kind_of session) (held_by session ++ piece)
+added_with session piece = decided_encoding (kind_of session) (held_by session ++ piece)

@@ -13,7 +13,8 @@ pub mod decoder;
 pub mod encoder;
 pub mod operation;
 
-pub use crate::appends::{append, append_to_vec};
+pub use crate::appends::append;
+pub use crate::appends::append_to_vec;
 pub use crate::body_encoder::session;
 pub use crate::body_encoder::session::BodyEncoder;
 pub use crate::decoder::Decoder;

@@ -1,4 +1,4 @@
-//! The bodies of scripts and styles: an encoder puts a `\` into each opening, behind its `<`, and a
+//! The bodies of scripts and styles: an encoder puts a `\` into each opening, after its `<`, and a
 //! decoder drops it.
 ghost use Rattle.std.specs.Prelude.{◌≡◌, [], IfNone, IfSome};
 ghost use Rattle.std.specs.Str.{IsCharBoundary};

@@ -52,7 +52,7 @@ pub fn append_parts<P: Parts, A: Allocator>(
     replace_with(output, parts, appended)
 }
 
-// The string with the parts behind it, or as it was.
+// The string with the parts after it, or as it was.
 #[inline(always)]
 fn appended<P: Parts, A: Allocator>(
     string: String<A>,
@@ -64,7 +64,7 @@ fn appended<P: Parts, A: Allocator>(
 {
     let mut bytes = string.into_bytes();
     let outcome = append_parts_to_vec(&mut bytes, parts);
-    // UTF-8 behind UTF-8 is UTF-8.
+    // UTF-8 after UTF-8 is UTF-8.
     (unsafe { String::from_utf8_unchecked(bytes) }, outcome)
 }
 

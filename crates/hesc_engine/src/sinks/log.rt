@@ -9,7 +9,7 @@ use std::marker::{Model, PhantomData};
 /// number, so none assumes anything, and no code reads one, so nothing that runs depends on it.
 ///
 /// What is real is tied to it elsewhere. A sink's ghost field ties `taken` to what the output holds
-/// behind what it held at first, of a writer as far as it tells its bytes, and of a counter to their
+/// after what it held at first, of a writer as far as it tells its bytes, and of a counter to their
 /// number; a log that says otherwise cannot stand in the sink. `failures` is tied to the clauses of
 /// [`put`](crate::Sink::put) alone: it rises at each `Err` and stays at each `Ok`. So it counts the
 /// faults that were answered, and all that is proved by it is that [`run`](hesc_core::run) answers a

@@ -3,11 +3,11 @@ ghost use Rattle.std.specs.Prelude.{◌≡◌, [], ◌++◌, Some};
 ghost use Rattle.std.specs.Str.{IsUtf8};
 
 use crate::found::Replacement;
+use crate::segment::Segment;
 use crate::sink::Sink;
 use crate::sinks::blocks::{append_first, append_small};
 use crate::sinks::log::Log;
 use crate::small_text::SmallText;
-use crate::turn::Turn;
 use std::alloc::{AllocError, Allocator};
 use std::snapshot::Snapshot;
 
@@ -59,24 +59,24 @@ impl<'a, A: Allocator> VecSink<'a, A> {
     }
 
     #[inline(always)]
-    fn put_stretch(&mut self, turn: Turn<'_>) -> Result<(), AllocError>
+    fn put_stretch(&mut self, segment: Segment<'_>) -> Result<(), AllocError>
         ensures ok_taken { OnOk result
-            (vec_sink_taken self.new ≡ vec_sink_taken self.old ++ turn.entry.kept.now) }
+            (vec_sink_taken self.new ≡ vec_sink_taken self.old ++ segment.entry.kept.now) }
         ensures ok_failures { OnOk result
             (vec_sink_failures self.new ≡ vec_sink_failures self.old) }
         ensures err_taken { OnErr result (vec_sink_taken self.new ≡ vec_sink_taken self.old) }
         ensures err_failures { OnErr result
             (vec_sink_failures self.new ≡ vec_sink_failures self.old + 1) }
-        ensures fits { length turn.entry.kept.now ≤ vec_room (vec_sink_output self.old).now → IsOk result }
+        ensures fits { length segment.entry.kept.now ≤ vec_room (vec_sink_output self.old).now → IsOk result }
         ensures room { OnOk result (vec_room (vec_sink_output self.old).now
-            ≤ vec_room (vec_sink_output self.new).now + length turn.entry.kept.now) }
+            ≤ vec_room (vec_sink_output self.new).now + length segment.entry.kept.now) }
         ensures same_reference { (vec_sink_output self.new).ghost_name
             ≡ (vec_sink_output self.old).ghost_name }
         ensures same_start { vec_sink_start self.new ≡ vec_sink_start self.old }
     {
-        match append_first(self.output, turn.rest, turn.kept.len()) {
+        match append_first(self.output, segment.rest, segment.kept.len()) {
             Ok(()) => {
-                self.log = self.log.after_taking(turn.kept.as_bytes());
+                self.log = self.log.after_taking(segment.kept.as_bytes());
                 Ok(())
             }
             Err(fault) => {
@@ -152,9 +152,9 @@ impl<A: Allocator> Sink for VecSink<'_, A> {
 
     // Most stretches and replacements are short.
     #[inline(always)]
-    fn put_turn(&mut self, turn: Turn<'_>) -> Result<(), AllocError> {
-        self.put_stretch(turn)?;
-        match turn.new {
+    fn put_segment(&mut self, segment: Segment<'_>) -> Result<(), AllocError> {
+        self.put_stretch(segment)?;
+        match segment.new {
             Replacement::Borrowed(text) => self.put_some(text),
             Replacement::Small(text) => self.put_small(text),
         }

@@ -9,7 +9,7 @@ use Rattle.hesc_places.specs.declared.grammar.Step.{Step}
 use Rattle.hesc_places.specs.declared.grammar.Step.TheVariants.{Byte}
 use Rattle.hesc_places.proofs.Grammars.Takes.{Takes, takes_byte, takes_byte_before}
 
--- six bits as a byte of a character behind its first
+-- six bits as a byte of a character after its first
 abbrev pub next_byte : ℕ → ℕ
 next_byte bits = 128 + bits % 64
 
@@ -20,7 +20,7 @@ pub record KeepsHigh (step : Mode → List ℕ → Step) (c : ℕ) : Type 0 wher
       step Plain ((224 + c / 4096) ∷ next_byte (c / 64) ∷ next_byte c ∷ rest) ≡ Byte 0 (224 + c / 4096) Plain
 
 module _ {step : Mode → List ℕ → Step} (c : ℕ) (keeps : KeepsHigh step c) where
-  -- a byte of a character behind its first is read as itself
+  -- a byte of a character after its first is read as itself
   takes_next : (bits : ℕ) → Takes step Plain (next_byte bits ∷ []) (next_byte bits ∷ []) Plain
   takes_next bits = takes_byte (keeps.others (next_byte bits) (omega arith) (omega arith))
 

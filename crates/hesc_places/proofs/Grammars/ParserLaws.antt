@@ -1,4 +1,4 @@
--- What the small parsers find in front of what stands behind it.
+-- What the small parsers find in front of what stands after it.
 use Rattle.std.proofs.Common.{ℕ, ◌≡◌, ◌≢◌, Bool, true, false, List, [], ◌∷◌, ◌++◌, Some, length, refl, arith, ne_eqb}
 use Rattle.std.specs.List.{list_all, prefix_len}
 use Rattle.std.proofs.Math.Seq.{take-append_seam, drop-append_seam}

@@ -37,7 +37,7 @@ unfinished step mode zero rest long = absurd (omega arith)
 unfinished step mode (suc more) [] long = refl
 unfinished step mode (suc more) (b ∷ rest) long = rw (unfinished step mode more rest (omega arith)) refl
 
--- an item of one byte and so many more, with its value and the mode behind it
+-- an item of one byte and so many more, with its value and the mode after it
 abbrev IsItem : Step → ℕ → List ℕ → Mode → Type 0
 IsItem found more item next = (go_on : ℕ → Mode → Option (List ℕ × ℕ)) → taken found go_on ≡ after item 1 (go_on more next)
 
@@ -72,7 +72,7 @@ lacks {place} {mode = mode} {next} {rest} found more item is_item follows full i
       none,
     ) at follows.told
 
--- an item is read, and the reading goes on behind it
+-- an item is read, and the reading goes on after it
 goes_past : {place : Place} {bytes value items : List ℕ} {mode next : Mode} {rest behind : List ℕ} (found : Step) (more : ℕ) (item : List ℕ) → IsItem found more item next →
     Follows place bytes value mode rest → length rest ≢ 0 → found ≡ step_of place mode rest → more < length rest →
     items ≡ value ++ item → behind ≡ drop (more + 1) rest → Follows place bytes items next behind

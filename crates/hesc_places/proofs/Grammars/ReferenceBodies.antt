@@ -14,7 +14,7 @@ not_true : (b : Bool) → not b ≡ true → b ≡ false
 not_true true h = cc
 not_true false h = refl
 
--- the first `;` stands behind a body that has none
+-- the first `;` stands after a body that has none
 position_from-body : (body rest : List ℕ) (start : ℕ) → HasNoSemicolon body →
     position_from (λ b. b == semicolon) start (body ++ semicolon ∷ rest) ≡ Some (start + length body)
 position_from-body [] rest start none = rw (add-zero start) refl

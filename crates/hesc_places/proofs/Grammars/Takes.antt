@@ -50,7 +50,7 @@ pub takes_byte : {step : Mode → List ℕ → Step} {mode next : Mode} {b c : �
     ((rest : List ℕ) → step mode (b ∷ rest) ≡ Byte 0 c next) → Takes step mode (b ∷ []) (c ∷ []) next
 takes_byte found = record { goes_on = λ rest. rw (found rest) refl }
 
--- an item of one byte that is found by the piece behind it
+-- an item of one byte that is found by the piece after it
 pub takes_byte_before : {step : Mode → List ℕ → Step} {mode next end : Mode} {b c : ℕ} {tail value : List ℕ} →
     ((rest : List ℕ) → step mode (b ∷ tail ++ rest) ≡ Byte 0 c next) →
     Takes step next tail value end → Takes step mode (b ∷ tail) (c ∷ value) end

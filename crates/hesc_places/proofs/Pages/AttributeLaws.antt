@@ -22,7 +22,7 @@ use Rattle.hesc_places.proofs.Grammars.ParserLaws.{some_while-all}
 use Rattle.hesc_places.proofs.Places.UnquotedEndings.{first_ending-behind, inner-encoding, is_inner}
 use Rattle.hesc_places.proofs.Places.Unquoted.{unquoted_nul, encoding-full}
 
--- behind an unquoted value stands a space
+-- after an unquoted value stands a space
 abbrev pub MayFollow : Quoting → List ℕ → Type 0
 MayFollow Unquoted rest = (behind : List ℕ) × (rest ≡ space ∷ behind)
 MayFollow other rest = ⊤
@@ -49,7 +49,7 @@ unquoted_again value behind full =
       drop-append_seam (encoding class.UnquotedAttribute value) (space ∷ behind),
     ) refl
 
--- behind a value and its closing mark
+-- after a value and its closing mark
 behind_mark : (value rest : List ℕ) (mark : ℕ) → drop (length value + 1) (value ++ mark ∷ rest) ≡ rest
 behind_mark [] rest mark = refl
 behind_mark (b ∷ value) rest mark =

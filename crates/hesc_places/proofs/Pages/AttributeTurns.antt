@@ -22,7 +22,7 @@ no_more view front (suc most) bytes is read told =
     let none : attribute_at bytes ≡ None = sym read ∙ ap (option_map view) is in
     ap (λ all. (all, bytes)) (sym (append-nil front)) ∙ rw none at told
 
--- an attribute follows, and the reading goes on behind it
+-- an attribute follows, and the reading goes on after it
 pub one_more : {X : Type 0} (view : X → Entry × List ℕ) {found : Option X} {x : X} (front : List Entry) {longer : List Entry} {most : ℕ} (fewer : ℕ) (bytes : List ℕ) {whole : List Entry × List ℕ} →
     found ≡ Some x → option_map view found ≡ attribute_at bytes → most ≡ suc fewer → longer ≡ front ++ (view x).0 ∷ [] →
     behind front (attributes_at most bytes) ≡ whole → behind longer (attributes_at fewer (view x).1) ≡ whole

@@ -8,7 +8,7 @@ use Rattle.hesc_places.specs.Pages.FormTexts.{AreGood, attribute_text, entry_bac
 use Rattle.hesc_places.proofs.Pages.AttributeLaws.{MayEnd, MayFollow, attributes_again}
 use Rattle.hesc_places.proofs.Pages.ScriptTexts.{tail_again}
 
--- the quoting of the last attribute; a form without attributes has no gap, as behind a quoted one
+-- the quoting of the last attribute; a form without attributes has no gap, as after a quoted one
 last_quoting : List Entry → Quoting
 last_quoting [] = Double
 last_quoting (a ∷ []) = a.quoting

@@ -77,7 +77,7 @@ no_choice true false true one other none = cc
 no_choice true true unfilled one other none = cc
 no_choice false stood unfilled one other none = cc
 
--- behind these names nothing is wrong with the attributes
+-- after these names nothing is wrong with the attributes
 record StandBehind (earlier : List (List ℕ)) (attributes : List Entry) : Type 0 where
   good : AreGood attributes
   others : HaveOthers earlier attributes

@@ -1,10 +1,10 @@
--- The gap of a form is that behind its last attribute.
+-- The gap of a form is that after its last attribute.
 use Rattle.std.proofs.Common.{ℕ, suc, ◌≡◌, ◌-◌, List, [], ◌∷◌, Option, Some, None, length, map, refl, sym, ap, ◌∙◌, arith}
 use Rattle.std.specs.List.{slice_get}
 use Rattle.hesc_places.specs.declared.markup.types.Attribute.{Attribute}
 use Rattle.hesc_places.specs.Pages.FormTexts.{gap, gap_behind, written}
 
--- the gap behind an attribute, if there is one
+-- the gap after an attribute, if there is one
 abbrev gap_behind_some : Option Attribute → List ℕ
 gap_behind_some None = []
 gap_behind_some (Some a) = gap_behind a.quoting

@@ -40,7 +40,7 @@ module _ (script : List ℕ) (utf8 : IsUtf8 script) where
   abbrev literal : List ℕ
   literal = string_encoding Script quotes.Single script
 
-  -- the call of `alert`, and its end behind the opening mark
+  -- the call of `alert`, and its end after the opening mark
   abbrev call : List ℕ
   call = codes "alert('" ++ (literal ++ codes "');")
 
@@ -80,7 +80,7 @@ module _ (script : List ℕ) (utf8 : IsUtf8 script) where
       ∙ sym (append_assoc literal (codes "');") (codes "</script>" ++ rest))
       )
 
-  -- behind the attributes, the script is read back
+  -- after the attributes, the script is read back
   pub tail_again : (quoting : Quoting) (rest : List ℕ) →
       behind_attributes (gap_behind quoting ++ (script_text script ++ rest)) ≡ Some (script, rest)
   unfolding behind_attributes

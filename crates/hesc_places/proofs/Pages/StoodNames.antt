@@ -69,7 +69,7 @@ same_either_way one other =
     let there = bytes_eq-Decides one other in let back = bytes_eq-Decides other one in
     same_from_decides (bytes_eq one other) (bytes_eq other one) there ((λ e. sym (back.0 e)), (λ e. back.1 (sym e)))
 
--- the names are new behind one more where they were new before and none of them is that one
+-- the names are new after one more where they were new before and none of them is that one
 pub new_behind : (stood more : List (Bor (List ℕ))) (name : List ℕ) →
     ((asked : List ℕ) → has more asked ≡ (bytes_eq asked name || has stood asked)) →
     (names : List (List ℕ)) → are_new more names ≡ (are_new stood names && not (list_any (bytes_eq name) names))

@@ -21,7 +21,7 @@ use Rattle.hesc_places.specs.Places.Readings.{body_of, reading}
 use Rattle.hesc_places.specs.Grammars.Reading.{after, reading_after}
 use Rattle.hesc_places.specs.Grammars.Words.{ends_tag_name, is_end_tag}
 
--- a word that stands before the `<` behind an encoding stands in the text
+-- a word that stands before the `<` after an encoding stands in the text
 word_before : (element : Element) (word : List ℕ) (follows : List ℕ → Bool) → HasNoLessThan word →
     ((bytes rest : List ℕ) → follows (body_encoding element bytes ++ less_than ∷ rest) ≡ follows bytes) →
     (bytes rest : List ℕ) →
@@ -66,7 +66,7 @@ ends_name-word (w ∷ word) (b ∷ bytes) is =
     let parts = and_parts (to_ascii_lowercase b == w) (begins_in_any_case word ends_tag_name bytes) is in
     rw (parts.0, ends_name-word word bytes parts.1) refl
 
--- bytes that complete no opening behind a `<` complete no end tag there, before another `<`
+-- bytes that complete no opening after a `<` complete no end tag there, before another `<`
 no_end_tag : (element : Element) (bytes rest : List ℕ) → completes_opening element bytes ≡ false →
     is_end_tag element (less_than ∷ (body_encoding element bytes ++ less_than ∷ rest)) ≡ false
 no_end_tag element bytes rest none =

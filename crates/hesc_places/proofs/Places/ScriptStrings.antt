@@ -149,7 +149,7 @@ script_closes : (mark : ℕ) (rest : List ℕ) → reading_after (script_string_
 unfolding script_string_step
 script_closes mark rest = rw (eq-eqb mark mark refl) refl
 
--- a text behind the opening mark is read as itself, up to the mark
+-- a text after the opening mark is read as itself, up to the mark
 pub script_string_reading : (quotes : Quotes) (mark : ℕ) → is_quote quotes mark ≡ true →
     (text rest : List ℕ) → IsUtf8 text →
     reading_after (script_string_step mark) 0 Plain (string_encoding Script quotes text ++ (mark ∷ rest)) ≡

@@ -138,7 +138,7 @@ style_closes : (mark : ℕ) (rest : List ℕ) → reading_after (style_string_st
 unfolding style_string_step
 style_closes mark rest = rw (eq-eqb mark mark refl) refl
 
--- a text behind the opening mark is read as itself, with U+FFFD for NUL, up to the mark
+-- a text after the opening mark is read as itself, with U+FFFD for NUL, up to the mark
 pub style_string_reading : (quotes : Quotes) (mark : ℕ) → is_quote quotes mark ≡ true →
     (text rest : List ℕ) → IsUtf8 text →
     reading_after (style_string_step mark) 0 Plain (string_encoding Style quotes text ++ (mark ∷ rest)) ≡

@@ -50,7 +50,7 @@ no_ending b inner =
     let no_greater : (b == greater_than) ≡ false = grind (arith, nat_tests) in
     rw (no_tab, no_line_feed, no_form_feed, no_space, no_greater) refl
 
--- the first ending is behind bytes that are none
+-- the first ending is after bytes that are none
 pub first_ending-behind : (bytes rest : List ℕ) → list_all is_inner bytes ≡ true →
     first_ending (bytes ++ rest) ≡ first_ending rest
 first_ending-behind [] rest inner = refl

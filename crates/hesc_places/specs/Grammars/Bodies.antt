@@ -15,7 +15,7 @@ unfoldable pub style_body_step : Mode → List ℕ → Step
 style_body_step mode [] = Nothing
 style_body_step mode (b ∷ bytes) = if is_end_tag Style (b ∷ bytes) then Close else Byte 0 b Plain
 
--- the mode behind a byte of a script's body, by what begins at it
+-- the mode after a byte of a script's body, by what begins at it
 abbrev pub mode_behind : Mode → List ℕ → Mode
 mode_behind Escaped bytes =
     if is_start_tag Script bytes then DoubleEscaped
@@ -27,7 +27,7 @@ mode_behind DoubleEscaped bytes =
     else DoubleEscaped)
 mode_behind other bytes = if begins (codes "<!--") bytes then Escaped else Plain
 
--- an end tag ends a script's body, but within a comment the first one behind a start tag ends only what that began
+-- an end tag ends a script's body, but within a comment the first one after a start tag ends only what that began
 abbrev pub ends_script : Mode → List ℕ → Bool
 ends_script DoubleEscaped bytes = false
 ends_script other bytes = is_end_tag Script bytes

@@ -1,6 +1,6 @@
 -- What begins at a position of a JavaScript string literal.
 -- ECMAScript, 12.9.4 String Literals, in this profile: the escapes are those of a single escape
--- character, of two hex digits behind `\x` and of four behind `\u`. The other escapes, line
+-- character, of two hex digits after `\x` and of four after `\u`. The other escapes, line
 -- continuations, surrogates, and U+2028 and U+2029 as they stand, have no reading.
 use Rattle.std.specs.Prelude.{ℕ, ◌+◌, Bool, ◌&&◌, ◌||◌, List, [], ◌∷◌, ◌==◌, if◌then◌else◌, length, take, Option, Some, None}
 use Rattle.std.specs.Char.{is_digit}
@@ -59,7 +59,7 @@ single_escape b =
 abbrev pub unless_surrogate : ℕ → ℕ → Step
 unless_surrogate more n = if is_in_range 0xD800 0xDFFF n then Nothing else Character more n Plain
 
--- so many hex digits of either case, behind `\` and a letter
+-- so many hex digits of either case, after `\` and a letter
 abbrev pub hex_escape : ℕ → List ℕ → Step
 hex_escape count digits =
     if length digits == count && list_all (λ d. is_digit d 16) digits then unless_surrogate (count + 1) (digits_value 16 digits)

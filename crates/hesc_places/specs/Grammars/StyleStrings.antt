@@ -1,7 +1,7 @@
 -- What begins at a position of a CSS string.
 -- CSS Syntax Module Level 3, 4.3.5 Consume a string token and 4.3.7 Consume an escaped code point, in
 -- this profile: bytes are not preprocessed (3.3), so that newlines and NUL have no reading, as they
--- stand or behind a `\`.
+-- stand or after a `\`.
 use Rattle.std.specs.Prelude.{ℕ, ◌+◌, Bool, false, ◌||◌, List, [], ◌∷◌, nat_lt, ◌==◌, if◌then◌else◌, length, take, drop}
 use Rattle.std.specs.Char.{is_digit}
 use Rattle.std.specs.Int.{is_in_range}

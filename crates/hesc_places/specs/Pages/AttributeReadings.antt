@@ -41,7 +41,7 @@ abbrev pub first_ending : List ℕ → Option End
 first_ending [] = None
 first_ending (b ∷ bytes) = option_or (ending b) (first_ending bytes)
 
--- a value behind its opening quote mark; its closing mark is taken
+-- a value after its opening quote mark; its closing mark is taken
 unfoldable pub quoted_at : Quoting → Place → List ℕ → Option (Quoting × List ℕ × List ℕ)
 quoted_at quoting place bytes = do
   found ← reading place bytes
@@ -54,7 +54,7 @@ unquoted_at bytes = do
   found ← reading (UnquotedAttribute end) bytes
   Some (Unquoted, found.0, drop found.1 bytes)
 
--- a value, and the bytes behind it
+-- a value, and the bytes after it
 unfoldable pub value_at : List ℕ → Option (Quoting × List ℕ × List ℕ)
 value_at [] = None
 value_at (b ∷ bytes) =
@@ -62,7 +62,7 @@ value_at (b ∷ bytes) =
     else (if b == single_quote then quoted_at Single SingleAttribute bytes
     else unquoted_at (b ∷ bytes))
 
--- white space, a name, `=` and a value, and the bytes behind them
+-- white space, a name, `=` and a value, and the bytes after them
 unfoldable pub attribute_at : List ℕ → Option (Entry × List ℕ)
 attribute_at bytes = do
   gap ← some_while is_white_space bytes
@@ -76,7 +76,7 @@ abbrev pub and_others : List ℕ → Option (Entry × List ℕ) → (List ℕ �
 and_others bytes None go_on = ([], bytes)
 and_others bytes (Some first) go_on = (first.0 ∷ (go_on first.1).0, (go_on first.1).1)
 
--- the attributes that follow one another, so many at most, and the bytes behind them
+-- the attributes that follow one another, so many at most, and the bytes after them
 unfoldable pub attributes_at : ℕ → List ℕ → List Entry × List ℕ
 attributes_at zero bytes = ([], bytes)
 attributes_at (suc most) bytes = and_others bytes (attribute_at bytes) (attributes_at most)

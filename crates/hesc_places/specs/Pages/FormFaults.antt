@@ -21,11 +21,11 @@ fault_where stood place a =
     then (if is_unfilled a.quoting a.value then Some (EmptyUnquoted place) else None)
     else Some (BadName place)
 
--- what is wrong with an attribute at a place, behind others of these names
+-- what is wrong with an attribute at a place, after others of these names
 abbrev pub attribute_fault : List (List ℕ) → ℕ → Entry → Option FormFault
 attribute_fault earlier place a = fault_where (list_any (bytes_eq a.name) earlier) place a
 
--- what is wrong first from a place on, behind others of these names
+-- what is wrong first from a place on, after others of these names
 abbrev pub fault_from : List (List ℕ) → ℕ → List Entry → Option FormFault
 fault_from earlier place [] = None
 fault_from earlier place (a ∷ others) =

@@ -39,7 +39,7 @@ script_at bytes = do
   rest ← past_in_any_case (codes "</script>") (drop body.1 bytes)
   Some (literal, rest)
 
--- all that follows the attributes: the literal, and the bytes behind the script
+-- all that follows the attributes: the literal, and the bytes after the script
 unfoldable pub behind_attributes : List ℕ → Option (List ℕ × List ℕ)
 behind_attributes bytes = do
   tag ← tag_end bytes

@@ -26,7 +26,7 @@ value_text Double value = double_quote ∷ (encoded encoder.DoubleQuotedAttribut
 abbrev pub attribute_text : Entry → List ℕ
 attribute_text a = space ∷ (a.name ++ equals_sign ∷ value_text a.quoting a.value)
 
--- a space stands behind the last attribute if it is unquoted, so that its value does not take the `/`
+-- a space stands after the last attribute if it is unquoted, so that its value does not take the `/`
 abbrev pub gap_behind : Quoting → List ℕ
 gap_behind Unquoted = space ∷ []
 gap_behind other = []
@@ -36,7 +36,7 @@ gap [] = []
 gap (a ∷ []) = gap_behind a.quoting
 gap (a ∷ b ∷ others) = gap (b ∷ others)
 
--- what stands behind the attributes
+-- what stands after the attributes
 abbrev pub script_text : List ℕ → List ℕ
 script_text script = codes "/><script>alert('" ++ (encoded encoder.ScriptSingleQuoted script ++ codes "');</script>")
 

@@ -15,7 +15,7 @@ use Rattle.hesc_places.specs.Places.Suits.{suits}
 abbrev pub enclosed : Encoder → Place → List ℕ → List ℕ
 enclosed encoder place text = opening place ++ (encoded encoder text ++ closing place)
 
--- behind its opening mark and whatever follows, the part ends exactly at its closing mark and is read as the text
+-- after its opening mark and whatever follows, the part ends exactly at its closing mark and is read as the text
 abbrev pub IsReadAsText : Encoder → Place → List ℕ → List ℕ → Type 0
 IsReadAsText encoder place text part =
     (rest : List ℕ) → reading place (drop (length (opening place)) part ++ rest) ≡

@@ -14,7 +14,7 @@ end_byte FormFeed = form_feed
 end_byte Space = space
 end_byte Greater = greater_than
 
--- the mark behind which a place begins
+-- the mark after which a place begins
 abbrev pub opening : Place → List ℕ
 opening Text = greater_than ∷ []
 opening DoubleAttribute = double_quote ∷ []

@@ -41,7 +41,7 @@ first_mode StyleDouble = Plain
 first_mode ScriptBody = Plain
 first_mode StyleBody = Plain
 
--- the reading of the bytes behind a place's opening mark: a value and an end, if there is one
+-- the reading of the bytes after a place's opening mark: a value and an end, if there is one
 abbrev pub reading : Place → List ℕ → Option (List ℕ × ℕ)
 reading place bytes = reading_after (step_of place) 0 (first_mode place) bytes
 

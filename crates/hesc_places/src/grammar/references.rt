@@ -14,7 +14,7 @@ ghost use Rattle.hesc_places.specs.Grammars.References.{
 use crate::grammar::{Mode, Step};
 use hesc_core::find::first_byte;
 
-/// The number right behind that of the last character, for which any greater one stands.
+/// The number right after that of the last character, for which any greater one stands.
 const PAST_CHARACTERS: u32 = 0x110000;
 
 /// What a `&` before the bytes begins.

@@ -65,7 +65,7 @@ fn single_escape(letter: u8) -> Option<char>
     }
 }
 
-// So many hex digits at the front of the bytes, behind `\` and a letter.
+// So many hex digits at the front of the bytes, after `\` and a letter.
 fn hex_escape(count: usize, bytes: &[u8]) -> Step
     requires { count ≤ 4 }
     ensures { result ≡ hex_escape count (take count bytes.now) }

@@ -14,7 +14,7 @@ ghost use Rattle.hesc_places.specs.Pages.FormReadings.{
 
 use crate::markup::prefix::{past, past_in_any_case, white_space_at};
 use crate::markup::tag_reader::{attributes_at, differ};
-use crate::markup::types::Quoting;
+use crate::markup::types::{Quoting, ReadAttribute};
 use crate::place::places::Place;
 use crate::place::readers::read_place;
 use std::alloc::{AllocError, Allocator, Global};
@@ -26,7 +26,7 @@ pub struct Form<A: Allocator = Global> {
     pub attributes: Vec<(Vec<u8, A>, Quoting, Vec<u8, A>), A>,
     /// The string that the script hands to `alert`.
     pub script: Vec<u8, A>,
-    /// The position behind the script's end tag.
+    /// The position after the script's end tag.
     pub end: usize,
 }
 
@@ -49,12 +49,12 @@ pub fn read_form<A: Allocator + Clone>(
     with_attributes(alloc, bytes.len(), attributes, rest)
 }
 
-// The form with these attributes, in so many bytes, of which these stand behind the attributes.
+// The form with these attributes, in so many bytes, of which these stand after the attributes.
 #[tactic(auto, unfolding(crate::specs::Pages::FormReadings::with_attributes))]
 fn with_attributes<A: Allocator + Clone>(
     alloc: A,
     total: usize,
-    attributes: Vec<(Vec<u8, A>, Quoting, Vec<u8, A>), A>,
+    attributes: Vec<ReadAttribute<A>, A>,
     bytes: &[u8],
 ) -> Result<Option<Form<A>>, AllocError>
     ensures { IfOk result (λ found. option_map (λ f. form_found
@@ -76,7 +76,7 @@ fn with_attributes<A: Allocator + Clone>(
     }))
 }
 
-// All that follows the attributes: the literal, and the bytes behind the script.
+// All that follows the attributes: the literal, and the bytes after the script.
 #[tactic(auto, unfolding(crate::specs::Pages::FormReadings::behind_attributes))]
 fn behind_attributes<A: Allocator + Clone>(
     alloc: A,

@@ -111,7 +111,7 @@ fn put_between<S: Sink>(
     sink.put(mark)
 }
 
-// What stands behind the last attribute.
+// What stands after the last attribute.
 #[tactic(auto, using(crate::proofs::Pages::LastGaps::gap_of_last, crate::proofs::Pages::LastGaps::gap_of_none))]
 fn gap(attributes: &[Attribute]) -> &'static str
     ensures { result.now ≡ gap (map written attributes.now) }
@@ -132,7 +132,7 @@ fn gap_behind(quoting: Quoting) -> &'static str
     }
 }
 
-// What stands behind the attributes.
+// What stands after the attributes.
 fn put_script<S: Sink>(script: &str, sink: &mut S) -> Result<(), S::Fault>
     ensures ok_taken { OnOk result
         (S.taken sink.new ≡ S.taken sink.old ++ script_text script.now) }

@@ -5,7 +5,7 @@ ghost use Rattle.hesc_places.specs.Pages.AttributeReadings.{entry};
 ghost use Rattle.hesc_places.specs.Pages.PageReadings.{page_found, page_of, page_reading};
 
 use crate::markup::form_reader::read_form;
-use crate::markup::types::Quoting;
+use crate::markup::types::ReadAttribute;
 use std::alloc::{AllocError, Allocator, Global};
 
 /// What stands in a page, and where it ends.
@@ -17,7 +17,7 @@ pub struct Page<A: Allocator = Global> {
     pub second: Vec<u8, A>,
     /// The string that the script hands to `alert`.
     pub third: Vec<u8, A>,
-    /// The position behind the script's end tag.
+    /// The position after the script's end tag.
     pub end: usize,
 }
 
@@ -42,7 +42,7 @@ pub fn read_page<A: Allocator + Clone>(
 
 // The page with these attributes, if they are two.
 fn page_of<A: Allocator>(
-    mut attributes: Vec<(Vec<u8, A>, Quoting, Vec<u8, A>), A>,
+    mut attributes: Vec<ReadAttribute<A>, A>,
     third: Vec<u8, A>,
     end: usize,
 ) -> Option<Page<A>>

@@ -1,4 +1,4 @@
-//! What stands at the front of bytes, and the bytes behind it.
+//! What stands at the front of bytes, and the bytes after it.
 ghost use Rattle.std.specs.Prelude.{◌≡◌, ◌≤◌, length};
 ghost use Rattle.std.specs.Char.{is_ascii_lowercase};
 ghost use Rattle.std.specs.List.{prefix_len};
@@ -6,14 +6,14 @@ ghost use Rattle.std.specs.Option.{option_map};
 ghost use Rattle.hesc_places.specs.Pages.Parsers.{past, past_in_any_case};
 ghost use Rattle.hesc_places.specs.Grammars.Words.{is_white_space};
 
-/// The bytes behind a word, if it stands there.
+/// The bytes after a word, if it stands there.
 pub(crate) fn past<'b>(bytes: &'b [u8], word: &[u8]) -> Option<&'b [u8]>
     ensures { option_map (λ rest. rest.now) result ≡ past word.now bytes.now }
 {
     bytes.strip_prefix(word)
 }
 
-/// The bytes behind a word in lower case, if it stands there in any ASCII case.
+/// The bytes after a word in lower case, if it stands there in any ASCII case.
 pub(crate) fn past_in_any_case<'b>(bytes: &'b [u8], word: &[u8]) -> Option<&'b [u8]>
     ensures { option_map (λ rest. rest.now) result ≡ past_in_any_case word.now bytes.now }
 {

@@ -15,17 +15,17 @@ ghost use Rattle.hesc_places.specs.Pages.AttributeReadings.{
 
 use crate::markup::names::add_name;
 use crate::markup::prefix::{letters_at, past, white_space_at};
-use crate::markup::types::Quoting;
+use crate::markup::types::{Quoting, ReadAttribute};
 use crate::place::places::{End, Place};
 use crate::place::readers::read_place;
 use std::alloc::{AllocError, Allocator};
 use std::collections::BTreeSet;
 
-/// The attributes that follow one another at the front, and the bytes behind them.
+/// The attributes that follow one another at the front, and the bytes after them.
 pub(crate) fn attributes_at<A: Allocator + Clone>(
     alloc: A,
     bytes: &[u8],
-) -> Result<(Vec<(Vec<u8, A>, Quoting, Vec<u8, A>), A>, &[u8]), AllocError>
+) -> Result<(Vec<ReadAttribute<A>, A>, &[u8]), AllocError>
     ensures { IfOk result (λ found.
         (map (λ a. entry a.0.items a.1 a.2.items) found.0.items, found.1.now)
         ≡ attributes_at (length bytes.now) bytes.now) }
@@ -44,12 +44,12 @@ pub(crate) fn attributes_at<A: Allocator + Clone>(
     Ok((attributes, rest))
 }
 
-// White space, a name, `=` and a value, and the bytes behind them.
+// White space, a name, `=` and a value, and the bytes after them.
 #[tactic(auto, unfolding(crate::specs::Pages::AttributeReadings::attribute_at))]
 fn attribute_at<A: Allocator + Clone>(
     alloc: A,
     bytes: &[u8],
-) -> Result<Option<((Vec<u8, A>, Quoting, Vec<u8, A>), &[u8])>, AllocError>
+) -> Result<Option<(ReadAttribute<A>, &[u8])>, AllocError>
     ensures { IfOk result (λ found.
         option_map (λ a. (entry a.0.0.items a.0.1 a.0.2.items, a.1.now)) found
         ≡ attribute_at bytes.now) }
@@ -74,7 +74,7 @@ fn attribute_at<A: Allocator + Clone>(
     Ok(Some(((name, quoting, value), rest)))
 }
 
-// A value, and the bytes behind it.
+// A value, and the bytes after it.
 #[tactic(auto, unfolding(crate::specs::Pages::AttributeReadings::value_at))]
 fn value_at<A: Allocator>(
     alloc: A,
@@ -91,7 +91,7 @@ fn value_at<A: Allocator>(
     }
 }
 
-// A value behind its opening quote mark; its closing mark is taken.
+// A value after its opening quote mark; its closing mark is taken.
 #[tactic(auto, unfolding(crate::specs::Pages::AttributeReadings::quoted_at))]
 fn quoted_at<A: Allocator>(
     alloc: A,
@@ -158,7 +158,7 @@ fn ending(byte: u8) -> Option<End>
 #[tactic(auto, using(crate::proofs::Pages::StoodNames::none_stood, crate::proofs::Pages::StoodNames::old_first, crate::proofs::Pages::StoodNames::new_first,))]
 pub(crate) fn differ<A: Allocator + Clone>(
     alloc: A,
-    attributes: &[(Vec<u8, A>, Quoting, Vec<u8, A>)],
+    attributes: &[ReadAttribute<A>],
 ) -> Result<bool, AllocError>
     ensures { IfOk result (λ answer. answer ≡ differ
         (map (λ a. a.name) (map (λ a. entry a.0.items a.1 a.2.items) attributes.now))) }

@@ -1,4 +1,4 @@
-//! Attributes that are to be written, and why a form of them is not built.
+//! Attributes, and why a form of them is not built.
 
 /// How the value of an attribute stands in its tag.
 #[derive(Clone, Copy, Debug, PartialEq, Eq)]
@@ -21,6 +21,9 @@ pub struct Attribute<'a> {
     /// Its value, as it is to be read back.
     pub value: &'a str,
 }
+
+/// An attribute that was read: its name, how its value is quoted, and its value.
+pub(crate) type ReadAttribute<A> = (Vec<u8, A>, Quoting, Vec<u8, A>);
 
 /// Why a form is not built. The attributes are checked in order, at each the first two faults in
 /// this order, and memory comes last. Attributes are counted from 0.

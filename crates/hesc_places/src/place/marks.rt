@@ -4,7 +4,7 @@ ghost use Rattle.hesc_places.specs.Places.Marks.{closing, end_byte, opening};
 
 use crate::place::places::{End, Place};
 
-/// The mark behind which a place begins.
+/// The mark after which a place begins.
 pub(crate) fn opening(place: Place) -> &'static str
     ensures { result.now ≡ opening place }
 {

@@ -12,11 +12,11 @@ use std::alloc::{AllocError, Allocator, Global};
 pub struct Reading<A: Allocator = Global> {
     /// The bytes that were read, each item's value.
     pub value: Vec<u8, A>,
-    /// The position of the closing mark's first byte behind the opening mark.
+    /// The position of the closing mark's first byte after the opening mark.
     pub end: usize,
 }
 
-/// Reads the bytes behind a place's opening mark, up to its closing mark. There is `None` exactly
+/// Reads the bytes after a place's opening mark, up to its closing mark. There is `None` exactly
 /// where the place's grammar has no reading. The bytes need be no UTF-8.
 pub fn read_place<A: Allocator>(
     alloc: A,

@@ -7,11 +7,11 @@ use Rattle.hesc_specs.specs.Bodies.Openings.{completes_opening, is_opening, is_e
 use Rattle.hesc_specs.specs.declared.elements.Element.{Element}
 use Rattle.hesc_specs.proofs.Bodies.Openings.{completes_opening-encoding, completes_opening-decoding, escaped-parts}
 
--- what the encoding writes behind a byte
+-- what the encoding writes after a byte
 abbrev pub encoding_after : Element → ℕ → List ℕ → List ℕ
 encoding_after element before text = if is_opening element (before ∷ text) then backslash ∷ body_encoding element text else body_encoding element text
 
--- no opening begins behind its own `\`
+-- no opening begins after its own `\`
 not_escaped_again : (element : Element) (text : List ℕ) → completes_opening element text ≡ true → is_escaped_opening element (less_than ∷ text) ≡ false
 not_escaped_again element [] completes = refl
 not_escaped_again element (b ∷ text) completes =
@@ -20,7 +20,7 @@ not_escaped_again element (b ∷ text) completes =
       | inr other ↦ rw (ne_eqb b backslash other) refl
     ]
 
--- what completes an opening is decoded alike behind any byte
+-- what completes an opening is decoded alike after any byte
 decoding-opening : (element : Element) (before : ℕ) (text : List ℕ) → completes_opening element text ≡ true
     → body_decoding_after element before text ≡ body_decoding_after element backslash text
 decoding-opening element before [] completes = refl
@@ -57,7 +57,7 @@ encode_twice element (b ∷ text) =
       | inr plain ↦ rw plain (rw (completes_opening-encoding element text) (rw plain (rw (encode_twice element text) refl)))
     ]
 
--- decoding twice is decoding once, behind any byte
+-- decoding twice is decoding once, after any byte
 decode_twice_after : (element : Element) (before : ℕ) (text : List ℕ)
     → body_decoding_after element before (body_decoding_after element before text) ≡ body_decoding_after element before text
 decode_twice_after element before [] = refl
@@ -77,7 +77,7 @@ decode_twice_after element before (b ∷ text) =
 pub decode_twice : (element : Element) (text : List ℕ) → body_decoding element (body_decoding element text) ≡ body_decoding element text
 decode_twice element text = decode_twice_after element nothing_before text
 
--- encoding the decoding gives the encoding, behind any byte
+-- encoding the decoding gives the encoding, after any byte
 encode_decoding_after : (element : Element) (before : ℕ) (text : List ℕ)
     → encoding_after element before (body_decoding_after element before text) ≡ encoding_after element before text
 encode_decoding_after element before [] = refl
@@ -98,7 +98,7 @@ encode_decoding_after element before (b ∷ text) =
 pub encode_decoding : (element : Element) (text : List ℕ) → body_encoding element (body_decoding element text) ≡ body_encoding element text
 encode_decoding element text = encode_decoding_after element nothing_before text
 
--- decoding the encoding gives the decoding, behind any byte
+-- decoding the encoding gives the decoding, after any byte
 decode_encoding_after : (element : Element) (before : ℕ) (text : List ℕ)
     → body_decoding_after element before (encoding_after element before text) ≡ body_decoding_after element before text
 decode_encoding_after element before [] = rw (and_right (before == less_than) false refl) refl
@@ -142,7 +142,7 @@ encoding-no_opening element (b ∷ text) (suc place) =
     behind_backslash element text none zero = refl
     behind_backslash element text none (suc place) = none place
 
--- a decoding has no escaped opening: the byte and the decoding behind it begin none
+-- a decoding has no escaped opening: the byte and the decoding after it begin none
 escaped-after : (element : Element) (b : ℕ) (text : List ℕ) → is_escaped_opening element (b ∷ body_decoding_after element b text) ≡ false
 escaped-after element b [] = refl
 escaped-after element b (c ∷ text) =

@@ -10,21 +10,21 @@ use Rattle.std.specs.Str.{IsAscii, IsCharBoundary}
 use Rattle.hesc_specs.specs.Text.Ascii.{slash, less_than}
 use Rattle.hesc_specs.specs.Text.Elements.{element_name}
 use Rattle.hesc_specs.specs.Bodies.Openings.{is_opening}
-use Rattle.hesc_specs.specs.Bodies.Sessions.{is_undecided, undecided_end, settled_encoding, released}
+use Rattle.hesc_specs.specs.Bodies.Sessions.{is_partial, partial_end, decided_encoding, flushed}
 use Rattle.hesc_specs.specs.Text.Words.{is_beginning_in_any_case}
 use Rattle.hesc_specs.specs.declared.elements.Element.{Element}
 use Rattle.hesc_specs.specs.declared.elements.Element.TheVariants.{Script, Style}
 use Rattle.hesc_specs.proofs.Bodies.Openings.{HasNoLessThan, name-no_less_than}
-use Rattle.hesc_specs.proofs.Bodies.Settled.{is_opening-decided, undecided_end-undecided}
+use Rattle.hesc_specs.proofs.Bodies.Decided.{is_opening-decided, partial_end-partial}
 
 -- the longest is `<`, `/` and the element's name
 abbrev pub longest_held : ℕ
 longest_held = 8
 
--- undecided bytes that are not none: a `<` and a beginning of one of two words
-undecided-parts : (element : Element) (b : ℕ) (bytes : List ℕ) → is_undecided element (b ∷ bytes) ≡ true
+-- partial bytes that are not none: a `<` and a beginning of one of two words
+partial-parts : (element : Element) (b : ℕ) (bytes : List ℕ) → is_partial element (b ∷ bytes) ≡ true
     → (b ≡ less_than) × ((is_beginning_in_any_case (codes "!-") bytes ≡ true) ⊎ (is_beginning_in_any_case (slash ∷ element_name element) bytes ≡ true))
-undecided-parts element b bytes held =
+partial-parts element b bytes held =
     let parts = and_parts (b == less_than) (is_beginning_in_any_case (codes "!-") bytes || is_beginning_in_any_case (slash ∷ element_name element) bytes) held in (
       eqb-true b less_than parts.0,
       elim (cases_Bool (is_beginning_in_any_case (codes "!-") bytes)) [
@@ -44,10 +44,10 @@ name-length : (element : Element) → length (element_name element) ≤ 6
 name-length Script = omega arith
 name-length Style = omega arith
 
-pub undecided-short : (element : Element) (bytes : List ℕ) → is_undecided element bytes ≡ true → length bytes ≤ longest_held
-undecided-short element [] held = omega arith
-undecided-short element (b ∷ bytes) held =
-    elim ((undecided-parts element b bytes held).1) [
+pub partial-short : (element : Element) (bytes : List ℕ) → is_partial element bytes ≡ true → length bytes ≤ longest_held
+partial-short element [] held = omega arith
+partial-short element (b ∷ bytes) held =
+    elim ((partial-parts element b bytes held).1) [
       | inl comment ↦ omega (arith, beginning-short (codes "!-") bytes comment)
       | inr name ↦ omega (arith, beginning-short (slash ∷ element_name element) bytes name, name-length element)
     ]
@@ -72,95 +72,95 @@ beginning-ascii (w ∷ word) (b ∷ bytes) ascii begins zero =
 beginning-ascii (w ∷ word) (b ∷ bytes) ascii begins (suc place) =
     beginning-ascii word bytes ascii.1 (and_parts (to_ascii_lowercase b == w) (is_beginning_in_any_case word bytes) begins).1 place
 
-pub undecided-ascii : (element : Element) (bytes : List ℕ) → is_undecided element bytes ≡ true → IsAscii bytes
-undecided-ascii element [] held place = omega arith
-undecided-ascii element (b ∷ bytes) held zero = rw ((undecided-parts element b bytes held).0) (omega arith)
-undecided-ascii element (b ∷ bytes) held (suc place) =
-    elim ((undecided-parts element b bytes held).1) [
+pub partial-ascii : (element : Element) (bytes : List ℕ) → is_partial element bytes ≡ true → IsAscii bytes
+partial-ascii element [] held place = omega arith
+partial-ascii element (b ∷ bytes) held zero = rw ((partial-parts element b bytes held).0) (omega arith)
+partial-ascii element (b ∷ bytes) held (suc place) =
+    elim ((partial-parts element b bytes held).1) [
       | inl comment ↦ beginning-ascii (codes "!-") bytes (omega arith, (omega arith, tt)) comment place
       | inr name ↦ beginning-ascii (slash ∷ element_name element) bytes (omega arith, name-ascii element) name place
     ]
 
--- no opening begins within a word's beginning, and what it is undecided about does not either
-beginning-released : (element : Element) (word bytes rest : List ℕ) → HasNoLessThan word → is_beginning_in_any_case word bytes ≡ true
-    → (settled_encoding element (bytes ++ rest) ≡ bytes ++ settled_encoding element rest) × (undecided_end element (bytes ++ rest) ≡ undecided_end element rest)
-beginning-released element word [] rest quiet begins = (refl, refl)
-beginning-released element [] (b ∷ bytes) rest quiet begins = absurd (cc)
-beginning-released element (w ∷ word) (b ∷ bytes) rest quiet begins =
+-- no opening begins within a word's beginning, and what it is partial about does not either
+beginning-flushed : (element : Element) (word bytes rest : List ℕ) → HasNoLessThan word → is_beginning_in_any_case word bytes ≡ true
+    → (decided_encoding element (bytes ++ rest) ≡ bytes ++ decided_encoding element rest) × (partial_end element (bytes ++ rest) ≡ partial_end element rest)
+beginning-flushed element word [] rest quiet begins = (refl, refl)
+beginning-flushed element [] (b ∷ bytes) rest quiet begins = absurd (cc)
+beginning-flushed element (w ∷ word) (b ∷ bytes) rest quiet begins =
     elim (cases_eq b less_than) [
       | inl is ↦ absurd (cc (rw (is, quiet.0) at begins))
       | inr other ↦
-          let later = beginning-released element word bytes rest quiet.1 (and_parts (to_ascii_lowercase b == w) (is_beginning_in_any_case word bytes) begins).1 in
+          let later = beginning-flushed element word bytes rest quiet.1 (and_parts (to_ascii_lowercase b == w) (is_beginning_in_any_case word bytes) begins).1 in
           rw (ne_eqb b less_than other) (ap (λ x. b ∷ x) later.0, later.1)
     ]
 
-tail-released : (element : Element) (b : ℕ) (bytes rest : List ℕ) → is_undecided element (b ∷ bytes) ≡ true
-    → (settled_encoding element (bytes ++ rest) ≡ bytes ++ settled_encoding element rest) × (undecided_end element (bytes ++ rest) ≡ undecided_end element rest)
-tail-released element b bytes rest held =
-    elim ((undecided-parts element b bytes held).1) [
-      | inl comment ↦ beginning-released element (codes "!-") bytes rest (refl, (refl, tt)) comment
-      | inr name ↦ beginning-released element (slash ∷ element_name element) bytes rest (refl, name-no_less_than element) name
+tail-flushed : (element : Element) (b : ℕ) (bytes rest : List ℕ) → is_partial element (b ∷ bytes) ≡ true
+    → (decided_encoding element (bytes ++ rest) ≡ bytes ++ decided_encoding element rest) × (partial_end element (bytes ++ rest) ≡ partial_end element rest)
+tail-flushed element b bytes rest held =
+    elim ((partial-parts element b bytes held).1) [
+      | inl comment ↦ beginning-flushed element (codes "!-") bytes rest (refl, (refl, tt)) comment
+      | inr name ↦ beginning-flushed element (slash ∷ element_name element) bytes rest (refl, name-no_less_than element) name
     ]
 
--- what is held is given out as soon as it is decided, and then what is settled of the piece
-pub settled-released : (element : Element) (held piece : List ℕ) (opens : Bool) → is_undecided element held ≡ true → is_undecided element (held ++ piece) ≡ false
+-- what is held is given out as soon as it is decided, and then what is decided of the piece
+pub decided-flushed : (element : Element) (held piece : List ℕ) (opens : Bool) → is_partial element held ≡ true → is_partial element (held ++ piece) ≡ false
     → (length held ≡ 0 → opens ≡ false) → (0 < length held → opens ≡ is_opening element (held ++ piece))
-    → settled_encoding element (held ++ piece) ≡ released opens held ++ settled_encoding element piece
-settled-released element [] piece opens undecided decided none some = rw (none refl) refl
-settled-released element (b ∷ held) piece opens undecided decided none some =
-    let later = (tail-released element b held piece undecided).0 in
+    → decided_encoding element (held ++ piece) ≡ flushed opens held ++ decided_encoding element piece
+decided-flushed element [] piece opens partial decided none some = rw (none refl) refl
+decided-flushed element (b ∷ held) piece opens partial decided none some =
+    let later = (tail-flushed element b held piece partial).0 in
     rw (some (omega arith))
     (rw decided
     (elim (cases_Bool (is_opening element (b ∷ (held ++ piece)))) [
-      | inl opening ↦ rw (opening, later, (undecided-parts element b held undecided).0) refl
+      | inl opening ↦ rw (opening, later, (partial-parts element b held partial).0) refl
       | inr plain ↦ rw (plain, later) refl
     ]))
 
-pub undecided_end-released : (element : Element) (held piece : List ℕ) → is_undecided element held ≡ true → is_undecided element (held ++ piece) ≡ false
-    → undecided_end element (held ++ piece) ≡ undecided_end element piece
-undecided_end-released element [] piece undecided decided = refl
-undecided_end-released element (b ∷ held) piece undecided decided = rw decided ((tail-released element b held piece undecided).1)
+pub partial_end-flushed : (element : Element) (held piece : List ℕ) → is_partial element held ≡ true → is_partial element (held ++ piece) ≡ false
+    → partial_end element (held ++ piece) ≡ partial_end element piece
+partial_end-flushed element [] piece partial decided = refl
+partial_end-flushed element (b ∷ held) piece partial decided = rw decided ((tail-flushed element b held piece partial).1)
 
 -- the first bytes decide, one more than can be held
-pub undecided-front : (element : Element) (text : List ℕ) → is_undecided element (take (longest_held + 1) text) ≡ true → take (longest_held + 1) text ≡ text
-undecided-front element text undecided =
+pub partial-front : (element : Element) (text : List ℕ) → is_partial element (take (longest_held + 1) text) ≡ true → take (longest_held + 1) text ≡ text
+partial-front element text partial =
     elim (cases_lt (longest_held) (length text)) [
-      | inl long ↦ absurd (omega (arith, undecided-short element (take (longest_held + 1) text) undecided, length-take-le (longest_held + 1) text (omega arith)))
+      | inl long ↦ absurd (omega (arith, partial-short element (take (longest_held + 1) text) partial, length-take-le (longest_held + 1) text (omega arith)))
       | inr short ↦ take_all (longest_held + 1) text (omega arith)
     ]
 
-pub decided-front : (element : Element) (text : List ℕ) → is_undecided element (take (longest_held + 1) text) ≡ false
-    → (is_undecided element text ≡ false) × (is_opening element text ≡ is_opening element (take (longest_held + 1) text))
+pub decided-front : (element : Element) (text : List ℕ) → is_partial element (take (longest_held + 1) text) ≡ false
+    → (is_partial element text ≡ false) × (is_opening element text ≡ is_opening element (take (longest_held + 1) text))
 decided-front element text decided = (
-  elim (cases_Bool (is_undecided element text)) [
-    | inl undecided ↦ absurd (cc (rw (take_all (longest_held + 1) text (omega (arith, undecided-short element text undecided))) at decided, undecided))
+  elim (cases_Bool (is_partial element text)) [
+    | inl partial ↦ absurd (cc (rw (take_all (longest_held + 1) text (omega (arith, partial-short element text partial))) at decided, partial))
     | inr is ↦ is
   ],
   ap (is_opening element) (sym (take-append-drop (longest_held + 1) text))
       ∙ is_opening-decided element (take (longest_held + 1) text) (drop (longest_held + 1) text) decided,
 )
 
--- a character begins where a text is undecided from there on
-pub undecided-boundary : (element : Element) (text : List ℕ) (place : ℕ) → place ≤ length text → is_undecided element (drop place text) ≡ true → IsCharBoundary text place
-undecided-boundary element text place within undecided =
-    IsCharBoundary-from_drop text place within (IsUtf8-from_ascii (drop place text) (undecided-ascii element (drop place text) undecided))
+-- a character begins where a text is partial from there on
+pub partial-boundary : (element : Element) (text : List ℕ) (place : ℕ) → place ≤ length text → is_partial element (drop place text) ≡ true → IsCharBoundary text place
+partial-boundary element text place within partial =
+    IsCharBoundary-from_drop text place within (IsUtf8-from_ascii (drop place text) (partial-ascii element (drop place text) partial))
 
 -- bytes that are decided are some
-pub decided-some : (element : Element) (bytes : List ℕ) → is_undecided element bytes ≡ false → 0 < length bytes
+pub decided-some : (element : Element) (bytes : List ℕ) → is_partial element bytes ≡ false → 0 < length bytes
 decided-some element [] decided = absurd (cc)
 decided-some element (b ∷ bytes) decided = omega arith
 
 -- what is given out with a piece, by the first bytes of what was held and of the piece
-pub released-front : (element : Element) (held piece front : List ℕ) (opens : Bool) → is_undecided element held ≡ true → front ≡ take (longest_held + 1) (held ++ piece)
-    → is_undecided element front ≡ false → (length held ≡ 0 → opens ≡ false) → (0 < length held → opens ≡ is_opening element front)
-    → (settled_encoding element (held ++ piece) ≡ released opens held ++ settled_encoding element piece) × (undecided_end element (held ++ piece) ≡ undecided_end element piece)
-released-front element held piece front opens undecided is decided none some =
+pub flushed-front : (element : Element) (held piece front : List ℕ) (opens : Bool) → is_partial element held ≡ true → front ≡ take (longest_held + 1) (held ++ piece)
+    → is_partial element front ≡ false → (length held ≡ 0 → opens ≡ false) → (0 < length held → opens ≡ is_opening element front)
+    → (decided_encoding element (held ++ piece) ≡ flushed opens held ++ decided_encoding element piece) × (partial_end element (held ++ piece) ≡ partial_end element piece)
+flushed-front element held piece front opens partial is decided none some =
     let decides = decided-front element (held ++ piece) (rw is at decided) in (
-      settled-released element held piece opens undecided decides.0 none (λ more. some more ∙ rw is (sym decides.1)),
-      undecided_end-released element held piece undecided decides.0,
+      decided-flushed element held piece opens partial decides.0 none (λ more. some more ∙ rw is (sym decides.1)),
+      partial_end-flushed element held piece partial decides.0,
     )
 
 -- all that is held is among the first bytes
-pub undecided_end-front : (element : Element) (text : List ℕ) → take (longest_held + 1) (undecided_end element text) ≡ undecided_end element text
-undecided_end-front element text =
-    take_all (longest_held + 1) (undecided_end element text) (omega (arith, undecided-short element (undecided_end element text) (undecided_end-undecided element text)))
+pub partial_end-front : (element : Element) (text : List ℕ) → take (longest_held + 1) (partial_end element text) ≡ partial_end element text
+partial_end-front element text =
+    take_all (longest_held + 1) (partial_end element text) (omega (arith, partial-short element (partial_end element text) (partial_end-partial element text)))

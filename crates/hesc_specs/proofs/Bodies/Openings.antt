@@ -1,4 +1,4 @@
--- Openings: bytes complete one exactly if their encoding does, and their decoding behind a byte that is no `<`.
+-- Openings: bytes complete one exactly if their encoding does, and their decoding after a byte that is no `<`.
 use Rattle.std.proofs.Common.{ℕ, ◌≡◌, ◌≤◌, Bool, true, false, ◌&&◌, ◌||◌, List, [], ◌∷◌, ◌==◌, refl, sym, ap, ap₂, ◌∙◌, arith, ne_eqb, inl, inr}
 use Rattle.std.proofs.lemmas.Bool.{cases_eq, and_parts, eqb-true}
 use Rattle.std.proofs.lemmas.Bool.Decides.{nat_tests}
@@ -69,7 +69,7 @@ completes_opening-encoding element bytes =
     (word-encoding element (slash ∷ element_name element) ends_name (refl, name-no_less_than element) (ends_name-encoding element) bytes)
     ∙ sym (completes_opening-words element bytes))
 
--- a word stands in a text exactly where it stands in the decoding, behind a byte that is no `<`
+-- a word stands in a text exactly where it stands in the decoding, after a byte that is no `<`
 word-decoding : (element : Element) (word : List ℕ) (follows : List ℕ → Bool) → HasNoLessThan word
     → ((before : ℕ) (bytes : List ℕ) → (before == less_than) ≡ false → follows (body_decoding_after element before bytes) ≡ follows bytes)
     → (before : ℕ) (bytes : List ℕ) → (before == less_than) ≡ false

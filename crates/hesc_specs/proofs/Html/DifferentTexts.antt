@@ -12,12 +12,12 @@ use Rattle.hesc_specs.specs.declared.classes.Class.{Class}
 use Rattle.hesc_specs.proofs.Text.HexDigits.{digit_value-hex_digit}
 use Rattle.hesc_specs.proofs.Html.Images.{in_class-ampersand, in_class_is_ascii, kept_is_other}
 
--- the number of the two hex digits behind an `x`
+-- the number of the two hex digits after an `x`
 hex_number : List ℕ → ℕ
 hex_number (x ∷ high ∷ low ∷ bytes) = digit_value high * 16 + digit_value low
 hex_number bytes = 0
 
--- the byte to which the bytes behind a `&` refer: by the first letter of a name, `a`, `l`, `g` or `q`, or by the number
+-- the byte to which the bytes after a `&` refer: by the first letter of a name, `a`, `l`, `g` or `q`, or by the number
 referred_byte : List ℕ → ℕ
 referred_byte [] = 0
 referred_byte (a ∷ bytes) =

@@ -33,7 +33,7 @@ named-short (row ∷ rows) name value short is =
     let parts = and_parts (is_short row) (are_short rows) short in
     first_row-short row name (value_of rows name) value (bytes_eq row.0 name) refl parts.0 (named-short rows name value parts.1) is
 
--- the number of a body is behind a `#` and has a digit
+-- the number of a body is after a `#` and has a digit
 number_behind_sign-some : (bytes : List ℕ) (n : ℕ) → number_behind_sign bytes ≡ Some n → 0 < length bytes
 number_behind_sign-some [] n is = cc
 number_behind_sign-some (b ∷ bytes) n is = omega arith

@@ -105,7 +105,7 @@ module _ (rows : List Row) where
     pub reached : (from at : ℕ) → IsFirstPlace is_start source from at → reference_changes rows source from ≡ reference_changes rows source at
     reached from at first = skipped from at first.ordered first.in_range first.before
 
-    -- behind the last byte there is nothing
+    -- after the last byte there is nothing
     pub none_at_end : (at : ℕ) → at ≡ length source → reference_changes rows source at ≡ []
     none_at_end at is_end = rw (is_end, drop-length source) refl
 

@@ -33,7 +33,7 @@ row_among rows (suc n) i h below =
     (λ (other : i ≢ n). row_among rows n i (or_else-first (faults_below rows n) (row_fault rows n) h) (omega arith))
     (cases_eq i n)
 
--- the fault of a row behind faultless ones is the first, whatever comes later
+-- the fault of a row after faultless ones is the first, whatever comes later
 faults_stay : (rows : List Row) (i n : ℕ) (fault : TableFault) → faults_below rows i ≡ None → row_fault rows i ≡ Some fault → faults_below rows (i + suc n) ≡ Some fault
 faults_stay rows i zero fault none here = let next : i + 1 ≡ suc i = omega arith in rw (next, none, here) refl
 faults_stay rows i (suc n) fault none here =

@@ -12,7 +12,7 @@ use Rattle.hesc_specs.specs.declared.quotes.Quotes.{Quotes}
 use Rattle.hesc_specs.proofs.Strings.EscapeEnds.{EndsWithin, escape-ends}
 
 module _ (element : Element) (quotes : Quotes) where
-  -- what is read behind the first byte of a token, where so many of its bytes are still to come and all of them are there
+  -- what is read after the first byte of a token, where so many of its bytes are still to come and all of them are there
   abbrev Fits : List ℕ → (ℕ → List ℕ) → Type 0
   Fits bytes go_on = (more : ℕ) → more ≤ length bytes → length (go_on more) + more ≤ length bytes
 

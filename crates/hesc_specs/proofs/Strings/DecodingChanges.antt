@@ -47,7 +47,7 @@ module _ (element : Element) (quotes : Quotes) (source : List ℕ) where
   pub no-string_decoding_changes : (at : ℕ) → length source ≤ at → string_decoding_changes element quotes source at ≡ []
   no-string_decoding_changes at past = rw (drop_all at source past) refl
 
-  -- behind the bytes of a token the cut goes on as if it began there
+  -- after the bytes of a token the cut goes on as if it began there
   behind-token : (more at : ℕ) → string_decoding_changes_of element quotes at more (is_behind_less source at) (drop at source) ≡ string_decoding_changes element quotes source (at + more)
   behind-token zero at = rw add-zero refl
   behind-token (suc more) at =
@@ -72,7 +72,7 @@ module _ (element : Element) (quotes : Quotes) (source : List ℕ) where
   nothing-between : (from at : ℕ) → at ≤ from → slice_range source from at ≡ []
   nothing-between from at past = let nothing : at - from ≡ 0 = omega arith in rw nothing refl
 
-  -- what is behind the first byte of a token, from the end of the last change on
+  -- what is after the first byte of a token, from the end of the last change on
   abbrev GoesOn : ℕ → Bool → List ℕ → Type 0
   GoesOn at behind_less bytes = (from more : ℕ) → from ≤ at + more → (0 < more → from ≡ at + more)
       → applied source from (string_decoding_changes_of element quotes at more behind_less bytes) ≡ slice_range source from at ++ string_decoding_after element quotes more behind_less bytes

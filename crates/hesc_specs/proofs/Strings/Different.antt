@@ -41,7 +41,7 @@ separator : List ℕ → ℕ
 separator (a ∷ b ∷ c ∷ last ∷ bytes) = if last == 56 then line_separator else paragraph_separator
 separator bytes = 0
 
--- the character that an escape stands for, by the bytes behind its `\`: a mark, two hex digits, in a script behind `x`, or behind `u` a separator
+-- the character that an escape stands for, by the bytes after its `\`: a mark, two hex digits, in a script after `x`, or after `u` a separator
 escaped_character : Element → List ℕ → ℕ
 escaped_character element [] = 0
 escaped_character Script (b ∷ bytes) = if b == 117 then separator bytes else (if b == lower_x then hex_number bytes else b)

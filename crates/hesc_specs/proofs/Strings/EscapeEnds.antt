@@ -1,4 +1,4 @@
--- Where an escape of a string ends: within the text, behind a byte of ASCII. Its character has no more bytes than it.
+-- Where an escape of a string ends: within the text, after a byte of ASCII. Its character has no more bytes than it.
 use Rattle.std.proofs.Common.{◌≡◌, ℕ, ◌+◌, ◌-◌, ◌≤◌, ◌<◌, Bool, true, false, ◌&&◌, ◌||◌, List, [], ◌∷◌, ◌++◌, ◌==◌, Some, None, length, drop, codes, refl, ap, arith, if◌then◌else◌}
 use Rattle.std.specs.Prelude.{encode_utf8, slice_index}
 use Rattle.std.specs.Char.{to_ascii_lowercase}
@@ -16,7 +16,7 @@ use Rattle.hesc_specs.specs.declared.quotes.Quotes.{Quotes}
 use Rattle.hesc_specs.specs.declared.quotes.Quotes.TheVariants.{Single, Double, Both}
 use Rattle.hesc_specs.proofs.Strings.CharacterBytes.{encode-line_separator, encode-paragraph_separator}
 
--- the bytes of an escape behind its `\`: there is one, all of them are there, and the last is of ASCII
+-- the bytes of an escape after its `\`: there is one, all of them are there, and the last is of ASCII
 pub record EndsWithin (bytes : List ℕ) (more character : ℕ) : Type 0 where
   pub some : 0 < more
   pub within : more ≤ length bytes

@@ -17,7 +17,7 @@ body_encoding_changes_of element at (b ∷ bytes) =
 abbrev pub body_encoding_changes : Element → List ℕ → ℕ → List Change
 body_encoding_changes element source from = body_encoding_changes_of element from (drop from source)
 
--- a body decoder's changes of the bytes that stand at a place and after it, behind another byte: the second byte of each escaped opening is dropped
+-- a body decoder's changes of the bytes that stand at a place and after it, after another byte: the second byte of each escaped opening is dropped
 abbrev pub body_decoding_changes_of : Element → ℕ → ℕ → List ℕ → List Change
 body_decoding_changes_of element before at [] = []
 body_decoding_changes_of element before at (b ∷ bytes) =

@@ -10,7 +10,7 @@ abbrev pub ends_name : List ℕ → Bool
 ends_name [] = true
 ends_name (b ∷ bytes) = b == slash || b == greater_than || (nat_le 9 b && nat_le b 13) || (nat_le 28 b && nat_le b 32)
 
--- the bytes behind a `<` complete an opening: `!--`, or `/` and the element's name in any ASCII case, which ends there
+-- the bytes after a `<` complete an opening: `!--`, or `/` and the element's name in any ASCII case, which ends there
 abbrev pub completes_opening : Element → List ℕ → Bool
 completes_opening element bytes = begins (codes "!--") bytes || begins_in_any_case (slash ∷ element_name element) ends_name bytes
 

@@ -27,7 +27,7 @@ abbrev pub numeral : ℕ → List ℕ → Option ℕ
 numeral base digits =
     if not (length digits == 0) && list_all (λ d. is_digit d base) digits then Some (digits_value base digits) else None
 
--- the number behind a `#`: hex digits behind an `x` of either case, or decimal digits
+-- the number after a `#`: hex digits after an `x` of either case, or decimal digits
 abbrev pub number_behind_sign : List ℕ → Option ℕ
 number_behind_sign [] = None
 number_behind_sign (b ∷ bytes) = if b == lower_x || b == upper_x then numeral 16 bytes else numeral 10 (b ∷ bytes)

@@ -8,7 +8,7 @@ use Rattle.hesc_specs.specs.Strings.Tokens.{Escape, escape_at}
 use Rattle.hesc_specs.specs.declared.elements.Element.{Element}
 use Rattle.hesc_specs.specs.declared.quotes.Quotes.{Quotes}
 
--- the place behind a character
+-- the place after a character
 abbrev pub behind : ℕ → ℕ → ℕ
 behind place c = place + length (encode_utf8 c)
 

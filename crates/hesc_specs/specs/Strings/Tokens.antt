@@ -10,7 +10,7 @@ use Rattle.hesc_specs.specs.declared.elements.Element.TheVariants.{Script, Style
 use Rattle.hesc_specs.specs.declared.quotes.Quotes.{Quotes}
 use Rattle.hesc_specs.specs.declared.quotes.Quotes.TheVariants.{Single, Double, Both}
 
--- An escape: how many bytes it has behind its `\`, and the character that it stands for.
+-- An escape: how many bytes it has after its `\`, and the character that it stands for.
 abbrev pub Escape : Type 0
 Escape = Option (ℕ × ℕ)
 
@@ -62,13 +62,13 @@ abbrev pub ends_name_within : List ℕ → Bool
 ends_name_within [] = false
 ends_name_within (b ∷ bytes) = ends_name (b ∷ bytes)
 
--- behind a `<` also `\!` before `--`, and `\/` before the element's name in any ASCII case, which ends there
+-- after a `<` also `\!` before `--`, and `\/` before the element's name in any ASCII case, which ends there
 abbrev pub opening_escape : Element → List ℕ → Escape
 opening_escape element bytes =
     or_else (when (begins (codes "!--") bytes) 1 33)
     (when (begins_in_any_case (slash ∷ element_name element) ends_name_within bytes) 1 slash)
 
--- the escape that a `\` before these bytes begins, if any; behind_less tells that the byte of the source right before the `\` is `<`
+-- the escape that a `\` before these bytes begins, if any; after_less tells that the byte of the source right before the `\` is `<`
 abbrev pub escape : Element → Quotes → Bool → List ℕ → Escape
 escape element quotes behind_less bytes =
     or_else (mark_escape quotes bytes) (or_else (number_escape element bytes) (or_else (separator_escape element bytes)

@@ -3,7 +3,7 @@ use Rattle.std.specs.Prelude.{ℕ, Bool, false, ◌&&◌, ◌||◌, not, ◌==�
 use Rattle.hesc_specs.specs.Text.Classes.{in_class, separator_lead}
 use Rattle.hesc_specs.specs.declared.classes.Class.{Class}
 
--- the two bytes that make U+2028 or U+2029 behind their first byte
+-- the two bytes that make U+2028 or U+2029 after their first byte
 abbrev pub completes_separator : List ℕ → Bool
 completes_separator [] = false
 completes_separator (b ∷ []) = false

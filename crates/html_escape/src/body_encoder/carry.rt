@@ -7,32 +7,32 @@ pub(crate) const MOST_BYTES: usize = 9;
 
 /// At most nine bytes.
 #[derive(Clone, Copy)]
-pub(crate) struct FewBytes {
+pub(crate) struct Carry {
     bytes: [u8; MOST_BYTES],
     count: usize,
     ghost few: { count ≤ 9 },
 }
 
-impl FewBytes {
+impl Carry {
     ghost use Rattle.std.specs.Prelude.{◌≡◌, ◌≤◌, ◌++◌, length, take};
-    ghost use Rattle.html_escape.specs.Held.{few_bytes};
+    ghost use Rattle.html_escape.specs.Held.{carry_bytes};
 
     /// The first nine bytes of two parts, or all where there are fewer.
-    pub fn first_of(one: &[u8], other: &[u8]) -> FewBytes
+    pub fn first_of(one: &[u8], other: &[u8]) -> Carry
         requires { length one.now ≤ 9 }
-        ensures { few_bytes result ≡ take 9 (one.now ++ other.now) }
+        ensures { carry_bytes result ≡ take 9 (one.now ++ other.now) }
     {
         let mut bytes = [0; MOST_BYTES];
         bytes[..one.len()].copy_from_slice(one);
         let more = &other[..other.len().min(MOST_BYTES - one.len())];
         let count = one.len() + more.len();
         bytes[one.len()..count].copy_from_slice(more);
-        FewBytes { bytes, count }
+        Carry { bytes, count }
     }
 
     /// The bytes.
     pub fn as_slice(&self) -> &[u8]
-        ensures { result.now ≡ few_bytes self.now }
+        ensures { result.now ≡ carry_bytes self.now }
     {
         &self.bytes[..self.count]
     }

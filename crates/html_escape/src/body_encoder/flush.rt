@@ -1,10 +1,10 @@
-//! What a session held until a piece decided about it, and what is settled of the piece, as parts.
+//! What a session held until a piece decided about it, and what is decided of the piece, as parts.
 ghost use Rattle.std.specs.Prelude.{◌≡◌, ◌≤◌, ◌<◌, ◌+◌, false, ◌++◌, length, IsOk, IsTrue, OnOk};
 ghost use Rattle.std.specs.Str.{IsAscii};
 ghost use Rattle.hesc_specs.specs.Bodies.Openings.{is_opening};
-ghost use Rattle.hesc_specs.specs.Bodies.Sessions.{is_undecided, released, settled_encoding};
+ghost use Rattle.hesc_specs.specs.Bodies.Sessions.{is_partial, flushed, decided_encoding};
 
-use crate::body_encoder::decided::EncodeSettled;
+use crate::body_encoder::decided::EncodeDecided;
 use hesc_core::forms::Parts;
 use hesc_core::openings::first_opening;
 use hesc_core::{Element, Sink, run};
@@ -12,7 +12,7 @@ use hesc_core::{Element, Sink, run};
 /// Whether an opening begins with what is held, which the first bytes of it and of what follows
 /// decide.
 pub(crate) fn is_opened(element: Element, held: &[u8], front: &[u8]) -> bool
-    requires { is_undecided element front.now ≡ false }
+    requires { is_partial element front.now ≡ false }
     ensures none { length held.now ≡ 0 → result ≡ false }
     ensures some { 0 < length held.now → result ≡ is_opening element front.now }
 {
@@ -22,10 +22,10 @@ pub(crate) fn is_opened(element: Element, held: &[u8], front: &[u8]) -> bool
     first_opening(element, front, 0) == 0
 }
 
-/// What is held, with a `\` after its `<` where it begins an opening, and then what is settled of
+/// What is held, with a `\` after its `<` where it begins an opening, and then what is decided of
 /// the piece.
 #[derive(Drop)]
-pub(crate) struct Released<'p> {
+pub(crate) struct Flushed<'p> {
     pub(crate) element: Element,
     pub(crate) held: &'p str,
     pub(crate) opens: bool,
@@ -34,24 +34,24 @@ pub(crate) struct Released<'p> {
     ghost ascii: { IsAscii held.now },
 }
 
-impl Parts for Released<'_> {
+impl Parts for Flushed<'_> {
     ghost text = { λ parts.
-        released parts.opens parts.held.now ++ settled_encoding parts.element parts.piece.now };
+        flushed parts.opens parts.held.now ++ decided_encoding parts.element parts.piece.now };
 
     fn put_into<S: Sink>(&self, sink: &mut S) -> Result<(), S::Fault> {
         put_held(self.held, self.opens, sink)?;
-        run(&EncodeSettled(self.element), self.piece, sink)
+        run(&EncodeDecided(self.element), self.piece, sink)
     }
 }
 
 fn put_held<S: Sink>(held: &str, opens: bool, sink: &mut S) -> Result<(), S::Fault>
     requires some { IsTrue opens → 0 < length held.now }
     requires ascii { IsAscii held.now }
-    ensures ok_taken { OnOk result (S.taken sink.new ≡ S.taken sink.old ++ released opens held.now) }
+    ensures ok_taken { OnOk result (S.taken sink.new ≡ S.taken sink.old ++ flushed opens held.now) }
     ensures ok_failures { OnOk result (S.failures sink.new ≡ S.failures sink.old) }
     ensures room { OnOk result
-        (S.room sink.old ≤ S.room sink.new + length (released opens held.now)) }
-    ensures fits { length (released opens held.now) ≤ S.room sink.old → IsOk result }
+        (S.room sink.old ≤ S.room sink.new + length (flushed opens held.now)) }
+    ensures fits { length (flushed opens held.now) ≤ S.room sink.old → IsOk result }
     ensures same_reference { S.reference sink.new ≡ S.reference sink.old }
     ensures same_before { S.before sink.new ≡ S.before sink.old }
 {

@@ -4,13 +4,13 @@ ghost use Rattle.std.specs.Prelude.{◌≡◌, ◌≤◌, true, [], ◌++◌, le
 ghost use Rattle.std.specs.Borrow.{sem};
 ghost use Rattle.std.specs.String.{string_bytes};
 ghost use Rattle.hesc_specs.specs.Bodies.Encoding.{body_encoding};
-ghost use Rattle.hesc_specs.specs.Bodies.Sessions.{IsStep, is_undecided as undecided, undecided_end};
+ghost use Rattle.hesc_specs.specs.Bodies.Sessions.{IsStep, is_partial as partial, partial_end};
 ghost use Rattle.hesc_engine.specs.Forms.{AnswersPart, Appended, StringAppended, string_room};
-ghost use Rattle.html_escape.specs.Held.{few_bytes};
+ghost use Rattle.html_escape.specs.Held.{carry_bytes};
 
-use crate::body_encoder::carry::FewBytes;
-use crate::body_encoder::flush::{Released, is_opened};
-use crate::body_encoder::partial::{first_undecided, is_undecided};
+use crate::body_encoder::carry::Carry;
+use crate::body_encoder::flush::{Flushed, is_opened};
+use crate::body_encoder::partial::{first_partial, is_partial};
 use crate::encoder::Encoder;
 use hesc_core::Element;
 use hesc_core::forms::{append_parts, append_to_string};
@@ -25,8 +25,8 @@ use std::str;
 #[derive(Drop)]
 pub struct BodyEncoder {
     kind: Element,
-    held: FewBytes,
-    pub ghost undecided: { undecided kind (few_bytes held) ≡ true },
+    held: Carry,
+    pub ghost partial: { partial kind (carry_bytes held) ≡ true },
 }
 
 impl BodyEncoder {
@@ -39,11 +39,11 @@ impl BodyEncoder {
     {
         BodyEncoder {
             kind,
-            held: FewBytes::first_of(b"", b""),
+            held: Carry::first_of(b"", b""),
         }
     }
 
-    /// Appends what is settled of the body with this piece, and answers that part. On a refusal the
+    /// Appends what is decided of the body with this piece, and answers that part. On a refusal the
     /// session and `output` are as they were, and the call can be made again.
     pub fn push<'o, A: Allocator>(
         &mut self,
@@ -57,7 +57,7 @@ impl BodyEncoder {
         ensures step { IfOk result (λ part. IsStep (kind_of self.old)
             (held_by self.old) piece.now (held_by self.new) part.now) }
         ensures held { OnOk result
-            (held_by self.new ≡ undecided_end (kind_of self.old) (held_by self.old ++ piece.now)) }
+            (held_by self.new ≡ partial_end (kind_of self.old) (held_by self.old ++ piece.now)) }
         ensures few { length (held_by self.new) ≤ 8 }
         ensures kind { kind_of self.new ≡ kind_of self.old }
         ensures refused { OnErr result (self.new ≡ self.old) }
@@ -99,27 +99,27 @@ impl BodyEncoder {
         ensures step { OnOk result (IsStep (kind_of self.old)
             (held_by self.old) piece.now (held_by self.new) (added_with self.old piece.now)) }
         ensures held { OnOk result
-            (held_by self.new ≡ undecided_end (kind_of self.old) (held_by self.old ++ piece.now)) }
+            (held_by self.new ≡ partial_end (kind_of self.old) (held_by self.old ++ piece.now)) }
         ensures few { length (held_by self.new) ≤ 8 }
         ensures kind { kind_of self.new ≡ kind_of self.old }
         ensures refused { OnErr result (self.new ≡ self.old) }
     {
-        let front = FewBytes::first_of(self.held.as_slice(), piece.as_bytes());
-        if is_undecided(self.kind, front.as_slice()) {
+        let front = Carry::first_of(self.held.as_slice(), piece.as_bytes());
+        if is_partial(self.kind, front.as_slice()) {
             self.held = front;
             return Ok(());
         }
         let opens = is_opened(self.kind, self.held.as_slice(), front.as_slice());
-        let released = Released {
+        let flushed = Flushed {
             element: self.kind,
             held: self.held_text(),
             opens,
             piece,
         };
-        append_parts(output, &released)?;
+        append_parts(output, &flushed)?;
         let bytes = piece.as_bytes();
-        let end = first_undecided(self.kind, bytes, 0);
-        self.held = FewBytes::first_of(b"", &bytes[end..]);
+        let end = first_partial(self.kind, bytes, 0);
+        self.held = Carry::first_of(b"", &bytes[end..]);
         Ok(())
     }
 
@@ -139,14 +139,14 @@ impl BodyEncoder {
             Element::Style => Encoder::Style,
         };
         append_to_string(output, &encoder, self.held_text())?;
-        self.held = FewBytes::first_of(b"", b"");
+        self.held = Carry::first_of(b"", b"");
         Ok(())
     }
 
     fn held_text(&self) -> &str
         ensures { result.now ≡ held_by self.now }
     {
-        // What is undecided is ASCII.
+        // What is partial is ASCII.
         unsafe { str::from_utf8_unchecked(self.held.as_slice()) }
     }
 
@@ -163,7 +163,7 @@ impl BodyEncoder {
         ensures step { IfOk result (λ part. IsStep (kind_of session.old)
             (held_by session.old) piece.now (held_by session.new) part.now) }
         ensures held { OnOk result
-            (held_by session.new ≡ undecided_end (kind_of session.old) (held_by session.old ++ piece.now)) }
+            (held_by session.new ≡ partial_end (kind_of session.old) (held_by session.old ++ piece.now)) }
         ensures few { length (held_by session.new) ≤ 8 }
         ensures kind { kind_of session.new ≡ kind_of session.old }
         ensures refused { OnErr result (session.new ≡ session.old) }

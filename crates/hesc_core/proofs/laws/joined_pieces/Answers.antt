@@ -1,5 +1,5 @@
 use Rattle.std.specs.Prelude.{map}
-use Rattle.hesc_specs.proofs.Bodies.Settled.{session-joined}
+use Rattle.hesc_specs.proofs.Bodies.Decided.{session-joined}
 use Rattle.hesc_core.proofs.laws.joined_pieces.Goals as goal
 
 pub returns : goal.returns

@@ -1,5 +1,5 @@
 use Rattle.std.specs.Prelude.{map}
-use Rattle.hesc_specs.proofs.Bodies.Settled.{text_session-joined}
+use Rattle.hesc_specs.proofs.Bodies.Decided.{text_session-joined}
 use Rattle.hesc_core.proofs.laws.joined_text_pieces.Goals as goal
 
 pub returns : goal.returns

@@ -11,7 +11,7 @@ use crate::table::EntityTable;
 use hesc_engine::found::Replacement;
 use hesc_engine::small_text::SmallText;
 
-/// The number right behind that of the last character, for which any greater one stands.
+/// The number right after that of the last character, for which any greater one stands.
 const PAST_CHARACTERS: u32 = 0x110000;
 
 /// The value of a body, if it has one.

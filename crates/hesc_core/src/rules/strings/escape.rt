@@ -54,7 +54,7 @@ pub fn next_string_escape(
     })
 }
 
-// Whether the byte is written behind a `\`.
+// Whether the byte is written after a `\`.
 #[inline(always)]
 fn is_mark(byte: u8) -> bool
     ensures { result ≡ is_mark_of byte }

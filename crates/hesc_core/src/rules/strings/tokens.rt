@@ -1,4 +1,4 @@
-//! The escapes among the tokens of an encoded string: what a `\` and the bytes behind it stand for.
+//! The escapes among the tokens of an encoded string: what a `\` and the bytes after it stand for.
 ghost use Rattle.std.specs.Prelude.{◌≡◌, ◌≤◌, ◌<◌, IsTrue, length};
 ghost use Rattle.hesc_specs.specs.Text.Elements.{element_name};
 ghost use Rattle.hesc_specs.specs.Strings.Encoding.{is_quote as among};
@@ -20,8 +20,8 @@ ghost use Rattle.hesc_specs.specs.Text.Words.{begins_in_any_case};
 use hesc_scan::openings::{is_named, name_of};
 use hesc_specs::{Element, Quotes};
 
-/// The escape that a `\` before these bytes begins, if any: how many bytes it has behind the `\`,
-/// and the character that it stands for. `behind_less` tells that a `<` stands right before the
+/// The escape that a `\` before these bytes begins, if any: how many bytes it has after the `\`,
+/// and the character that it stands for. `after_less` tells that a `<` stands right before the
 /// `\`.
 #[inline(always)]
 pub fn escape(

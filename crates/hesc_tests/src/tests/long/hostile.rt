@@ -196,7 +196,7 @@ fn every_operation_ends(rt: HostRuntime) -> Result<(), Fail> {
     Ok(())
 }
 
-// A place, the text behind its opening mark, its value, and the closing mark.
+// A place, the text after its opening mark, its value, and the closing mark.
 const READ: [(Place, Long, Long, &str); 8] = [
     (
         Place::Text,

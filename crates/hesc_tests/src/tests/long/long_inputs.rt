@@ -17,7 +17,7 @@ use std::test::Fail;
 
 const MEGABYTE: usize = 1 << 20;
 
-// A body of which much is undecided for a while.
+// A body of which much is partial for a while.
 const BODY: &str = "</scrip</script </styl</style>x<!-<!--\n";
 
 #[test]

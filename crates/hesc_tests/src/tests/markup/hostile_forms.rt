@@ -82,7 +82,7 @@ fn a_last_name_that_is_the_first_is_a_fault(rt: HostRuntime) -> Result<(), Fail>
     Ok(())
 }
 
-// A part, and how often it makes about a megabyte behind the beginning of a tag.
+// A part, and how often it makes about a megabyte after the beginning of a tag.
 const UNREAD: [(&str, usize); 4] = [
     (" a=b", 250_000),
     ("<input a", 125_000),

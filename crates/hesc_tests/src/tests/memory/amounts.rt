@@ -103,7 +103,7 @@ pub fn asks_little(alloc: Global, of: Call<'_>, text: &str) -> Result<bool, Allo
     Ok(true)
 }
 
-// What is asked for behind what is held.
+// What is asked for after what is held.
 fn asked_by_string(alloc: Global, of: Call<'_>, text: &str, held: &str) -> Result<u64, AllocError> {
     let heap = Refusing::new(alloc, 0);
     let mut output = String::from_str(&heap, held)?;

@@ -46,7 +46,7 @@ fn is_held(alloc: Global, of: Call<'_>, row: Row) -> Result<bool, AllocError> {
     Ok(cow.as_str() == made && is_borrowed == (held == Held::Borrowed))
 }
 
-// The string form answers what it added, behind what stood there.
+// The string form answers what it added, after what stood there.
 fn is_in_string(alloc: Global, of: Call<'_>, row: Row) -> Result<bool, AllocError> {
     let (text, made, _) = row;
     let mut output = String::from_str(alloc, "x")?;

@@ -220,7 +220,7 @@ pub fn is_session(alloc: Global, kind: BodyKind, wanted: Session) -> Result<bool
 }
 
 #[test]
-fn each_call_adds_what_is_settled(rt: HostRuntime) -> Result<(), Fail> {
+fn each_call_adds_what_is_decided(rt: HostRuntime) -> Result<(), Fail> {
     for kind in KINDS {
         for wanted in sessions(kind) {
             let is_right = is_session(rt.alloc(), kind, *wanted)?;

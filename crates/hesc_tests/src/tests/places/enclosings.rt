@@ -54,7 +54,7 @@ pub fn enclosed(alloc: Global, place: Place, made: &str) -> Result<String, Alloc
     Ok(whole)
 }
 
-// What is read of a text behind the opening mark: the text, with U+FFFD for NUL where the encoder
+// What is read of a text after the opening mark: the text, with U+FFFD for NUL where the encoder
 // writes it so; a body reads as its encoded text.
 fn read_back(alloc: Global, encoder: Encoder, row: Row) -> Result<String, AllocError> {
     let (text, made, _) = row;

@@ -1,4 +1,4 @@
-//! Bytes behind the opening marks of places, and what is read from them.
+//! Bytes after the opening marks of places, and what is read from them.
 use hesc_places::{End, Place};
 
 /// Bytes that have a reading, its value, and its end.

@@ -5,7 +5,7 @@ use std::alloc::{AllocError, Allocator, Global};
 use std::env::Args;
 use std::io;
 
-/// The program's name and the words behind it, what standard input has, and what has to come of
+/// The program's name and the words after it, what standard input has, and what has to come of
 /// them: the status, what is written, and the line on the error stream.
 #[derive(Clone, Copy)]
 pub struct Serving<'s> {

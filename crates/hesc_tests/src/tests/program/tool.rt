@@ -68,7 +68,7 @@ const RUNS: [Row; 17] = [
     (&["page", "a", "b"], b"a", Err(Fault::Usage), b""),
 ];
 
-// A page, and a byte behind it that is no text.
+// A page, and a byte after it that is no text.
 const PAGE: &[u8] = b"<input value=Hello&#x20;world&#x21; \
 placeholder=\"The default value is &quot;Hello world!&quot;.\"/>\
 <script>alert('\\x3Cscript>\\'s end tag is \\x3C/script>');</script>\xFF";

@@ -7,7 +7,7 @@ use std::io::ErrorKind;
 use std::process::Abort;
 use std::test::Fail;
 
-// The program's name and the words behind it, the input, and what is written.
+// The program's name and the words after it, the input, and what is written.
 type Success = (&'static [&'static str], &'static [u8], &'static [u8]);
 
 const SUCCESSES: [Success; 8] = [
@@ -46,7 +46,7 @@ fn success(row: Success) -> Serving<'static> {
     }
 }
 
-// The program's name and the words behind it, the input, the status, and the line.
+// The program's name and the words after it, the input, the status, and the line.
 type Refusal = (&'static [&'static str], &'static [u8], u8, &'static str);
 
 const USAGE: &str = "usage: hesc COMMAND [ARGUMENT..]\n";

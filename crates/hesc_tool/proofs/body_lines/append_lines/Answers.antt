@@ -4,7 +4,7 @@ use Rattle.std.proofs.lemmas.Str.{IsCharBoundary-start}
 use Rattle.std.specs.Prelude.{slice_range}
 use Rattle.std.specs.String.{string_bytes}
 use Rattle.hesc_specs.specs.Bodies.Encoding.{body_encoding}
-use Rattle.hesc_specs.specs.Bodies.Sessions.{settled_encoding}
+use Rattle.hesc_specs.specs.Bodies.Sessions.{decided_encoding}
 use Rattle.hesc_specs.specs.declared.elements.Element.{Element}
 use Rattle.html_escape.specs.BodyEncoders.{held_by}
 use Rattle.hesc_tool.proofs.body_lines.append_lines.Goals as goal
@@ -35,6 +35,6 @@ pushing-preserved g c =
       boundary = c.end_of_line-end.ensures.boundary;
       kind = pushing.kind ∙ before.kind;
       added = pushed c.args.kind (string_bytes c.args.output.now) (string_bytes c.pushing.output) (string_bytes c.append_piece.new.output) (held_by c.pushing.session) (held_by c.append_piece.new.self)
-          (settled_encoding c.args.kind (held_by c.pushing.session ++ c.range.result.now)) c.range.result.now c.args.text.now c.pushing.from c.end_of_line-end.result (omega (arith, c.end_of_line-end.ensures.after))
+          (decided_encoding c.args.kind (held_by c.pushing.session ++ c.range.result.now)) c.range.result.now c.args.text.now c.pushing.from c.end_of_line-end.result (omega (arith, c.end_of_line-end.ensures.after))
           c.range.ensures.value (rw before.kind at pushing.appended) (rw before.kind at pushing.step.0) before.added;
     }

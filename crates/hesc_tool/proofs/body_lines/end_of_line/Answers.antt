@@ -4,7 +4,7 @@ use Rattle.std.proofs.lemmas.Str.{IsCharBoundary-after_ascii}
 use Rattle.hesc_specs.specs.Text.Ascii.{line_feed}
 use Rattle.hesc_tool.proofs.body_lines.end_of_line.Goals as goal
 
--- behind a line feed a character begins
+-- after a line feed a character begins
 pub returns-clause-boundary : goal.returns-clause-boundary
 returns-clause-boundary c =
     let text = c.args.text.now in

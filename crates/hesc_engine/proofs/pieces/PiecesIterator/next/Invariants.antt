@@ -1,6 +1,6 @@
 use Rattle.std.proofs.Common.{◌≡◌}
 use Rattle.std.specs.Prelude.{None}
-use Rattle.hesc_engine.specs.Pieces.{parts_left, turns_left}
+use Rattle.hesc_engine.specs.Pieces.{parts_left, segments_left}
 use Rattle.hesc_engine.proofs.pieces.PiecesIterator.next.Given as goal
 
 abbrev pub invariant-finding : goal.invariant-finding
@@ -10,4 +10,4 @@ invariant-finding g l = record {
 }
 
 abbrev pub decreases-finding : goal.decreases-finding
-decreases-finding g l = turns_left l.self
+decreases-finding g l = segments_left l.self

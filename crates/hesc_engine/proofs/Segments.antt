@@ -1,9 +1,9 @@
--- The parts that a turn stands for, one after another.
+-- The parts that a segment stands for, one after another.
 use Rattle.std.proofs.Common.{◌≡◌, ℕ, List, [], ◌∷◌, ◌++◌, refl, sym, ◌∙◌, ap, append_assoc}
 use Rattle.hesc_specs.specs.Text.Parts.{Part, joined, renewed}
-use Rattle.hesc_engine.specs.Pieces.{kept_unless_empty, stretch_of, turn_bytes}
+use Rattle.hesc_engine.specs.Pieces.{kept_unless_empty, stretch_of, segment_bytes}
 use Rattle.hesc_engine.specs.Text.{replacement_bytes}
-use Rattle.hesc_engine.specs.declared.turn.Turn.{Turn}
+use Rattle.hesc_engine.specs.declared.segment.Segment.{Segment}
 
 joined-renewed : (new : List ℕ) (later : List Part) → joined (renewed new ++ later) ≡ new ++ joined later
 joined-renewed [] later = refl
@@ -14,5 +14,5 @@ joined-parts start [] new later = joined-renewed new later
 joined-parts start (b ∷ bytes) new later =
     ap (λ (rest : List ℕ). (b ∷ bytes) ++ rest) (joined-renewed new later) ∙ sym (append_assoc (b ∷ bytes) new (joined later))
 
-pub joined-turn : (turn : Turn) (later : List Part) → joined (stretch_of turn ++ (renewed (replacement_bytes turn.new) ++ later)) ≡ turn_bytes turn ++ joined later
-joined-turn turn later = joined-parts turn.start turn.kept.now (replacement_bytes turn.new) later
+pub joined-segment : (segment : Segment) (later : List Part) → joined (stretch_of segment ++ (renewed (replacement_bytes segment.new) ++ later)) ≡ segment_bytes segment ++ joined later
+joined-segment segment later = joined-parts segment.start segment.kept.now (replacement_bytes segment.new) later

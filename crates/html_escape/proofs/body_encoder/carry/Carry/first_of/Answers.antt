@@ -2,7 +2,7 @@ use Rattle.std.proofs.Common.{◌≡◌, ◌+◌, ◌-◌, ◌++◌, List, ℕ, 
 use Rattle.std.proofs.lemmas.List.{take_min}
 use Rattle.std.proofs.lemmas.Slice.{take-put_mid}
 use Rattle.std.proofs.Math.Seq.{take-append_seam, take-append-add}
-use Rattle.html_escape.proofs.body_encoder.carry.FewBytes.first_of.Goals as goal
+use Rattle.html_escape.proofs.body_encoder.carry.Carry.first_of.Goals as goal
 
 pub returns : goal.returns
 returns c =

@@ -1,4 +1,4 @@
--- What is settled of a body and what is undecided: whatever follows, nothing is lost of the encoding.
+-- What is decided of a body and what is partial: whatever follows, nothing is lost of the encoding.
 use Rattle.std.proofs.Common.{ℕ, ◌≡◌, Bool, true, false, ◌&&◌, ◌||◌, List, [], ◌∷◌, ◌++◌, ◌==◌, refl, sym, ap, ap₂, ◌∙◌, append_assoc, inl, inr}
 use Rattle.std.proofs.lemmas.Bool.{cases_Bool, or_parts}
 use Rattle.std.proofs.lemmas.List.{append-nil}
@@ -11,7 +11,7 @@ use Rattle.hesc_specs.specs.Text.Ascii.{slash, less_than}
 use Rattle.hesc_specs.specs.Bodies.Encoding.{body_encoding}
 use Rattle.hesc_specs.specs.Text.Elements.{element_name}
 use Rattle.hesc_specs.specs.Bodies.Openings.{ends_name, completes_opening, is_opening}
-use Rattle.hesc_specs.specs.Bodies.Sessions.{is_undecided, undecided_end, settled_encoding, IsStep, IsTextStep, IsSession, IsTextSession}
+use Rattle.hesc_specs.specs.Bodies.Sessions.{is_partial, partial_end, decided_encoding, IsStep, IsTextStep, IsSession, IsTextSession}
 use Rattle.hesc_specs.specs.Text.Words.{begins_in_any_case, is_beginning_in_any_case}
 use Rattle.hesc_specs.specs.declared.elements.Element.{Element}
 use Rattle.hesc_specs.proofs.Bodies.Openings.{passes, completes_opening-words}
@@ -45,8 +45,8 @@ completes-decided element bytes rest comment name =
     (word-decided (slash ∷ element_name element) ends_name bytes rest (λ b more. refl) name)
     ∙ sym (completes_opening-words element bytes))
 
--- whether an opening begins is decided where the bytes are not undecided
-pub is_opening-decided : (element : Element) (bytes rest : List ℕ) → is_undecided element bytes ≡ false → is_opening element (bytes ++ rest) ≡ is_opening element bytes
+-- whether an opening begins is decided where the bytes are not partial
+pub is_opening-decided : (element : Element) (bytes rest : List ℕ) → is_partial element bytes ≡ false → is_opening element (bytes ++ rest) ≡ is_opening element bytes
 is_opening-decided element [] rest decided = absurd (cc)
 is_opening-decided element (b ∷ bytes) rest decided =
     elim (cases_Bool (b == less_than)) [
@@ -57,13 +57,13 @@ is_opening-decided element (b ∷ bytes) rest decided =
     ]
 
 -- the encoding of a text and what follows it
-pub body_encoding-settled : (element : Element) (text rest : List ℕ)
-    → body_encoding element (text ++ rest) ≡ settled_encoding element text ++ body_encoding element (undecided_end element text ++ rest)
-body_encoding-settled element [] rest = refl
-body_encoding-settled element (b ∷ text) rest =
-    let later : body_encoding element (text ++ rest) ≡ settled_encoding element text ++ body_encoding element (undecided_end element text ++ rest) = body_encoding-settled element text rest in
-    elim (cases_Bool (is_undecided element (b ∷ text))) [
-      | inl unsettled ↦ rw unsettled refl
+pub body_encoding-decided : (element : Element) (text rest : List ℕ)
+    → body_encoding element (text ++ rest) ≡ decided_encoding element text ++ body_encoding element (partial_end element text ++ rest)
+body_encoding-decided element [] rest = refl
+body_encoding-decided element (b ∷ text) rest =
+    let later : body_encoding element (text ++ rest) ≡ decided_encoding element text ++ body_encoding element (partial_end element text ++ rest) = body_encoding-decided element text rest in
+    elim (cases_Bool (is_partial element (b ∷ text))) [
+      | inl undecided ↦ rw undecided refl
       | inr decided ↦
           rw (is_opening-decided element (b ∷ text) rest decided)
           (rw decided
@@ -73,29 +73,29 @@ body_encoding-settled element (b ∷ text) rest =
           ]))
     ]
 
-pub undecided_end-undecided : (element : Element) (text : List ℕ) → is_undecided element (undecided_end element text) ≡ true
-undecided_end-undecided element [] = refl
-undecided_end-undecided element (b ∷ text) =
-    elim (cases_Bool (is_undecided element (b ∷ text))) [
-      | inl unsettled ↦ rw unsettled unsettled
-      | inr decided ↦ rw decided (undecided_end-undecided element text)
+pub partial_end-partial : (element : Element) (text : List ℕ) → is_partial element (partial_end element text) ≡ true
+partial_end-partial element [] = refl
+partial_end-partial element (b ∷ text) =
+    elim (cases_Bool (is_partial element (b ∷ text))) [
+      | inl undecided ↦ rw undecided undecided
+      | inr decided ↦ rw decided (partial_end-partial element text)
     ]
 
--- to add what is settled and to hold what is undecided is a step
-pub settled-step : (element : Element) (held piece : List ℕ) → IsStep element held piece (undecided_end element (held ++ piece)) (settled_encoding element (held ++ piece))
-settled-step element held piece = (
-  λ rest. rw (sym (append_assoc held piece rest)) (body_encoding-settled element (held ++ piece) rest),
-  undecided_end-undecided element (held ++ piece),
+-- to add what is decided and to hold what is partial is a step
+pub decided-step : (element : Element) (held piece : List ℕ) → IsStep element held piece (partial_end element (held ++ piece)) (decided_encoding element (held ++ piece))
+decided-step element held piece = (
+  λ rest. rw (sym (append_assoc held piece rest)) (body_encoding-decided element (held ++ piece) rest),
+  partial_end-partial element (held ++ piece),
 )
 
--- what is undecided as a whole: nothing of it is settled
-pub undecided-whole : (element : Element) (text : List ℕ) → is_undecided element text ≡ true → undecided_end element text ≡ text
-undecided-whole element [] unsettled = refl
-undecided-whole element (b ∷ text) unsettled = rw unsettled refl
+-- what is partial as a whole: nothing of it is decided
+pub partial-whole : (element : Element) (text : List ℕ) → is_partial element text ≡ true → partial_end element text ≡ text
+partial-whole element [] undecided = refl
+partial-whole element (b ∷ text) undecided = rw undecided refl
 
-pub undecided-nothing : (element : Element) (text : List ℕ) → is_undecided element text ≡ true → settled_encoding element text ≡ []
-undecided-nothing element [] unsettled = refl
-undecided-nothing element (b ∷ text) unsettled = rw unsettled refl
+pub partial-nothing : (element : Element) (text : List ℕ) → is_partial element text ≡ true → decided_encoding element text ≡ []
+partial-nothing element [] undecided = refl
+partial-nothing element (b ∷ text) undecided = rw undecided refl
 
 -- all that a session adds, from some held bytes on
 session-from : (element : Element) (held : List ℕ) (pieces : List (List ℕ)) (all : List ℕ) → IsSession element held pieces all → all ≡ body_encoding element (held ++ concat pieces)

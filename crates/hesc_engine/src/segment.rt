@@ -1,12 +1,12 @@
-//! A turn of the engine: a stretch of the source, and the text behind it.
+//! A segment of the engine: a stretch of the source, and the text after it.
 ghost use Rattle.std.specs.Prelude.{◌≡◌, ◌≤◌, length, take};
 
 use crate::found::Replacement;
 
-/// A stretch of the source that starts at the byte `start` there, and the text behind it that
+/// A stretch of the source that starts at the byte `start` there, and the text after it that
 /// stands for other bytes. Either may be empty.
 #[derive(Clone, Copy)]
-pub struct Turn<'t> {
+pub struct Segment<'t> {
     pub(crate) start: usize,
     // The stretch and all that follows it in the source: a copy of more than the stretch may be
     // cheaper than one of it alone.
