@@ -30,7 +30,7 @@ pub trait Rule {
         self.total_by_changes(text)
     }
 
-    /// The same, by going from change to change.
+    /// The same, by scanning for each change.
     #[inline(always)]
     fn total_by_changes(&self, text: &str) -> Option<usize>
         ensures count { IfSome result (λ count. count ≡ length (made self.now text.now)) }
@@ -47,8 +47,8 @@ pub trait Rule {
         count.checked_add(text.len() - from)
     }
 
-    /// At least as many bytes as the rule's text has, told without going from change to change, and
-    /// 0 where it has none; or `None` where the rule knows of no such number.
+    /// An upper bound of the length of the rule's text, computed without scanning for changes, and 0
+    /// where the text is empty; `None` where the rule knows none.
     #[inline(always)]
     fn bound(&self, text: &str) -> Option<usize>
         ensures enough { IfSome result (λ bound. length (made self.now text.now) ≤ bound) }

@@ -5,8 +5,8 @@ ghost use Rattle.std.specs.Str.{IsAscii, IsUtf8};
 
 use std::str;
 
-/// At most six bytes of UTF-8. They stand at the front of eight, which are copied as one; those
-/// after them say nothing.
+/// At most six bytes of UTF-8. They stand at the front of eight, which are copied as one; the
+/// others are padding.
 #[derive(Clone, Copy)]
 pub struct SmallText {
     bytes: [u8; 8],
@@ -83,7 +83,7 @@ impl SmallText {
         self.len
     }
 
-    /// The bytes of the text, and after them bytes that say nothing.
+    /// The bytes of the text, and padding.
     #[inline(always)]
     pub(crate) fn block(&self) -> [u8; 8]
         ensures { take (length (small_text_bytes self.now)) result ≡ small_text_bytes self.now }

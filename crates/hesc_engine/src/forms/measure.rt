@@ -17,8 +17,8 @@ pub fn measure<R: Rule>(rule: &R, text: &str) -> Result<usize, CountOverflow>
 /// has room for `spare`: at least as many as it has, none where it has none, and no more than
 /// `spare` where those suffice.
 ///
-/// Where the rule tells a bound, the text is not gone over for it, unless the bound asks for memory
-/// that the length itself may not need.
+/// Where the rule gives an upper bound, the text is not scanned for changes, unless the bound asks for
+/// memory that the length itself may not need.
 #[inline(always)]
 pub fn room_for<R: Rule>(rule: &R, text: &str, spare: usize) -> Result<usize, CountOverflow>
     ensures enough { IfOk result (λ room. length (R.made rule.now text.now) ≤ room) }

@@ -5,7 +5,7 @@ ghost use Rattle.hesc_engine.specs.Text.{small_text_bytes};
 
 use hesc_engine::small_text::SmallText;
 
-/// The reference that stands for each ASCII byte, and its length; after it NULs that say nothing.
+/// The reference that stands for each ASCII byte, and its length; after it padding.
 const REFERENCES: [([u8; 8], usize); 128] = [
     (*b"&#x00;\0\0", 6),
     (*b"&#x01;\0\0", 6),
