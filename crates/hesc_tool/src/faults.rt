@@ -2,6 +2,8 @@
 ghost use Rattle.std.specs.Prelude.{◌≡◌};
 ghost use Rattle.hesc_tool.specs.Faults.{line_of, status_of};
 
+use std::alloc::AllocError;
+
 /// Why a run did not write its command's text.
 #[derive(Clone, Copy, Debug, PartialEq, Eq)]
 pub enum Fault {
@@ -58,5 +60,15 @@ impl Fault {
             Fault::Memory => "hesc: out of memory",
             Fault::Write => "hesc: output cannot be written",
         }
+    }
+}
+
+impl From<AllocError> for Fault {
+    ghost use Rattle.hesc_tool.specs.declared.faults.Fault.TheVariants.{Memory};
+
+    ghost from_gives = { λ _ fault. fault ≡ Memory };
+
+    fn from(_refusal: AllocError) -> Fault {
+        Fault::Memory
     }
 }

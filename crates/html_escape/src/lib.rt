@@ -3,8 +3,10 @@
 //! Each operation has four forms: `encode_text` answers a text that borrows where nothing changes,
 //! `encode_text_to_string` and `encode_text_to_vec` append, and `encode_text_to_writer` writes. An
 //! [`Operation`] is an [`Encoder`] or a [`Decoder`] as a value, and [`pieces`] hands out what it makes
-//! of a text piece by piece. References are decoded by the built-in table of names, or by an
-//! [`EntityTable`] that is handed in. A [`BodyEncoder`] encodes a body that itself comes in pieces.
+//! of a text piece by piece. [`append`] takes the output first and any operation as a value, so that
+//! the proof of a caller learns all of the output. References are decoded by the built-in table of
+//! names, or by an [`EntityTable`] that is handed in. A [`BodyEncoder`] encodes a body that itself
+//! comes in pieces.
 #![tactic(auto)]
 
 mod appends;
@@ -21,13 +23,27 @@ pub use crate::decoder::Decoder;
 pub use crate::encoder::Encoder;
 pub use crate::operation::Operation;
 pub use crate::operation::pieces;
+pub use hesc_core::Class;
+pub use hesc_core::CountOverflow;
+pub use hesc_core::Counter;
 pub use hesc_core::Element as BodyKind;
 pub use hesc_core::EntityTable;
+pub use hesc_core::Found;
 pub use hesc_core::NAMED_ENTITIES;
 pub use hesc_core::Piece;
 pub use hesc_core::Pieces;
+pub use hesc_core::Quotes;
+pub use hesc_core::Replacement;
+pub use hesc_core::Rule;
+pub use hesc_core::Sink;
+pub use hesc_core::SmallText;
+pub use hesc_core::StringSink;
 pub use hesc_core::TableFault;
+pub use hesc_core::VecSink;
+pub use hesc_core::WriterSink;
 pub use hesc_core::laws;
+pub use hesc_core::rules;
+pub use hesc_core::run;
 pub use hesc_decode::decode_html_entities;
 pub use hesc_decode::decode_html_entities_to_string;
 pub use hesc_decode::decode_html_entities_to_vec;

@@ -1,5 +1,7 @@
 //! Attributes, and why a form of them is not built.
 
+use std::alloc::AllocError;
+
 /// How the value of an attribute stands in its tag.
 #[derive(Clone, Copy, Debug, PartialEq, Eq)]
 pub enum Quoting {
@@ -36,4 +38,15 @@ pub enum FormFault {
     EmptyUnquoted(usize),
     /// A growth was refused, or the length would pass the greatest `usize`.
     Memory,
+}
+
+impl From<AllocError> for FormFault {
+    ghost use Rattle.std.specs.Prelude.{◌≡◌};
+    ghost use Rattle.hesc_places.specs.declared.markup.types.FormFault.TheVariants.{Memory};
+
+    ghost from_gives = { λ _ fault. fault ≡ Memory };
+
+    fn from(_refusal: AllocError) -> FormFault {
+        FormFault::Memory
+    }
 }

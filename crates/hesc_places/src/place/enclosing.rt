@@ -25,6 +25,17 @@ pub enum PlaceFault {
     Memory,
 }
 
+impl From<AllocError> for PlaceFault {
+    ghost use Rattle.std.specs.Prelude.{◌≡◌};
+    ghost use Rattle.hesc_places.specs.declared.place.enclosing.PlaceFault.TheVariants.{Memory};
+
+    ghost from_gives = { λ _ fault. fault ≡ Memory };
+
+    fn from(_refusal: AllocError) -> PlaceFault {
+        PlaceFault::Memory
+    }
+}
+
 /// Appends the opening mark of `place`, what `encoder` writes for `text`, and the closing mark, and
 /// answers that part. On a fault, the first of [`PlaceFault`] that applies, `output` is as it was.
 ///
