@@ -18,6 +18,12 @@ use std::test::Fail;
 // at most four times of it.
 const DOUBLED: usize = 4;
 
+// So many names are compared without memory.
+const FEW_NAMES: usize = 32;
+
+// What is asked for each name where more of them are kept in order.
+const FOR_EACH_NAME: usize = 48;
+
 /// What a reader of forms asks for at most for an attribute beside its bytes: its place in the list,
 /// which doubles too, and the least room of its value.
 pub const FOR_EACH_ATTRIBUTE: usize = 512;
@@ -135,6 +141,16 @@ fn forms_ask_for_what_stands_in_them(rt: HostRuntime) -> Result<(), Fail> {
     Ok(())
 }
 
+// The form itself; and where its names are many, they are kept in order by their references.
+fn most_of_building(length: usize, attributes: usize) -> u64 {
+    let names = if attributes > FEW_NAMES {
+        attributes.saturating_mul(FOR_EACH_NAME)
+    } else {
+        0
+    };
+    length.saturating_add(names).saturating_add(SMALL) as u64
+}
+
 fn asks_little_for_form(
     alloc: Global,
     attributes: &[Attribute],
@@ -143,7 +159,7 @@ fn asks_little_for_form(
     let heap = Refusing::new(alloc, 0);
     let mut form = String::new(&heap);
     let is_built = build_form(attributes, script, &mut form).is_ok();
-    if !is_built || heap.asked_bytes() > form.len().saturating_add(SMALL) as u64 {
+    if !is_built || heap.asked_bytes() > most_of_building(form.len(), attributes.len()) {
         return Ok(false);
     }
     heap.refuse(0);
