@@ -15,6 +15,8 @@ use std::io::{self, Write};
 // `<!--`, and `<\/script`, in any case where the name ends, becomes `</script`.
 
 /// `text` decoded. Where it has no escaped opening it is `text` itself, and takes no memory.
+///
+/// `decode_script(alloc, r"<\/script>")?` is `</script>`.
 pub fn decode_script<'t, A: Allocator>(alloc: A, text: &'t str) -> Result<CowStr<'t, A>, AllocError>
     ensures { AnswersText text.now (body_decoding Script text.now)
         (body_decoding_changes Script text.now 0) result }
@@ -24,6 +26,8 @@ pub fn decode_script<'t, A: Allocator>(alloc: A, text: &'t str) -> Result<CowStr
 
 /// Appends `text` decoded to `output`, and answers the part that was added. On a refusal
 /// `output` is as it was.
+///
+/// `decode_script_to_string(r"<\/script>", &mut page)?` appends and answers `</script>`.
 pub fn decode_script_to_string<'o, A: Allocator>(
     text: &str,
     output: &'o mut String<A>,
@@ -38,6 +42,8 @@ pub fn decode_script_to_string<'o, A: Allocator>(
 
 /// Appends `text` decoded to `output`, and answers the part that was added. On a refusal
 /// `output` is as it was.
+///
+/// `decode_script_to_vec(r"<\/script>", &mut bytes)?` appends and answers the bytes of `</script>`.
 pub fn decode_script_to_vec<'o, A: Allocator>(
     text: &str,
     output: &'o mut Vec<u8, A>,
@@ -51,6 +57,8 @@ pub fn decode_script_to_vec<'o, A: Allocator>(
 }
 
 /// Writes `text` decoded to `output`, or a beginning of it and then the writer's fault.
+///
+/// `decode_script_to_writer(r"<\/script>", &mut writer)?` writes `</script>`.
 pub fn decode_script_to_writer<W: Write>(text: &str, output: &mut W) -> Result<(), io::Error>
     ensures { WritesText (W.contents output.old) (W.contents output.new)
         (body_decoding Script text.now) result }
@@ -86,6 +94,8 @@ fn decode_script_onto_vec<'o, A: Allocator>(
 // and `<\/style`, in any case where the name ends, becomes `</style`.
 
 /// `text` decoded. Where it has no escaped opening it is `text` itself, and takes no memory.
+///
+/// `decode_style(alloc, r"<\/style>")?` is `</style>`.
 pub fn decode_style<'t, A: Allocator>(alloc: A, text: &'t str) -> Result<CowStr<'t, A>, AllocError>
     ensures { AnswersText text.now (body_decoding Style text.now)
         (body_decoding_changes Style text.now 0) result }
@@ -95,6 +105,8 @@ pub fn decode_style<'t, A: Allocator>(alloc: A, text: &'t str) -> Result<CowStr<
 
 /// Appends `text` decoded to `output`, and answers the part that was added. On a refusal
 /// `output` is as it was.
+///
+/// `decode_style_to_string(r"<\/style>", &mut page)?` appends and answers `</style>`.
 pub fn decode_style_to_string<'o, A: Allocator>(
     text: &str,
     output: &'o mut String<A>,
@@ -109,6 +121,8 @@ pub fn decode_style_to_string<'o, A: Allocator>(
 
 /// Appends `text` decoded to `output`, and answers the part that was added. On a refusal
 /// `output` is as it was.
+///
+/// `decode_style_to_vec(r"<\/style>", &mut bytes)?` appends and answers the bytes of `</style>`.
 pub fn decode_style_to_vec<'o, A: Allocator>(
     text: &str,
     output: &'o mut Vec<u8, A>,
@@ -122,6 +136,8 @@ pub fn decode_style_to_vec<'o, A: Allocator>(
 }
 
 /// Writes `text` decoded to `output`, or a beginning of it and then the writer's fault.
+///
+/// `decode_style_to_writer(r"<\/style>", &mut writer)?` writes `</style>`.
 pub fn decode_style_to_writer<W: Write>(text: &str, output: &mut W) -> Result<(), io::Error>
     ensures { WritesText (W.contents output.old) (W.contents output.new)
         (body_decoding Style text.now) result }

@@ -16,6 +16,8 @@ use std::io::{self, Write};
 // `decode_html_entities`: each reference that has a value by the built-in table becomes it.
 
 /// `text` decoded. Where no reference has a value it is `text` itself, and takes no memory.
+///
+/// `decode_html_entities(alloc, "Hello&#x20;world&#x21;")?` is `Hello world!`.
 pub fn decode_html_entities<'t, A: Allocator>(
     alloc: A,
     text: &'t str,
@@ -28,6 +30,9 @@ pub fn decode_html_entities<'t, A: Allocator>(
 
 /// Appends `text` decoded to `output`, and answers the part that was added. On a refusal
 /// `output` is as it was.
+///
+/// `decode_html_entities_to_string("Hello&#x20;world&#x21;", &mut page)?`
+/// appends and answers `Hello world!`.
 pub fn decode_html_entities_to_string<'o, A: Allocator>(
     text: &str,
     output: &'o mut String<A>,
@@ -42,6 +47,9 @@ pub fn decode_html_entities_to_string<'o, A: Allocator>(
 
 /// Appends `text` decoded to `output`, and answers the part that was added. On a refusal
 /// `output` is as it was.
+///
+/// `decode_html_entities_to_vec("Hello&#x20;world&#x21;", &mut bytes)?`
+/// appends and answers the bytes of `Hello world!`.
 pub fn decode_html_entities_to_vec<'o, A: Allocator>(
     text: &str,
     output: &'o mut Vec<u8, A>,
@@ -55,6 +63,8 @@ pub fn decode_html_entities_to_vec<'o, A: Allocator>(
 }
 
 /// Writes `text` decoded to `output`, or a beginning of it and then the writer's fault.
+///
+/// `decode_html_entities_to_writer("Hello&#x20;world&#x21;", &mut writer)?` writes `Hello world!`.
 pub fn decode_html_entities_to_writer<W: Write>(text: &str, output: &mut W) -> Result<(), io::Error>
     ensures { WritesText (W.contents output.old) (W.contents output.new)
         (decoded named_rows text.now) result }
@@ -90,6 +100,8 @@ fn decode_html_entities_onto_vec<'o, A: Allocator>(
 
 /// `text` decoded by the table. Where no reference has a value it is `text` itself, and takes no
 /// memory.
+///
+/// `decode_html_entities_with(alloc, &table, "&amp;lt;&AMP;&Amp;&copy;")?` is `&lt;&&Amp;©`.
 pub fn decode_html_entities_with<'t, A: Allocator>(
     alloc: A,
     table: &EntityTable<'_>,
@@ -103,6 +115,9 @@ pub fn decode_html_entities_with<'t, A: Allocator>(
 
 /// Appends `text` decoded by the table to `output`, and answers the part that was added. On a
 /// refusal `output` is as it was.
+///
+/// `decode_html_entities_with_to_string(&table, "&amp;lt;&AMP;&Amp;&copy;", &mut page)?`
+/// appends and answers `&lt;&&Amp;©`.
 pub fn decode_html_entities_with_to_string<'o, A: Allocator>(
     table: &EntityTable<'_>,
     text: &str,
@@ -118,6 +133,9 @@ pub fn decode_html_entities_with_to_string<'o, A: Allocator>(
 
 /// Appends `text` decoded by the table to `output`, and answers the part that was added. On a
 /// refusal `output` is as it was.
+///
+/// `decode_html_entities_with_to_vec(&table, "&amp;lt;&AMP;&Amp;&copy;", &mut bytes)?`
+/// appends and answers the bytes of `&lt;&&Amp;©`.
 pub fn decode_html_entities_with_to_vec<'o, A: Allocator>(
     table: &EntityTable<'_>,
     text: &str,
@@ -133,6 +151,9 @@ pub fn decode_html_entities_with_to_vec<'o, A: Allocator>(
 
 /// Writes `text` decoded by the table to `output`, or a beginning of it and then the writer's
 /// fault.
+///
+/// `decode_html_entities_with_to_writer(&table, "&amp;lt;&AMP;&Amp;&copy;", &mut writer)?`
+/// writes `&lt;&&Amp;©`.
 pub fn decode_html_entities_with_to_writer<W: Write>(
     table: &EntityTable<'_>,
     text: &str,

@@ -19,6 +19,8 @@ use std::io::{self, Write};
 // text does. Any other `\` stays.
 
 /// `text` decoded. Where it has no escape it is `text` itself, and takes no memory.
+///
+/// `decode_script_single_quoted_text(alloc, r#"it\'s "\x3Cb>""#)?` is `it's "<b>"`.
 pub fn decode_script_single_quoted_text<'t, A: Allocator>(
     alloc: A,
     text: &'t str,
@@ -31,6 +33,9 @@ pub fn decode_script_single_quoted_text<'t, A: Allocator>(
 
 /// Appends `text` decoded to `output`, and answers the part that was added. On a refusal
 /// `output` is as it was.
+///
+/// `decode_script_single_quoted_text_to_string(r#"it\'s "\x3Cb>""#, &mut page)?`
+/// appends and answers `it's "<b>"`.
 pub fn decode_script_single_quoted_text_to_string<'o, A: Allocator>(
     text: &str,
     output: &'o mut String<A>,
@@ -45,6 +50,9 @@ pub fn decode_script_single_quoted_text_to_string<'o, A: Allocator>(
 
 /// Appends `text` decoded to `output`, and answers the part that was added. On a refusal
 /// `output` is as it was.
+///
+/// `decode_script_single_quoted_text_to_vec(r#"it\'s "\x3Cb>""#, &mut bytes)?`
+/// appends and answers the bytes of `it's "<b>"`.
 pub fn decode_script_single_quoted_text_to_vec<'o, A: Allocator>(
     text: &str,
     output: &'o mut Vec<u8, A>,
@@ -58,6 +66,9 @@ pub fn decode_script_single_quoted_text_to_vec<'o, A: Allocator>(
 }
 
 /// Writes `text` decoded to `output`, or a beginning of it and then the writer's fault.
+///
+/// `decode_script_single_quoted_text_to_writer(r#"it\'s "\x3Cb>""#, &mut writer)?`
+/// writes `it's "<b>"`.
 pub fn decode_script_single_quoted_text_to_writer<W: Write>(
     text: &str,
     output: &mut W,
@@ -98,6 +109,8 @@ fn decode_script_single_quoted_text_onto_vec<'o, A: Allocator>(
 // text does. Any other `\` stays.
 
 /// `text` decoded. Where it has no escape it is `text` itself, and takes no memory.
+///
+/// `decode_script_double_quoted_text(alloc, r#"it's \"\x3Cb>\""#)?` is `it's "<b>"`.
 pub fn decode_script_double_quoted_text<'t, A: Allocator>(
     alloc: A,
     text: &'t str,
@@ -110,6 +123,9 @@ pub fn decode_script_double_quoted_text<'t, A: Allocator>(
 
 /// Appends `text` decoded to `output`, and answers the part that was added. On a refusal
 /// `output` is as it was.
+///
+/// `decode_script_double_quoted_text_to_string(r#"it's \"\x3Cb>\""#, &mut page)?`
+/// appends and answers `it's "<b>"`.
 pub fn decode_script_double_quoted_text_to_string<'o, A: Allocator>(
     text: &str,
     output: &'o mut String<A>,
@@ -124,6 +140,9 @@ pub fn decode_script_double_quoted_text_to_string<'o, A: Allocator>(
 
 /// Appends `text` decoded to `output`, and answers the part that was added. On a refusal
 /// `output` is as it was.
+///
+/// `decode_script_double_quoted_text_to_vec(r#"it's \"\x3Cb>\""#, &mut bytes)?`
+/// appends and answers the bytes of `it's "<b>"`.
 pub fn decode_script_double_quoted_text_to_vec<'o, A: Allocator>(
     text: &str,
     output: &'o mut Vec<u8, A>,
@@ -137,6 +156,9 @@ pub fn decode_script_double_quoted_text_to_vec<'o, A: Allocator>(
 }
 
 /// Writes `text` decoded to `output`, or a beginning of it and then the writer's fault.
+///
+/// `decode_script_double_quoted_text_to_writer(r#"it's \"\x3Cb>\""#, &mut writer)?`
+/// writes `it's "<b>"`.
 pub fn decode_script_double_quoted_text_to_writer<W: Write>(
     text: &str,
     output: &mut W,
@@ -177,6 +199,8 @@ fn decode_script_double_quoted_text_onto_vec<'o, A: Allocator>(
 // text does. Any other `\` stays.
 
 /// `text` decoded. Where it has no escape it is `text` itself, and takes no memory.
+///
+/// `decode_script_quoted_text(alloc, r#"it\'s \"\x3Cb>\""#)?` is `it's "<b>"`.
 pub fn decode_script_quoted_text<'t, A: Allocator>(
     alloc: A,
     text: &'t str,
@@ -189,6 +213,9 @@ pub fn decode_script_quoted_text<'t, A: Allocator>(
 
 /// Appends `text` decoded to `output`, and answers the part that was added. On a refusal
 /// `output` is as it was.
+///
+/// `decode_script_quoted_text_to_string(r#"it\'s \"\x3Cb>\""#, &mut page)?`
+/// appends and answers `it's "<b>"`.
 pub fn decode_script_quoted_text_to_string<'o, A: Allocator>(
     text: &str,
     output: &'o mut String<A>,
@@ -203,6 +230,9 @@ pub fn decode_script_quoted_text_to_string<'o, A: Allocator>(
 
 /// Appends `text` decoded to `output`, and answers the part that was added. On a refusal
 /// `output` is as it was.
+///
+/// `decode_script_quoted_text_to_vec(r#"it\'s \"\x3Cb>\""#, &mut bytes)?`
+/// appends and answers the bytes of `it's "<b>"`.
 pub fn decode_script_quoted_text_to_vec<'o, A: Allocator>(
     text: &str,
     output: &'o mut Vec<u8, A>,
@@ -216,6 +246,8 @@ pub fn decode_script_quoted_text_to_vec<'o, A: Allocator>(
 }
 
 /// Writes `text` decoded to `output`, or a beginning of it and then the writer's fault.
+///
+/// `decode_script_quoted_text_to_writer(r#"it\'s \"\x3Cb>\""#, &mut writer)?` writes `it's "<b>"`.
 pub fn decode_script_quoted_text_to_writer<W: Write>(
     text: &str,
     output: &mut W,
@@ -256,6 +288,8 @@ fn decode_script_quoted_text_onto_vec<'o, A: Allocator>(
 // text does. Any other `\` stays.
 
 /// `text` decoded. Where it has no escape it is `text` itself, and takes no memory.
+///
+/// `decode_style_single_quoted_text(alloc, r#"it\'s "\3C b>""#)?` is `it's "<b>"`.
 pub fn decode_style_single_quoted_text<'t, A: Allocator>(
     alloc: A,
     text: &'t str,
@@ -268,6 +302,9 @@ pub fn decode_style_single_quoted_text<'t, A: Allocator>(
 
 /// Appends `text` decoded to `output`, and answers the part that was added. On a refusal
 /// `output` is as it was.
+///
+/// `decode_style_single_quoted_text_to_string(r#"it\'s "\3C b>""#, &mut page)?`
+/// appends and answers `it's "<b>"`.
 pub fn decode_style_single_quoted_text_to_string<'o, A: Allocator>(
     text: &str,
     output: &'o mut String<A>,
@@ -282,6 +319,9 @@ pub fn decode_style_single_quoted_text_to_string<'o, A: Allocator>(
 
 /// Appends `text` decoded to `output`, and answers the part that was added. On a refusal
 /// `output` is as it was.
+///
+/// `decode_style_single_quoted_text_to_vec(r#"it\'s "\3C b>""#, &mut bytes)?`
+/// appends and answers the bytes of `it's "<b>"`.
 pub fn decode_style_single_quoted_text_to_vec<'o, A: Allocator>(
     text: &str,
     output: &'o mut Vec<u8, A>,
@@ -295,6 +335,9 @@ pub fn decode_style_single_quoted_text_to_vec<'o, A: Allocator>(
 }
 
 /// Writes `text` decoded to `output`, or a beginning of it and then the writer's fault.
+///
+/// `decode_style_single_quoted_text_to_writer(r#"it\'s "\3C b>""#, &mut writer)?`
+/// writes `it's "<b>"`.
 pub fn decode_style_single_quoted_text_to_writer<W: Write>(
     text: &str,
     output: &mut W,
@@ -335,6 +378,8 @@ fn decode_style_single_quoted_text_onto_vec<'o, A: Allocator>(
 // text does. Any other `\` stays.
 
 /// `text` decoded. Where it has no escape it is `text` itself, and takes no memory.
+///
+/// `decode_style_double_quoted_text(alloc, r#"it's \"\3C b>\""#)?` is `it's "<b>"`.
 pub fn decode_style_double_quoted_text<'t, A: Allocator>(
     alloc: A,
     text: &'t str,
@@ -347,6 +392,9 @@ pub fn decode_style_double_quoted_text<'t, A: Allocator>(
 
 /// Appends `text` decoded to `output`, and answers the part that was added. On a refusal
 /// `output` is as it was.
+///
+/// `decode_style_double_quoted_text_to_string(r#"it's \"\3C b>\""#, &mut page)?`
+/// appends and answers `it's "<b>"`.
 pub fn decode_style_double_quoted_text_to_string<'o, A: Allocator>(
     text: &str,
     output: &'o mut String<A>,
@@ -361,6 +409,9 @@ pub fn decode_style_double_quoted_text_to_string<'o, A: Allocator>(
 
 /// Appends `text` decoded to `output`, and answers the part that was added. On a refusal
 /// `output` is as it was.
+///
+/// `decode_style_double_quoted_text_to_vec(r#"it's \"\3C b>\""#, &mut bytes)?`
+/// appends and answers the bytes of `it's "<b>"`.
 pub fn decode_style_double_quoted_text_to_vec<'o, A: Allocator>(
     text: &str,
     output: &'o mut Vec<u8, A>,
@@ -374,6 +425,9 @@ pub fn decode_style_double_quoted_text_to_vec<'o, A: Allocator>(
 }
 
 /// Writes `text` decoded to `output`, or a beginning of it and then the writer's fault.
+///
+/// `decode_style_double_quoted_text_to_writer(r#"it's \"\3C b>\""#, &mut writer)?`
+/// writes `it's "<b>"`.
 pub fn decode_style_double_quoted_text_to_writer<W: Write>(
     text: &str,
     output: &mut W,
@@ -414,6 +468,8 @@ fn decode_style_double_quoted_text_onto_vec<'o, A: Allocator>(
 // text does. Any other `\` stays.
 
 /// `text` decoded. Where it has no escape it is `text` itself, and takes no memory.
+///
+/// `decode_style_quoted_text(alloc, r#"it\'s \"\3C b>\""#)?` is `it's "<b>"`.
 pub fn decode_style_quoted_text<'t, A: Allocator>(
     alloc: A,
     text: &'t str,
@@ -426,6 +482,9 @@ pub fn decode_style_quoted_text<'t, A: Allocator>(
 
 /// Appends `text` decoded to `output`, and answers the part that was added. On a refusal
 /// `output` is as it was.
+///
+/// `decode_style_quoted_text_to_string(r#"it\'s \"\3C b>\""#, &mut page)?`
+/// appends and answers `it's "<b>"`.
 pub fn decode_style_quoted_text_to_string<'o, A: Allocator>(
     text: &str,
     output: &'o mut String<A>,
@@ -440,6 +499,9 @@ pub fn decode_style_quoted_text_to_string<'o, A: Allocator>(
 
 /// Appends `text` decoded to `output`, and answers the part that was added. On a refusal
 /// `output` is as it was.
+///
+/// `decode_style_quoted_text_to_vec(r#"it\'s \"\3C b>\""#, &mut bytes)?`
+/// appends and answers the bytes of `it's "<b>"`.
 pub fn decode_style_quoted_text_to_vec<'o, A: Allocator>(
     text: &str,
     output: &'o mut Vec<u8, A>,
@@ -453,6 +515,8 @@ pub fn decode_style_quoted_text_to_vec<'o, A: Allocator>(
 }
 
 /// Writes `text` decoded to `output`, or a beginning of it and then the writer's fault.
+///
+/// `decode_style_quoted_text_to_writer(r#"it\'s \"\3C b>\""#, &mut writer)?` writes `it's "<b>"`.
 pub fn decode_style_quoted_text_to_writer<W: Write>(
     text: &str,
     output: &mut W,

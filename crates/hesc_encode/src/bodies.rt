@@ -15,6 +15,8 @@ use std::io::{self, Write};
 // `<!--`, or `</script` in any case where the name ends.
 
 /// The encoding of `text`. Where nothing changes it is `text` itself, and takes no memory.
+///
+/// `encode_script(alloc, "</script>")?` is `<\/script>`.
 pub fn encode_script<'t, A: Allocator>(alloc: A, text: &'t str) -> Result<CowStr<'t, A>, AllocError>
     ensures { AnswersText text.now (body_encoding Script text.now)
         (body_encoding_changes Script text.now 0) result }
@@ -24,6 +26,8 @@ pub fn encode_script<'t, A: Allocator>(alloc: A, text: &'t str) -> Result<CowStr
 
 /// Appends the encoding of `text` to `output`, and answers the part that was added. On a refusal
 /// `output` is as it was.
+///
+/// `encode_script_to_string("</script>", &mut page)?` appends and answers `<\/script>`.
 pub fn encode_script_to_string<'o, A: Allocator>(
     text: &str,
     output: &'o mut String<A>,
@@ -38,6 +42,8 @@ pub fn encode_script_to_string<'o, A: Allocator>(
 
 /// Appends the encoding of `text` to `output`, and answers the part that was added. On a refusal
 /// `output` is as it was.
+///
+/// `encode_script_to_vec("</script>", &mut bytes)?` appends and answers the bytes of `<\/script>`.
 pub fn encode_script_to_vec<'o, A: Allocator>(
     text: &str,
     output: &'o mut Vec<u8, A>,
@@ -51,6 +57,8 @@ pub fn encode_script_to_vec<'o, A: Allocator>(
 }
 
 /// Writes the encoding of `text` to `output`, or a beginning of it and then the writer's fault.
+///
+/// `encode_script_to_writer("</script>", &mut writer)?` writes `<\/script>`.
 pub fn encode_script_to_writer<W: Write>(text: &str, output: &mut W) -> Result<(), io::Error>
     ensures { WritesText (W.contents output.old) (W.contents output.new)
         (body_encoding Script text.now) result }
@@ -86,6 +94,8 @@ fn encode_script_onto_vec<'o, A: Allocator>(
 // `<!--`, or `</style` in any case where the name ends.
 
 /// The encoding of `text`. Where nothing changes it is `text` itself, and takes no memory.
+///
+/// `encode_style(alloc, "</style>")?` is `<\/style>`.
 pub fn encode_style<'t, A: Allocator>(alloc: A, text: &'t str) -> Result<CowStr<'t, A>, AllocError>
     ensures { AnswersText text.now (body_encoding Style text.now)
         (body_encoding_changes Style text.now 0) result }
@@ -95,6 +105,8 @@ pub fn encode_style<'t, A: Allocator>(alloc: A, text: &'t str) -> Result<CowStr<
 
 /// Appends the encoding of `text` to `output`, and answers the part that was added. On a refusal
 /// `output` is as it was.
+///
+/// `encode_style_to_string("</style>", &mut page)?` appends and answers `<\/style>`.
 pub fn encode_style_to_string<'o, A: Allocator>(
     text: &str,
     output: &'o mut String<A>,
@@ -109,6 +121,8 @@ pub fn encode_style_to_string<'o, A: Allocator>(
 
 /// Appends the encoding of `text` to `output`, and answers the part that was added. On a refusal
 /// `output` is as it was.
+///
+/// `encode_style_to_vec("</style>", &mut bytes)?` appends and answers the bytes of `<\/style>`.
 pub fn encode_style_to_vec<'o, A: Allocator>(
     text: &str,
     output: &'o mut Vec<u8, A>,
@@ -122,6 +136,8 @@ pub fn encode_style_to_vec<'o, A: Allocator>(
 }
 
 /// Writes the encoding of `text` to `output`, or a beginning of it and then the writer's fault.
+///
+/// `encode_style_to_writer("</style>", &mut writer)?` writes `<\/style>`.
 pub fn encode_style_to_writer<W: Write>(text: &str, output: &mut W) -> Result<(), io::Error>
     ensures { WritesText (W.contents output.old) (W.contents output.new)
         (body_encoding Style text.now) result }

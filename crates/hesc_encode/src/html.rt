@@ -14,6 +14,8 @@ use std::io::{self, Write};
 // `encode_text_minimal`: `&` and `<` become `&amp;` and `&lt;`.
 
 /// The encoding of `text`. Where nothing changes it is `text` itself, and takes no memory.
+///
+/// `encode_text_minimal(alloc, r#"it's "<b>""#)?` is `it's "&lt;b>"`.
 pub fn encode_text_minimal<'t, A: Allocator>(
     alloc: A,
     text: &'t str,
@@ -26,6 +28,9 @@ pub fn encode_text_minimal<'t, A: Allocator>(
 
 /// Appends the encoding of `text` to `output`, and answers the part that was added. On a refusal
 /// `output` is as it was.
+///
+/// `encode_text_minimal_to_string(r#"it's "<b>""#, &mut page)?`
+/// appends and answers `it's "&lt;b>"`.
 pub fn encode_text_minimal_to_string<'o, A: Allocator>(
     text: &str,
     output: &'o mut String<A>,
@@ -40,6 +45,9 @@ pub fn encode_text_minimal_to_string<'o, A: Allocator>(
 
 /// Appends the encoding of `text` to `output`, and answers the part that was added. On a refusal
 /// `output` is as it was.
+///
+/// `encode_text_minimal_to_vec(r#"it's "<b>""#, &mut bytes)?`
+/// appends and answers the bytes of `it's "&lt;b>"`.
 pub fn encode_text_minimal_to_vec<'o, A: Allocator>(
     text: &str,
     output: &'o mut Vec<u8, A>,
@@ -53,6 +61,8 @@ pub fn encode_text_minimal_to_vec<'o, A: Allocator>(
 }
 
 /// Writes the encoding of `text` to `output`, or a beginning of it and then the writer's fault.
+///
+/// `encode_text_minimal_to_writer(r#"it's "<b>""#, &mut writer)?` writes `it's "&lt;b>"`.
 pub fn encode_text_minimal_to_writer<W: Write>(text: &str, output: &mut W) -> Result<(), io::Error>
     ensures { WritesText (W.contents output.old) (W.contents output.new)
         (encoding Class.TextMinimal text.now) result }
@@ -87,6 +97,8 @@ fn encode_text_minimal_onto_vec<'o, A: Allocator>(
 // `encode_text`: `&`, `<` and `>` become `&amp;`, `&lt;` and `&gt;`.
 
 /// The encoding of `text`. Where nothing changes it is `text` itself, and takes no memory.
+///
+/// `encode_text(alloc, r#"it's "<b>""#)?` is `it's "&lt;b&gt;"`.
 pub fn encode_text<'t, A: Allocator>(alloc: A, text: &'t str) -> Result<CowStr<'t, A>, AllocError>
     ensures { AnswersText text.now (encoding Class.Text text.now)
         (html_changes Class.Text text.now 0) result }
@@ -96,6 +108,8 @@ pub fn encode_text<'t, A: Allocator>(alloc: A, text: &'t str) -> Result<CowStr<'
 
 /// Appends the encoding of `text` to `output`, and answers the part that was added. On a refusal
 /// `output` is as it was.
+///
+/// `encode_text_to_string(r#"it's "<b>""#, &mut page)?` appends and answers `it's "&lt;b&gt;"`.
 pub fn encode_text_to_string<'o, A: Allocator>(
     text: &str,
     output: &'o mut String<A>,
@@ -110,6 +124,9 @@ pub fn encode_text_to_string<'o, A: Allocator>(
 
 /// Appends the encoding of `text` to `output`, and answers the part that was added. On a refusal
 /// `output` is as it was.
+///
+/// `encode_text_to_vec(r#"it's "<b>""#, &mut bytes)?`
+/// appends and answers the bytes of `it's "&lt;b&gt;"`.
 pub fn encode_text_to_vec<'o, A: Allocator>(
     text: &str,
     output: &'o mut Vec<u8, A>,
@@ -123,6 +140,8 @@ pub fn encode_text_to_vec<'o, A: Allocator>(
 }
 
 /// Writes the encoding of `text` to `output`, or a beginning of it and then the writer's fault.
+///
+/// `encode_text_to_writer(r#"it's "<b>""#, &mut writer)?` writes `it's "&lt;b&gt;"`.
 pub fn encode_text_to_writer<W: Write>(text: &str, output: &mut W) -> Result<(), io::Error>
     ensures { WritesText (W.contents output.old) (W.contents output.new)
         (encoding Class.Text text.now) result }
@@ -158,6 +177,8 @@ fn encode_text_onto_vec<'o, A: Allocator>(
 // `&quot;`.
 
 /// The encoding of `text`. Where nothing changes it is `text` itself, and takes no memory.
+///
+/// `encode_double_quoted_attribute(alloc, r#"it's "<b>""#)?` is `it's &quot;&lt;b&gt;&quot;`.
 pub fn encode_double_quoted_attribute<'t, A: Allocator>(
     alloc: A,
     text: &'t str,
@@ -170,6 +191,9 @@ pub fn encode_double_quoted_attribute<'t, A: Allocator>(
 
 /// Appends the encoding of `text` to `output`, and answers the part that was added. On a refusal
 /// `output` is as it was.
+///
+/// `encode_double_quoted_attribute_to_string(r#"it's "<b>""#, &mut page)?`
+/// appends and answers `it's &quot;&lt;b&gt;&quot;`.
 pub fn encode_double_quoted_attribute_to_string<'o, A: Allocator>(
     text: &str,
     output: &'o mut String<A>,
@@ -184,6 +208,9 @@ pub fn encode_double_quoted_attribute_to_string<'o, A: Allocator>(
 
 /// Appends the encoding of `text` to `output`, and answers the part that was added. On a refusal
 /// `output` is as it was.
+///
+/// `encode_double_quoted_attribute_to_vec(r#"it's "<b>""#, &mut bytes)?`
+/// appends and answers the bytes of `it's &quot;&lt;b&gt;&quot;`.
 pub fn encode_double_quoted_attribute_to_vec<'o, A: Allocator>(
     text: &str,
     output: &'o mut Vec<u8, A>,
@@ -197,6 +224,9 @@ pub fn encode_double_quoted_attribute_to_vec<'o, A: Allocator>(
 }
 
 /// Writes the encoding of `text` to `output`, or a beginning of it and then the writer's fault.
+///
+/// `encode_double_quoted_attribute_to_writer(r#"it's "<b>""#, &mut writer)?`
+/// writes `it's &quot;&lt;b&gt;&quot;`.
 pub fn encode_double_quoted_attribute_to_writer<W: Write>(
     text: &str,
     output: &mut W,
@@ -235,6 +265,8 @@ fn encode_double_quoted_attribute_onto_vec<'o, A: Allocator>(
 // `&#x27;`.
 
 /// The encoding of `text`. Where nothing changes it is `text` itself, and takes no memory.
+///
+/// `encode_single_quoted_attribute(alloc, r#"it's "<b>""#)?` is `it&#x27;s "&lt;b&gt;"`.
 pub fn encode_single_quoted_attribute<'t, A: Allocator>(
     alloc: A,
     text: &'t str,
@@ -247,6 +279,9 @@ pub fn encode_single_quoted_attribute<'t, A: Allocator>(
 
 /// Appends the encoding of `text` to `output`, and answers the part that was added. On a refusal
 /// `output` is as it was.
+///
+/// `encode_single_quoted_attribute_to_string(r#"it's "<b>""#, &mut page)?`
+/// appends and answers `it&#x27;s "&lt;b&gt;"`.
 pub fn encode_single_quoted_attribute_to_string<'o, A: Allocator>(
     text: &str,
     output: &'o mut String<A>,
@@ -261,6 +296,9 @@ pub fn encode_single_quoted_attribute_to_string<'o, A: Allocator>(
 
 /// Appends the encoding of `text` to `output`, and answers the part that was added. On a refusal
 /// `output` is as it was.
+///
+/// `encode_single_quoted_attribute_to_vec(r#"it's "<b>""#, &mut bytes)?`
+/// appends and answers the bytes of `it&#x27;s "&lt;b&gt;"`.
 pub fn encode_single_quoted_attribute_to_vec<'o, A: Allocator>(
     text: &str,
     output: &'o mut Vec<u8, A>,
@@ -274,6 +312,9 @@ pub fn encode_single_quoted_attribute_to_vec<'o, A: Allocator>(
 }
 
 /// Writes the encoding of `text` to `output`, or a beginning of it and then the writer's fault.
+///
+/// `encode_single_quoted_attribute_to_writer(r#"it's "<b>""#, &mut writer)?`
+/// writes `it&#x27;s "&lt;b&gt;"`.
 pub fn encode_single_quoted_attribute_to_writer<W: Write>(
     text: &str,
     output: &mut W,
@@ -312,6 +353,8 @@ fn encode_single_quoted_attribute_onto_vec<'o, A: Allocator>(
 // `&#x27;`.
 
 /// The encoding of `text`. Where nothing changes it is `text` itself, and takes no memory.
+///
+/// `encode_quoted_attribute(alloc, r#"it's "<b>""#)?` is `it&#x27;s &quot;&lt;b&gt;&quot;`.
 pub fn encode_quoted_attribute<'t, A: Allocator>(
     alloc: A,
     text: &'t str,
@@ -324,6 +367,9 @@ pub fn encode_quoted_attribute<'t, A: Allocator>(
 
 /// Appends the encoding of `text` to `output`, and answers the part that was added. On a refusal
 /// `output` is as it was.
+///
+/// `encode_quoted_attribute_to_string(r#"it's "<b>""#, &mut page)?`
+/// appends and answers `it&#x27;s &quot;&lt;b&gt;&quot;`.
 pub fn encode_quoted_attribute_to_string<'o, A: Allocator>(
     text: &str,
     output: &'o mut String<A>,
@@ -338,6 +384,9 @@ pub fn encode_quoted_attribute_to_string<'o, A: Allocator>(
 
 /// Appends the encoding of `text` to `output`, and answers the part that was added. On a refusal
 /// `output` is as it was.
+///
+/// `encode_quoted_attribute_to_vec(r#"it's "<b>""#, &mut bytes)?`
+/// appends and answers the bytes of `it&#x27;s &quot;&lt;b&gt;&quot;`.
 pub fn encode_quoted_attribute_to_vec<'o, A: Allocator>(
     text: &str,
     output: &'o mut Vec<u8, A>,
@@ -351,6 +400,9 @@ pub fn encode_quoted_attribute_to_vec<'o, A: Allocator>(
 }
 
 /// Writes the encoding of `text` to `output`, or a beginning of it and then the writer's fault.
+///
+/// `encode_quoted_attribute_to_writer(r#"it's "<b>""#, &mut writer)?`
+/// writes `it&#x27;s &quot;&lt;b&gt;&quot;`.
 pub fn encode_quoted_attribute_to_writer<W: Write>(
     text: &str,
     output: &mut W,
@@ -389,6 +441,8 @@ fn encode_quoted_attribute_onto_vec<'o, A: Allocator>(
 // `&#x27;` and `&#x2F;`.
 
 /// The encoding of `text`. Where nothing changes it is `text` itself, and takes no memory.
+///
+/// `encode_safe(alloc, r#"it's "<b>""#)?` is `it&#x27;s &quot;&lt;b&gt;&quot;`.
 pub fn encode_safe<'t, A: Allocator>(alloc: A, text: &'t str) -> Result<CowStr<'t, A>, AllocError>
     ensures { AnswersText text.now (encoding Class.Safe text.now)
         (html_changes Class.Safe text.now 0) result }
@@ -398,6 +452,9 @@ pub fn encode_safe<'t, A: Allocator>(alloc: A, text: &'t str) -> Result<CowStr<'
 
 /// Appends the encoding of `text` to `output`, and answers the part that was added. On a refusal
 /// `output` is as it was.
+///
+/// `encode_safe_to_string(r#"it's "<b>""#, &mut page)?`
+/// appends and answers `it&#x27;s &quot;&lt;b&gt;&quot;`.
 pub fn encode_safe_to_string<'o, A: Allocator>(
     text: &str,
     output: &'o mut String<A>,
@@ -412,6 +469,9 @@ pub fn encode_safe_to_string<'o, A: Allocator>(
 
 /// Appends the encoding of `text` to `output`, and answers the part that was added. On a refusal
 /// `output` is as it was.
+///
+/// `encode_safe_to_vec(r#"it's "<b>""#, &mut bytes)?`
+/// appends and answers the bytes of `it&#x27;s &quot;&lt;b&gt;&quot;`.
 pub fn encode_safe_to_vec<'o, A: Allocator>(
     text: &str,
     output: &'o mut Vec<u8, A>,
@@ -425,6 +485,8 @@ pub fn encode_safe_to_vec<'o, A: Allocator>(
 }
 
 /// Writes the encoding of `text` to `output`, or a beginning of it and then the writer's fault.
+///
+/// `encode_safe_to_writer(r#"it's "<b>""#, &mut writer)?` writes `it&#x27;s &quot;&lt;b&gt;&quot;`.
 pub fn encode_safe_to_writer<W: Write>(text: &str, output: &mut W) -> Result<(), io::Error>
     ensures { WritesText (W.contents output.old) (W.contents output.new)
         (encoding Class.Safe text.now) result }
@@ -460,6 +522,8 @@ fn encode_safe_onto_vec<'o, A: Allocator>(
 // reference: `&amp;`, `&lt;`, `&gt;`, `&quot;`, else its number, as `&#x20;`.
 
 /// The encoding of `text`. Where nothing changes it is `text` itself, and takes no memory.
+///
+/// `encode_unquoted_attribute(alloc, r#"it's "<b>""#)?` is `it&#x27;s&#x20;&quot;&lt;b&gt;&quot;`.
 pub fn encode_unquoted_attribute<'t, A: Allocator>(
     alloc: A,
     text: &'t str,
@@ -472,6 +536,9 @@ pub fn encode_unquoted_attribute<'t, A: Allocator>(
 
 /// Appends the encoding of `text` to `output`, and answers the part that was added. On a refusal
 /// `output` is as it was.
+///
+/// `encode_unquoted_attribute_to_string(r#"it's "<b>""#, &mut page)?`
+/// appends and answers `it&#x27;s&#x20;&quot;&lt;b&gt;&quot;`.
 pub fn encode_unquoted_attribute_to_string<'o, A: Allocator>(
     text: &str,
     output: &'o mut String<A>,
@@ -486,6 +553,9 @@ pub fn encode_unquoted_attribute_to_string<'o, A: Allocator>(
 
 /// Appends the encoding of `text` to `output`, and answers the part that was added. On a refusal
 /// `output` is as it was.
+///
+/// `encode_unquoted_attribute_to_vec(r#"it's "<b>""#, &mut bytes)?`
+/// appends and answers the bytes of `it&#x27;s&#x20;&quot;&lt;b&gt;&quot;`.
 pub fn encode_unquoted_attribute_to_vec<'o, A: Allocator>(
     text: &str,
     output: &'o mut Vec<u8, A>,
@@ -499,6 +569,9 @@ pub fn encode_unquoted_attribute_to_vec<'o, A: Allocator>(
 }
 
 /// Writes the encoding of `text` to `output`, or a beginning of it and then the writer's fault.
+///
+/// `encode_unquoted_attribute_to_writer(r#"it's "<b>""#, &mut writer)?`
+/// writes `it&#x27;s&#x20;&quot;&lt;b&gt;&quot;`.
 pub fn encode_unquoted_attribute_to_writer<W: Write>(
     text: &str,
     output: &mut W,

@@ -17,6 +17,8 @@ use std::io::{self, Write};
 // become `\xHH`, and U+2028 and U+2029 become `\u2028` and `\u2029`.
 
 /// The encoding of `text`. Where nothing changes it is `text` itself, and takes no memory.
+///
+/// `encode_script_single_quoted_text(alloc, r#"it's "<b>""#)?` is `it\'s "\x3Cb>"`.
 pub fn encode_script_single_quoted_text<'t, A: Allocator>(
     alloc: A,
     text: &'t str,
@@ -29,6 +31,9 @@ pub fn encode_script_single_quoted_text<'t, A: Allocator>(
 
 /// Appends the encoding of `text` to `output`, and answers the part that was added. On a refusal
 /// `output` is as it was.
+///
+/// `encode_script_single_quoted_text_to_string(r#"it's "<b>""#, &mut page)?`
+/// appends and answers `it\'s "\x3Cb>"`.
 pub fn encode_script_single_quoted_text_to_string<'o, A: Allocator>(
     text: &str,
     output: &'o mut String<A>,
@@ -43,6 +48,9 @@ pub fn encode_script_single_quoted_text_to_string<'o, A: Allocator>(
 
 /// Appends the encoding of `text` to `output`, and answers the part that was added. On a refusal
 /// `output` is as it was.
+///
+/// `encode_script_single_quoted_text_to_vec(r#"it's "<b>""#, &mut bytes)?`
+/// appends and answers the bytes of `it\'s "\x3Cb>"`.
 pub fn encode_script_single_quoted_text_to_vec<'o, A: Allocator>(
     text: &str,
     output: &'o mut Vec<u8, A>,
@@ -56,6 +64,9 @@ pub fn encode_script_single_quoted_text_to_vec<'o, A: Allocator>(
 }
 
 /// Writes the encoding of `text` to `output`, or a beginning of it and then the writer's fault.
+///
+/// `encode_script_single_quoted_text_to_writer(r#"it's "<b>""#, &mut writer)?`
+/// writes `it\'s "\x3Cb>"`.
 pub fn encode_script_single_quoted_text_to_writer<W: Write>(
     text: &str,
     output: &mut W,
@@ -94,6 +105,8 @@ fn encode_script_single_quoted_text_onto_vec<'o, A: Allocator>(
 // become `\xHH`, and U+2028 and U+2029 become `\u2028` and `\u2029`.
 
 /// The encoding of `text`. Where nothing changes it is `text` itself, and takes no memory.
+///
+/// `encode_script_double_quoted_text(alloc, r#"it's "<b>""#)?` is `it's \"\x3Cb>\"`.
 pub fn encode_script_double_quoted_text<'t, A: Allocator>(
     alloc: A,
     text: &'t str,
@@ -106,6 +119,9 @@ pub fn encode_script_double_quoted_text<'t, A: Allocator>(
 
 /// Appends the encoding of `text` to `output`, and answers the part that was added. On a refusal
 /// `output` is as it was.
+///
+/// `encode_script_double_quoted_text_to_string(r#"it's "<b>""#, &mut page)?`
+/// appends and answers `it's \"\x3Cb>\"`.
 pub fn encode_script_double_quoted_text_to_string<'o, A: Allocator>(
     text: &str,
     output: &'o mut String<A>,
@@ -120,6 +136,9 @@ pub fn encode_script_double_quoted_text_to_string<'o, A: Allocator>(
 
 /// Appends the encoding of `text` to `output`, and answers the part that was added. On a refusal
 /// `output` is as it was.
+///
+/// `encode_script_double_quoted_text_to_vec(r#"it's "<b>""#, &mut bytes)?`
+/// appends and answers the bytes of `it's \"\x3Cb>\"`.
 pub fn encode_script_double_quoted_text_to_vec<'o, A: Allocator>(
     text: &str,
     output: &'o mut Vec<u8, A>,
@@ -133,6 +152,9 @@ pub fn encode_script_double_quoted_text_to_vec<'o, A: Allocator>(
 }
 
 /// Writes the encoding of `text` to `output`, or a beginning of it and then the writer's fault.
+///
+/// `encode_script_double_quoted_text_to_writer(r#"it's "<b>""#, &mut writer)?`
+/// writes `it's \"\x3Cb>\"`.
 pub fn encode_script_double_quoted_text_to_writer<W: Write>(
     text: &str,
     output: &mut W,
@@ -171,6 +193,8 @@ fn encode_script_double_quoted_text_onto_vec<'o, A: Allocator>(
 // `\xHH`, and U+2028 and U+2029 become `\u2028` and `\u2029`.
 
 /// The encoding of `text`. Where nothing changes it is `text` itself, and takes no memory.
+///
+/// `encode_script_quoted_text(alloc, r#"it's "<b>""#)?` is `it\'s \"\x3Cb>\"`.
 pub fn encode_script_quoted_text<'t, A: Allocator>(
     alloc: A,
     text: &'t str,
@@ -183,6 +207,9 @@ pub fn encode_script_quoted_text<'t, A: Allocator>(
 
 /// Appends the encoding of `text` to `output`, and answers the part that was added. On a refusal
 /// `output` is as it was.
+///
+/// `encode_script_quoted_text_to_string(r#"it's "<b>""#, &mut page)?`
+/// appends and answers `it\'s \"\x3Cb>\"`.
 pub fn encode_script_quoted_text_to_string<'o, A: Allocator>(
     text: &str,
     output: &'o mut String<A>,
@@ -197,6 +224,9 @@ pub fn encode_script_quoted_text_to_string<'o, A: Allocator>(
 
 /// Appends the encoding of `text` to `output`, and answers the part that was added. On a refusal
 /// `output` is as it was.
+///
+/// `encode_script_quoted_text_to_vec(r#"it's "<b>""#, &mut bytes)?`
+/// appends and answers the bytes of `it\'s \"\x3Cb>\"`.
 pub fn encode_script_quoted_text_to_vec<'o, A: Allocator>(
     text: &str,
     output: &'o mut Vec<u8, A>,
@@ -210,6 +240,8 @@ pub fn encode_script_quoted_text_to_vec<'o, A: Allocator>(
 }
 
 /// Writes the encoding of `text` to `output`, or a beginning of it and then the writer's fault.
+///
+/// `encode_script_quoted_text_to_writer(r#"it's "<b>""#, &mut writer)?` writes `it\'s \"\x3Cb>\"`.
 pub fn encode_script_quoted_text_to_writer<W: Write>(
     text: &str,
     output: &mut W,
@@ -248,6 +280,8 @@ fn encode_script_quoted_text_onto_vec<'o, A: Allocator>(
 // the other C0 controls and `<` become `\HH` and a space.
 
 /// The encoding of `text`. Where nothing changes it is `text` itself, and takes no memory.
+///
+/// `encode_style_single_quoted_text(alloc, r#"it's "<b>""#)?` is `it\'s "\3C b>"`.
 pub fn encode_style_single_quoted_text<'t, A: Allocator>(
     alloc: A,
     text: &'t str,
@@ -260,6 +294,9 @@ pub fn encode_style_single_quoted_text<'t, A: Allocator>(
 
 /// Appends the encoding of `text` to `output`, and answers the part that was added. On a refusal
 /// `output` is as it was.
+///
+/// `encode_style_single_quoted_text_to_string(r#"it's "<b>""#, &mut page)?`
+/// appends and answers `it\'s "\3C b>"`.
 pub fn encode_style_single_quoted_text_to_string<'o, A: Allocator>(
     text: &str,
     output: &'o mut String<A>,
@@ -274,6 +311,9 @@ pub fn encode_style_single_quoted_text_to_string<'o, A: Allocator>(
 
 /// Appends the encoding of `text` to `output`, and answers the part that was added. On a refusal
 /// `output` is as it was.
+///
+/// `encode_style_single_quoted_text_to_vec(r#"it's "<b>""#, &mut bytes)?`
+/// appends and answers the bytes of `it\'s "\3C b>"`.
 pub fn encode_style_single_quoted_text_to_vec<'o, A: Allocator>(
     text: &str,
     output: &'o mut Vec<u8, A>,
@@ -287,6 +327,9 @@ pub fn encode_style_single_quoted_text_to_vec<'o, A: Allocator>(
 }
 
 /// Writes the encoding of `text` to `output`, or a beginning of it and then the writer's fault.
+///
+/// `encode_style_single_quoted_text_to_writer(r#"it's "<b>""#, &mut writer)?`
+/// writes `it\'s "\3C b>"`.
 pub fn encode_style_single_quoted_text_to_writer<W: Write>(
     text: &str,
     output: &mut W,
@@ -325,6 +368,8 @@ fn encode_style_single_quoted_text_onto_vec<'o, A: Allocator>(
 // the other C0 controls and `<` become `\HH` and a space.
 
 /// The encoding of `text`. Where nothing changes it is `text` itself, and takes no memory.
+///
+/// `encode_style_double_quoted_text(alloc, r#"it's "<b>""#)?` is `it's \"\3C b>\"`.
 pub fn encode_style_double_quoted_text<'t, A: Allocator>(
     alloc: A,
     text: &'t str,
@@ -337,6 +382,9 @@ pub fn encode_style_double_quoted_text<'t, A: Allocator>(
 
 /// Appends the encoding of `text` to `output`, and answers the part that was added. On a refusal
 /// `output` is as it was.
+///
+/// `encode_style_double_quoted_text_to_string(r#"it's "<b>""#, &mut page)?`
+/// appends and answers `it's \"\3C b>\"`.
 pub fn encode_style_double_quoted_text_to_string<'o, A: Allocator>(
     text: &str,
     output: &'o mut String<A>,
@@ -351,6 +399,9 @@ pub fn encode_style_double_quoted_text_to_string<'o, A: Allocator>(
 
 /// Appends the encoding of `text` to `output`, and answers the part that was added. On a refusal
 /// `output` is as it was.
+///
+/// `encode_style_double_quoted_text_to_vec(r#"it's "<b>""#, &mut bytes)?`
+/// appends and answers the bytes of `it's \"\3C b>\"`.
 pub fn encode_style_double_quoted_text_to_vec<'o, A: Allocator>(
     text: &str,
     output: &'o mut Vec<u8, A>,
@@ -364,6 +415,9 @@ pub fn encode_style_double_quoted_text_to_vec<'o, A: Allocator>(
 }
 
 /// Writes the encoding of `text` to `output`, or a beginning of it and then the writer's fault.
+///
+/// `encode_style_double_quoted_text_to_writer(r#"it's "<b>""#, &mut writer)?`
+/// writes `it's \"\3C b>\"`.
 pub fn encode_style_double_quoted_text_to_writer<W: Write>(
     text: &str,
     output: &mut W,
@@ -402,6 +456,8 @@ fn encode_style_double_quoted_text_onto_vec<'o, A: Allocator>(
 // other C0 controls and `<` become `\HH` and a space.
 
 /// The encoding of `text`. Where nothing changes it is `text` itself, and takes no memory.
+///
+/// `encode_style_quoted_text(alloc, r#"it's "<b>""#)?` is `it\'s \"\3C b>\"`.
 pub fn encode_style_quoted_text<'t, A: Allocator>(
     alloc: A,
     text: &'t str,
@@ -414,6 +470,9 @@ pub fn encode_style_quoted_text<'t, A: Allocator>(
 
 /// Appends the encoding of `text` to `output`, and answers the part that was added. On a refusal
 /// `output` is as it was.
+///
+/// `encode_style_quoted_text_to_string(r#"it's "<b>""#, &mut page)?`
+/// appends and answers `it\'s \"\3C b>\"`.
 pub fn encode_style_quoted_text_to_string<'o, A: Allocator>(
     text: &str,
     output: &'o mut String<A>,
@@ -428,6 +487,9 @@ pub fn encode_style_quoted_text_to_string<'o, A: Allocator>(
 
 /// Appends the encoding of `text` to `output`, and answers the part that was added. On a refusal
 /// `output` is as it was.
+///
+/// `encode_style_quoted_text_to_vec(r#"it's "<b>""#, &mut bytes)?`
+/// appends and answers the bytes of `it\'s \"\3C b>\"`.
 pub fn encode_style_quoted_text_to_vec<'o, A: Allocator>(
     text: &str,
     output: &'o mut Vec<u8, A>,
@@ -441,6 +503,8 @@ pub fn encode_style_quoted_text_to_vec<'o, A: Allocator>(
 }
 
 /// Writes the encoding of `text` to `output`, or a beginning of it and then the writer's fault.
+///
+/// `encode_style_quoted_text_to_writer(r#"it's "<b>""#, &mut writer)?` writes `it\'s \"\3C b>\"`.
 pub fn encode_style_quoted_text_to_writer<W: Write>(
     text: &str,
     output: &mut W,
