@@ -91,7 +91,7 @@ fn enclosed<A: Allocator>(
     };
     let mut output = String::new(alloc);
     match append_enclosed(&mut output, encoder, place, text) {
-        Ok(()) => Ok(output.into_bytes()),
+        Ok(_) => Ok(output.into_bytes()),
         Err(PlaceFault::NotForPlace) => Err(Fault::NotForPlace),
         Err(PlaceFault::EmptyUnquoted) => Err(Fault::EmptyUnquoted),
         Err(PlaceFault::Memory) => Err(Fault::Memory),
@@ -104,7 +104,7 @@ fn page<A: Allocator>(alloc: A, first: &str, second: &str, third: &str) -> Resul
 {
     let mut output = String::new(alloc);
     match append_page(&mut output, first, second, third) {
-        Ok(()) => Ok(output.into_bytes()),
+        Ok(_) => Ok(output.into_bytes()),
         Err(PlaceFault::NotForPlace) => Err(Fault::NotForPlace),
         Err(PlaceFault::EmptyUnquoted) => Err(Fault::EmptyUnquoted),
         Err(PlaceFault::Memory) => Err(Fault::Memory),
@@ -135,7 +135,7 @@ fn form<A: Allocator + Clone>(alloc: A, words: FormWords<'_>) -> Result<Vec<u8, 
     };
     let mut output = String::new(alloc);
     match append_form(&mut output, attributes.as_slice(), words.script) {
-        Ok(()) => Ok(output.into_bytes()),
+        Ok(_) => Ok(output.into_bytes()),
         Err(FormFault::BadName(_)) => Err(Fault::BadName),
         Err(FormFault::EmptyUnquoted(_)) => Err(Fault::EmptyUnquoted),
         Err(FormFault::Memory) => Err(Fault::Memory),

@@ -21,10 +21,10 @@ pub fn append_lines<A: Allocator>(
     let mut from = 0;
     'pushing: while from < text.len() {
         let end = end_of_line(text, from);
-        session.append_piece(&text[from..end], output)?;
+        BodyEncoder::append_piece(output, &mut session, &text[from..end])?;
         from = end;
     }
-    session.append_rest(output)?;
+    BodyEncoder::append_rest(output, &mut session)?;
     Ok(())
 }
 

@@ -34,11 +34,12 @@ pub fn build_form<'o, A: Allocator>(
         → length (form_text (map written attributes.now) script.now) ≤ string_room output.old
         → IsOk result }
 {
-    build_form_onto(output, attributes, script)
+    append_form(output, attributes, script)
 }
 
-// `build_form` with the output first, the order in which the check follows a loan by itself.
-fn build_form_onto<'o, A: Allocator>(
+/// [`build_form`] with the output first: a caller's proof learns the answered part, and all of what
+/// `output` holds afterwards.
+pub fn append_form<'o, A: Allocator>(
     output: &'o mut String<A>,
     attributes: &[Attribute],
     script: &str,
@@ -55,13 +56,12 @@ fn build_form_onto<'o, A: Allocator>(
         → IsOk result }
 {
     let start = output.as_str().len();
-    append_form(output, attributes, script)?;
+    add_form(output, attributes, script)?;
     Ok(&output.as_str()[start..])
 }
 
-/// Appends what [`build_form`] does, and answers nothing. A caller's proof learns from this call what
-/// `output` holds afterwards, and from `build_form` only what its answer is.
-pub fn append_form<A: Allocator>(
+// Appends, and answers nothing.
+fn add_form<A: Allocator>(
     output: &mut String<A>,
     attributes: &[Attribute],
     script: &str,

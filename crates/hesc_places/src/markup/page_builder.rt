@@ -32,11 +32,12 @@ pub fn build_page<'o, A: Allocator>(
     ensures fits { length a.now ≢ 0
         → length (page_text a.now b.now c.now) ≤ string_room output.old → IsOk result }
 {
-    build_page_onto(output, a, b, c)
+    append_page(output, a, b, c)
 }
 
-// `build_page` with the output first, the order in which the check follows a loan by itself.
-fn build_page_onto<'o, A: Allocator>(
+/// [`build_page`] with the output first: a caller's proof learns the answered part, and all of what
+/// `output` holds afterwards.
+pub fn append_page<'o, A: Allocator>(
     output: &'o mut String<A>,
     a: &str,
     b: &str,
@@ -52,13 +53,12 @@ fn build_page_onto<'o, A: Allocator>(
         → length (page_text a.now b.now c.now) ≤ string_room output.old → IsOk result }
 {
     let start = output.as_str().len();
-    append_page(output, a, b, c)?;
+    add_page(output, a, b, c)?;
     Ok(&output.as_str()[start..])
 }
 
-/// Appends what [`build_page`] does, and answers nothing. A caller's proof learns from this call what
-/// `output` holds afterwards, and from `build_page` only what its answer is.
-pub fn append_page<A: Allocator>(
+// Appends, and answers nothing.
+fn add_page<A: Allocator>(
     output: &mut String<A>,
     a: &str,
     b: &str,

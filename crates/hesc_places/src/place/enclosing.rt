@@ -57,11 +57,12 @@ pub fn enclose<'o, A: Allocator>(
     ensures fits { IsTrue (suits encoder place) → MayHold place text.now
         → length (enclosed encoder place text.now) ≤ string_room output.old → IsOk result }
 {
-    enclose_onto(output, encoder, place, text)
+    append_enclosed(output, encoder, place, text)
 }
 
-// `enclose` with the output first, the order in which the check follows a loan by itself.
-fn enclose_onto<'o, A: Allocator>(
+/// [`enclose`] with the output first: a caller's proof learns the answered part, and all of what
+/// `output` holds afterwards.
+pub fn append_enclosed<'o, A: Allocator>(
     output: &'o mut String<A>,
     encoder: Encoder,
     place: Place,
@@ -77,13 +78,12 @@ fn enclose_onto<'o, A: Allocator>(
         → length (enclosed encoder place text.now) ≤ string_room output.old → IsOk result }
 {
     let start = output.as_str().len();
-    append_enclosed(output, encoder, place, text)?;
+    add_enclosed(output, encoder, place, text)?;
     Ok(&output.as_str()[start..])
 }
 
-/// Appends what [`enclose`] does, and answers nothing. A caller's proof learns from this call what
-/// `output` holds afterwards, and from `enclose` only what its answer is.
-pub fn append_enclosed<A: Allocator>(
+// Appends, and answers nothing.
+fn add_enclosed<A: Allocator>(
     output: &mut String<A>,
     encoder: Encoder,
     place: Place,

@@ -62,7 +62,7 @@ impl BodyEncoder {
         ensures kind { kind_of self.new ≡ kind_of self.old }
         ensures refused { OnErr result (self.new ≡ self.old) }
     {
-        Self::push_onto(output, self, piece)
+        Self::append_piece(output, self, piece)
     }
 
     /// Ends the body: appends the encoding of what is held, and answers that part. The session is
@@ -81,12 +81,54 @@ impl BodyEncoder {
         ensures kind { kind_of self.new ≡ kind_of self.old }
         ensures refused { OnErr result (self.new ≡ self.old) }
     {
-        Self::finish_onto(output, self)
+        Self::append_rest(output, self)
     }
 
-    /// Appends what [`push`](Self::push) does, and answers nothing. A caller's proof learns from
-    /// this call what `output` holds afterwards, and from `push` only what its answer is.
-    pub fn append_piece<A: Allocator>(
+    /// [`push`](Self::push) with the output first: a caller's proof learns the answered part, and
+    /// all of what `output` holds afterwards.
+    pub fn append_piece<'o, A: Allocator>(
+        output: &'o mut String<A>,
+        session: &mut BodyEncoder,
+        piece: &str,
+    ) -> Result<&'o str, AllocError>
+        ensures part { AnswersPart (string_room output.old) (added_with session.old piece.now) result }
+        ensures* appended { sem 𝓛 (StringAppended A.row A.Allocator output.entry
+            (added_with session.old piece.now) result) }
+
+        ensures step { IfOk result (λ part. IsStep (kind_of session.old)
+            (held_by session.old) piece.now (held_by session.new) part.now) }
+        ensures held { OnOk result
+            (held_by session.new ≡ partial_end (kind_of session.old) (held_by session.old ++ piece.now)) }
+        ensures few { length (held_by session.new) ≤ 8 }
+        ensures kind { kind_of session.new ≡ kind_of session.old }
+        ensures refused { OnErr result (session.new ≡ session.old) }
+    {
+        let start = output.as_str().len();
+        session.add_piece(piece, output)?;
+        Ok(&output.as_str()[start..])
+    }
+
+    /// [`finish`](Self::finish) with the output first.
+    pub fn append_rest<'o, A: Allocator>(
+        output: &'o mut String<A>,
+        session: &mut BodyEncoder,
+    ) -> Result<&'o str, AllocError>
+        ensures part { AnswersPart (string_room output.old)
+            (body_encoding (kind_of session.old) (held_by session.old)) result }
+        ensures* appended { sem 𝓛 (StringAppended A.row A.Allocator output.entry
+            (body_encoding (kind_of session.old) (held_by session.old)) result) }
+
+        ensures nothing { OnOk result (held_by session.new ≡ []) }
+        ensures kind { kind_of session.new ≡ kind_of session.old }
+        ensures refused { OnErr result (session.new ≡ session.old) }
+    {
+        let start = output.as_str().len();
+        session.add_rest(output)?;
+        Ok(&output.as_str()[start..])
+    }
+
+    // Appends what is decided with this piece, and answers nothing.
+    fn add_piece<A: Allocator>(
         &mut self,
         piece: &str,
         output: &mut String<A>,
@@ -123,8 +165,8 @@ impl BodyEncoder {
         Ok(())
     }
 
-    /// Appends what [`finish`](Self::finish) does, and answers nothing.
-    pub fn append_rest<A: Allocator>(&mut self, output: &mut String<A>) -> Result<(), AllocError>
+    // Appends the encoding of what is held, and answers nothing.
+    fn add_rest<A: Allocator>(&mut self, output: &mut String<A>) -> Result<(), AllocError>
         ensures appended { Appended (string_bytes output.old) (string_bytes output.new)
             (body_encoding (kind_of self.old) (held_by self.old)) result }
         ensures fits { length (body_encoding (kind_of self.old) (held_by self.old))
@@ -148,47 +190,5 @@ impl BodyEncoder {
     {
         // What is partial is ASCII.
         unsafe { str::from_utf8_unchecked(self.held.as_slice()) }
-    }
-
-    // `push` with the output first, the order in which the check follows a loan by itself.
-    fn push_onto<'o, A: Allocator>(
-        output: &'o mut String<A>,
-        session: &mut BodyEncoder,
-        piece: &str,
-    ) -> Result<&'o str, AllocError>
-        ensures part { AnswersPart (string_room output.old) (added_with session.old piece.now) result }
-        ensures* appended { sem 𝓛 (StringAppended A.row A.Allocator output.entry
-            (added_with session.old piece.now) result) }
-
-        ensures step { IfOk result (λ part. IsStep (kind_of session.old)
-            (held_by session.old) piece.now (held_by session.new) part.now) }
-        ensures held { OnOk result
-            (held_by session.new ≡ partial_end (kind_of session.old) (held_by session.old ++ piece.now)) }
-        ensures few { length (held_by session.new) ≤ 8 }
-        ensures kind { kind_of session.new ≡ kind_of session.old }
-        ensures refused { OnErr result (session.new ≡ session.old) }
-    {
-        let start = output.as_str().len();
-        session.append_piece(piece, output)?;
-        Ok(&output.as_str()[start..])
-    }
-
-    // `finish` with the output first.
-    fn finish_onto<'o, A: Allocator>(
-        output: &'o mut String<A>,
-        session: &mut BodyEncoder,
-    ) -> Result<&'o str, AllocError>
-        ensures part { AnswersPart (string_room output.old)
-            (body_encoding (kind_of session.old) (held_by session.old)) result }
-        ensures* appended { sem 𝓛 (StringAppended A.row A.Allocator output.entry
-            (body_encoding (kind_of session.old) (held_by session.old)) result) }
-
-        ensures nothing { OnOk result (held_by session.new ≡ []) }
-        ensures kind { kind_of session.new ≡ kind_of session.old }
-        ensures refused { OnErr result (session.new ≡ session.old) }
-    {
-        let start = output.as_str().len();
-        session.append_rest(output)?;
-        Ok(&output.as_str()[start..])
     }
 }

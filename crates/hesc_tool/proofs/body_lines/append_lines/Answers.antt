@@ -30,11 +30,12 @@ pushed kind old out new held held' added line text from end ordered is appended 
 pub pushing-preserved : goal.pushing-preserved
 pushing-preserved g c =
     let pushing = c.in_ok-append_piece.ensures in
+    let appended = rw c.in_ok-append_piece.was at c.append_piece.follows.holds-at-none in
     let before = c.pushing.invariant in
     record {
       boundary = c.end_of_line-end.ensures.boundary;
       kind = pushing.kind ∙ before.kind;
-      added = pushed c.args.kind (string_bytes c.args.output.now) (string_bytes c.pushing.output) (string_bytes c.append_piece.new.output) (held_by c.pushing.session) (held_by c.append_piece.new.self)
+      added = pushed c.args.kind (string_bytes c.args.output.now) (string_bytes c.pushing.output) (string_bytes c.append_piece.follows.lender-at-none) (held_by c.pushing.session) (held_by c.append_piece.new.session)
           (decided_encoding c.args.kind (held_by c.pushing.session ++ c.range.result.now)) c.range.result.now c.args.text.now c.pushing.from c.end_of_line-end.result (omega (arith, c.end_of_line-end.ensures.after))
-          c.range.ensures.value (rw before.kind at pushing.appended) (rw before.kind at pushing.step.0) before.added;
+          c.range.ensures.value (rw before.kind at appended) (rw (pushing.part.part, before.kind) at pushing.step.0) before.added;
     }

@@ -1,4 +1,4 @@
--- The call hands the output on for good, so that what `build_form_onto` says of its end holds here.
+-- The call hands the output on for good, so that what `append_form` says of its end holds here.
 use Rattle.std.proofs.Common.{[], ◌∷◌, refl}
 use Rattle.std.proofs.raw_atomic.Walks.{proved}
 use base.Logic.{id⊢}
@@ -35,10 +35,10 @@ use Rattle.hesc_places.specs.contracts.markup.types.Attribute as attribute
 use Rattle.hesc_places.specs.contracts.markup.types.FormFault as fault
 use Rattle.hesc_places.proofs.markup.types.FormFault.TheLaws as fault_laws
 use Rattle.hesc_places.specs.contracts.markup.form_builder.build_form as f
-use Rattle.hesc_places.specs.contracts.markup.form_builder.build_form_onto as g
+use Rattle.hesc_places.specs.contracts.markup.form_builder.append_form as g
 use Rattle.hesc_places.proofs.markup.form_builder.build_form.Statement.{statement}
 use Rattle.hesc_places.proofs.markup.form_builder.build_form.Code as code
-use Rattle.hesc_places.proofs.markup.form_builder.build_form_onto.Met as callee
+use Rattle.hesc_places.proofs.markup.form_builder.append_form.Met as callee
 
 -- the lifetimes of the attributes, of what is in them, of the script, the output and the allocator, in the order of the call
 abbrev turned_lfts : Lfts 5 → Lfts 5
@@ -95,7 +95,7 @@ build_form_spec 𝓤 𝓛 𝓜 𝓡 wired A L alloc d dd met md =
       ((tt, (tt, (record { fits = are.1.0.0.0.1.0 }, tt))), ((tt, tt), tt)),
     ) $
     sets ! (addr ! (through ! refl (stop !))) refl (tt, tt) $
-    calls_at ! (framed 𝓤 𝓛.H 𝓜 (tables 𝓤 𝓛.H 𝓜 𝓡 𝓡.env)) G (callee.met 𝓤 𝓛 𝓜 𝓡 (code.calls-hesc_places::markup::form_builder::build_form_onto 𝓡.env wired) A L alloc d dd met md) z
+    calls_at ! (framed 𝓤 𝓛.H 𝓜 (tables 𝓤 𝓛.H 𝓜 𝓡 𝓡.env)) G (callee.met 𝓤 𝓛 𝓜 𝓡 (code.calls-hesc_places::markup::form_builder::append_form 𝓡.env wired) A L alloc d dd met md) z
     (and_then ! (get ! refl) (and_then ! (get ! refl) (and_then ! (get ! refl) (no_more !)))) (λ v.
     use1 𝓛 (
     later (some (λ (r : Res turned.signature κs'). (

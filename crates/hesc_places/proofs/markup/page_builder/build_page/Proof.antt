@@ -1,4 +1,4 @@
--- The call hands the output on for good, so that what `build_page_onto` says of its end holds here.
+-- The call hands the output on for good, so that what `append_page` says of its end holds here.
 use Rattle.std.proofs.Common.{[], ◌∷◌, refl}
 use Rattle.std.proofs.raw_atomic.Walks.{proved}
 use base.Logic.{id⊢}
@@ -34,10 +34,10 @@ use Rattle.hesc_engine.proofs.HandsOn.{over}
 use Rattle.hesc_places.specs.contracts.place.enclosing.PlaceFault as fault
 use Rattle.hesc_places.proofs.place.enclosing.PlaceFault.TheLaws as fault_laws
 use Rattle.hesc_places.specs.contracts.markup.page_builder.build_page as f
-use Rattle.hesc_places.specs.contracts.markup.page_builder.build_page_onto as g
+use Rattle.hesc_places.specs.contracts.markup.page_builder.append_page as g
 use Rattle.hesc_places.proofs.markup.page_builder.build_page.Statement.{statement}
 use Rattle.hesc_places.proofs.markup.page_builder.build_page.Code as code
-use Rattle.hesc_places.proofs.markup.page_builder.build_page_onto.Met as callee
+use Rattle.hesc_places.proofs.markup.page_builder.append_page.Met as callee
 
 -- the lifetimes of the texts, the output and the allocator, in the order of the call
 abbrev turned_lfts : Lfts 5 → Lfts 5
@@ -102,7 +102,7 @@ build_page_spec 𝓤 𝓛 𝓜 𝓡 wired A L alloc d dd met md =
       ),
     ) $
     sets ! (addr ! (through ! refl (stop !))) refl (tt, tt) $
-    calls_at ! (framed 𝓤 𝓛.H 𝓜 (tables 𝓤 𝓛.H 𝓜 𝓡 𝓡.env)) G (callee.met 𝓤 𝓛 𝓜 𝓡 (code.calls-hesc_places::markup::page_builder::build_page_onto 𝓡.env wired) A L alloc d dd met md) z
+    calls_at ! (framed 𝓤 𝓛.H 𝓜 (tables 𝓤 𝓛.H 𝓜 𝓡 𝓡.env)) G (callee.met 𝓤 𝓛 𝓜 𝓡 (code.calls-hesc_places::markup::page_builder::append_page 𝓡.env wired) A L alloc d dd met md) z
     (and_then ! (get ! refl) (and_then ! (get ! refl) (and_then ! (get ! refl) (and_then ! (get ! refl) (no_more !))))) (λ v.
     use1 𝓛 (
     later (some (λ (r : Res turned.signature κs'). (

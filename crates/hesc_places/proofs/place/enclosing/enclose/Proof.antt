@@ -1,4 +1,4 @@
--- The call hands the output on for good, so that what `enclose_onto` says of its end holds here.
+-- The call hands the output on for good, so that what `append_enclosed` says of its end holds here.
 use Rattle.std.proofs.Common.{List, [], ◌∷◌, refl}
 use Rattle.std.proofs.raw_atomic.Walks.{proved}
 use base.Logic.{id⊢}
@@ -39,10 +39,10 @@ use Rattle.hesc_places.proofs.place.places.Place.TheLaws as place_laws
 use Rattle.hesc_places.specs.contracts.place.enclosing.PlaceFault as fault
 use Rattle.hesc_places.proofs.place.enclosing.PlaceFault.TheLaws as fault_laws
 use Rattle.hesc_places.specs.contracts.place.enclosing.enclose as f
-use Rattle.hesc_places.specs.contracts.place.enclosing.enclose_onto as g
+use Rattle.hesc_places.specs.contracts.place.enclosing.append_enclosed as g
 use Rattle.hesc_places.proofs.place.enclosing.enclose.Statement.{statement}
 use Rattle.hesc_places.proofs.place.enclosing.enclose.Code as code
-use Rattle.hesc_places.proofs.place.enclosing.enclose_onto.Met as callee
+use Rattle.hesc_places.proofs.place.enclosing.append_enclosed.Met as callee
 
 pub enclose_spec : {M : Type 1} → statement M
 enclose_spec 𝓤 𝓛 𝓜 𝓡 wired A L alloc d dd met md =
@@ -81,7 +81,7 @@ enclose_spec 𝓤 𝓛 𝓜 𝓡 wired A L alloc d dd met md =
     enter ! _ _ _ _ _ $
     alloc_all ! (λ l. pass_all ! refl (((encoder_laws.the_row_laws.lawful 𝓛).typed a.0 es are.0).0, (((place_laws.the_row_laws.lawful 𝓛).typed a.1.0 ps are.1.0).0, ((tt, (tt, (record { fits = are.1.1.0.0.0.1.0 }, tt))), ((tt, tt), tt)))) $
     sets ! (addr ! (through ! refl (stop !))) refl (tt, tt) $
-    calls_at ! (framed 𝓤 𝓛.H 𝓜 (tables 𝓤 𝓛.H 𝓜 𝓡 𝓡.env)) G (callee.met 𝓤 𝓛 𝓜 𝓡 (code.calls-hesc_places::place::enclosing::enclose_onto 𝓡.env wired) A L alloc d dd met md) z
+    calls_at ! (framed 𝓤 𝓛.H 𝓜 (tables 𝓤 𝓛.H 𝓜 𝓡 𝓡.env)) G (callee.met 𝓤 𝓛 𝓜 𝓡 (code.calls-hesc_places::place::enclosing::append_enclosed 𝓡.env wired) A L alloc d dd met md) z
     (and_then ! (get ! refl) (and_then ! (get ! refl) (and_then ! (get ! refl) (and_then ! (get ! refl) (no_more !))))) (λ v.
     use1 𝓛 (later (some (λ (r : Res turned.signature κs'). ((‵ (flft κs.1.0 qs.1.0) ⊛ (‵ (flft κs.0 qs.0) ⊛ (‵ (flft κs.1.1.0 qs.1.1.0) ⊛ ‵ ftrue))) ⊛ ‵ (Y.own_val r (v ∷ []))) ⊛
     some (λ (ws : Lasts turned κs' a'). ‵ (lasts turned κs' a' ws) ⊛ raw ((e κs' a').ensures n r (at_exit turned κs' a' ws)))))) (id⊢ 𝓤 _) $

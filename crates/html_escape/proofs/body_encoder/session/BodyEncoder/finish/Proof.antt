@@ -1,4 +1,4 @@
--- The call hands the output and the session on for good, so that what `finish_onto` says of their ends holds here.
+-- The call hands the output and the session on for good, so that what `append_rest` says of their ends holds here.
 use Rattle.std.proofs.Common.{[], ◌∷◌, refl}
 use Rattle.std.proofs.raw_atomic.Walks.{proved}
 use base.Logic.{id⊢}
@@ -32,10 +32,10 @@ use Rattle.hesc_engine.specs.Forms.{string_row}
 use Rattle.hesc_engine.proofs.HandsOn.{over, turned_lfts}
 use Rattle.html_escape.specs.contracts.body_encoder.session.BodyEncoder as encoder
 use Rattle.html_escape.specs.contracts.body_encoder.session.BodyEncoder.finish as f
-use Rattle.html_escape.specs.contracts.body_encoder.session.BodyEncoder.finish_onto as g
+use Rattle.html_escape.specs.contracts.body_encoder.session.BodyEncoder.append_rest as g
 use Rattle.html_escape.proofs.body_encoder.session.BodyEncoder.finish.Statement.{statement}
 use Rattle.html_escape.proofs.body_encoder.session.BodyEncoder.finish.Code as code
-use Rattle.html_escape.proofs.body_encoder.session.BodyEncoder.finish_onto.Met as callee
+use Rattle.html_escape.proofs.body_encoder.session.BodyEncoder.append_rest.Met as callee
 
 pub finish_spec : {M : Type 1} → statement M
 finish_spec 𝓤 𝓛 𝓜 𝓡 wired A L alloc d dd met md =
@@ -68,7 +68,7 @@ finish_spec 𝓤 𝓛 𝓜 𝓡 wired A L alloc d dd met md =
     enter ! _ _ _ _ _ $
     alloc_all ! (λ l. pass_all ! refl ((tt, tt), ((tt, tt), tt)) $
     sets ! (addr ! (through ! refl (stop !))) refl (tt, tt) $ sets ! (addr ! (through ! refl (stop !))) refl (tt, tt) $
-    calls_at ! (framed 𝓤 𝓛.H 𝓜 (tables 𝓤 𝓛.H 𝓜 𝓡 𝓡.env)) G (callee.met 𝓤 𝓛 𝓜 𝓡 (code.calls-html_escape::body_encoder::session::BodyEncoder::finish_onto 𝓡.env wired) A L alloc d dd met md) z
+    calls_at ! (framed 𝓤 𝓛.H 𝓜 (tables 𝓤 𝓛.H 𝓜 𝓡 𝓡.env)) G (callee.met 𝓤 𝓛 𝓜 𝓡 (code.calls-html_escape::body_encoder::session::BodyEncoder::append_rest 𝓡.env wired) A L alloc d dd met md) z
     (and_then ! (get ! refl) (and_then ! (get ! refl) (no_more !))) (λ v.
     use1 𝓛 (later (some (λ (r : Res turned.signature κs'). ((‵ (flft κs.1.0 qs.1.0) ⊛ (‵ (flft κs.0 qs.0) ⊛ (‵ (flft κs.1.1.0 qs.1.1.0) ⊛ ‵ ftrue))) ⊛ ‵ (Y.own_val r (v ∷ []))) ⊛
     some (λ (ws : Lasts turned κs' a'). ‵ (lasts turned κs' a' ws) ⊛ raw ((e κs' a').ensures n r (at_exit turned κs' a' ws)))))) (id⊢ 𝓤 _) $

@@ -1,4 +1,4 @@
--- The call hands the output and the session on for good, so that what `push_onto` says of their ends holds here.
+-- The call hands the output and the session on for good, so that what `append_piece` says of their ends holds here.
 use Rattle.std.proofs.Common.{[], ◌∷◌, refl}
 use Rattle.std.proofs.raw_atomic.Walks.{proved}
 use base.Logic.{id⊢}
@@ -35,10 +35,10 @@ use Rattle.hesc_engine.specs.Forms.{string_row}
 use Rattle.hesc_engine.proofs.HandsOn.{over}
 use Rattle.html_escape.specs.contracts.body_encoder.session.BodyEncoder as encoder
 use Rattle.html_escape.specs.contracts.body_encoder.session.BodyEncoder.push as f
-use Rattle.html_escape.specs.contracts.body_encoder.session.BodyEncoder.push_onto as g
+use Rattle.html_escape.specs.contracts.body_encoder.session.BodyEncoder.append_piece as g
 use Rattle.html_escape.proofs.body_encoder.session.BodyEncoder.push.Statement.{statement}
 use Rattle.html_escape.proofs.body_encoder.session.BodyEncoder.push.Code as code
-use Rattle.html_escape.proofs.body_encoder.session.BodyEncoder.push_onto.Met as callee
+use Rattle.html_escape.proofs.body_encoder.session.BodyEncoder.append_piece.Met as callee
 
 -- the lifetimes of the session, the piece, the output and the allocator, in the order of the call
 abbrev turned_lfts : Lfts 4 → Lfts 4
@@ -87,7 +87,7 @@ push_spec 𝓤 𝓛 𝓜 𝓡 wired A L alloc d dd met md =
     enter ! _ _ _ _ _ $
     alloc_all ! (λ l. pass_all ! refl ((tt, tt), ((tt, (tt, (record { fits = are.1.0.0.0.1.0 }, tt))), ((tt, tt), tt))) $
     sets ! (addr ! (through ! refl (stop !))) refl (tt, tt) $ sets ! (addr ! (through ! refl (stop !))) refl (tt, tt) $
-    calls_at ! (framed 𝓤 𝓛.H 𝓜 (tables 𝓤 𝓛.H 𝓜 𝓡 𝓡.env)) G (callee.met 𝓤 𝓛 𝓜 𝓡 (code.calls-html_escape::body_encoder::session::BodyEncoder::push_onto 𝓡.env wired) A L alloc d dd met md) z
+    calls_at ! (framed 𝓤 𝓛.H 𝓜 (tables 𝓤 𝓛.H 𝓜 𝓡 𝓡.env)) G (callee.met 𝓤 𝓛 𝓜 𝓡 (code.calls-html_escape::body_encoder::session::BodyEncoder::append_piece 𝓡.env wired) A L alloc d dd met md) z
     (and_then ! (get ! refl) (and_then ! (get ! refl) (and_then ! (get ! refl) (no_more !)))) (λ v.
     use1 𝓛 (
     later (some (λ (r : Res turned.signature κs').

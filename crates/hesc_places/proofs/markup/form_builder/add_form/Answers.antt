@@ -1,7 +1,7 @@
 use Rattle.std.proofs.Common.{map}
 use Rattle.hesc_places.specs.Pages.FormTexts.{written}
 use Rattle.hesc_places.proofs.Pages.AnsweredFaults.{answered, good, not_good}
-use Rattle.hesc_places.proofs.markup.form_builder.append_form.Goals as goal
+use Rattle.hesc_places.proofs.markup.form_builder.add_form.Goals as goal
 
 pub returns-in-Some-clause-faults : goal.returns-in-Some-clause-faults
 returns-in-Some-clause-faults g c = answered (map written c.args.attributes.now) c.in-Some.fault c.in-Some.ensures

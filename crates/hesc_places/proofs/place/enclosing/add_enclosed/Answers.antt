@@ -1,6 +1,6 @@
 use Rattle.std.proofs.Common.{refl}
 use Rattle.hesc_places.proofs.Places.EnclosedTexts.{enclosed_is_read}
-use Rattle.hesc_places.proofs.place.enclosing.append_enclosed.Goals as goal
+use Rattle.hesc_places.proofs.place.enclosing.add_enclosed.Goals as goal
 
 pub returns-in-Ok-clause-read : goal.returns-in-Ok-clause-read
 returns-in-Ok-clause-read g c =

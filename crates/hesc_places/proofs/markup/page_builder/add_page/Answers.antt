@@ -1,7 +1,7 @@
 use Rattle.std.proofs.Common.{◌++◌, ap, ◌∙◌}
 use Rattle.std.specs.String.{string_bytes}
 use Rattle.hesc_places.proofs.Pages.PageLaw.{page_is_form}
-use Rattle.hesc_places.proofs.markup.page_builder.append_page.Goals as goal
+use Rattle.hesc_places.proofs.markup.page_builder.add_page.Goals as goal
 
 pub returns-in-Ok-clause-appended : goal.returns-in-Ok-clause-appended
 returns-in-Ok-clause-appended g c =
