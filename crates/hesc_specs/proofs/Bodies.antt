@@ -8,4 +8,5 @@ pub mod Held
 pub mod Openings
 pub mod Same
 pub mod Decided
+pub mod Steps
 pub mod DecidedChanges

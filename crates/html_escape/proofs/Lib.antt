@@ -1,1 +1,2 @@
 mod DecoderBounds
+pub mod Sessions

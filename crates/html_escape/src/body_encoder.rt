@@ -3,4 +3,5 @@ mod carry;
 mod decided;
 mod flush;
 mod partial;
+pub mod pieces;
 pub mod session;

@@ -17,6 +17,7 @@ pub mod operation;
 
 pub use crate::appends::append;
 pub use crate::appends::append_to_vec;
+pub use crate::body_encoder::pieces::encode_pieces;
 pub use crate::body_encoder::session;
 pub use crate::body_encoder::session::BodyEncoder;
 pub use crate::decoder::Decoder;

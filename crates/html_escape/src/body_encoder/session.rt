@@ -1,10 +1,11 @@
 //! A body that is encoded piece by piece. What a piece ends with is held back where only the next
 //! one decides whether an opening begins there.
-ghost use Rattle.std.specs.Prelude.{◌≡◌, ◌≤◌, true, [], ◌++◌, length, IfOk, IsOk, OnErr, OnOk};
+ghost use Rattle.std.specs.Prelude.{◌≡◌, ◌≤◌, ℕ, List, true, [], ◌++◌, length, IfOk, IsOk, OnErr, OnOk};
 ghost use Rattle.std.specs.Borrow.{sem};
 ghost use Rattle.std.specs.String.{string_bytes};
 ghost use Rattle.hesc_specs.specs.Bodies.Encoding.{body_encoding};
 ghost use Rattle.hesc_specs.specs.Bodies.Sessions.{IsStep, is_partial as partial, partial_end};
+ghost use Rattle.hesc_specs.specs.declared.elements.Element.{Element};
 ghost use Rattle.hesc_engine.specs.Forms.{AnswersPart, Appended, StringAppended, string_room};
 ghost use Rattle.html_escape.specs.Held.{carry_bytes};
 
@@ -30,12 +31,14 @@ pub struct BodyEncoder {
 }
 
 impl BodyEncoder {
-    ghost use Rattle.html_escape.specs.BodyEncoders.{added_with, held_by, kind_of};
+    ghost use Rattle.html_escape.specs.BodyEncoders.{HasEncoded, added_with, held_by, kind_of};
 
     /// A session of this kind, which holds nothing.
+    #[tactic(auto, using(crate::proofs::Sessions::begun))]
     pub fn new(kind: Element) -> BodyEncoder
         ensures kind { kind_of result ≡ kind }
         ensures nothing { held_by result ≡ [] }
+        ensures begun { HasEncoded result kind [] [] }
     {
         BodyEncoder {
             kind,
@@ -56,6 +59,9 @@ impl BodyEncoder {
 
         ensures step { IfOk result (λ part. IsStep (kind_of self.old)
             (held_by self.old) piece.now (held_by self.new) part.now) }
+        ensures goes_on { OnOk result ((element : Element) (given added : List ℕ)
+            → HasEncoded self.old element given added → HasEncoded self.new element
+            (given ++ piece.now) (added ++ added_with self.old piece.now)) }
         ensures held { OnOk result
             (held_by self.new ≡ partial_end (kind_of self.old) (held_by self.old ++ piece.now)) }
         ensures few { length (held_by self.new) ≤ 8 }
@@ -77,6 +83,9 @@ impl BodyEncoder {
         ensures* appended { sem 𝓛 (StringAppended A.row A.Allocator output.entry
             (body_encoding (kind_of self.old) (held_by self.old)) result) }
 
+        ensures whole { (element : Element) (given added : List ℕ)
+            → HasEncoded self.old element given added
+            → added ++ body_encoding (kind_of self.old) (held_by self.old) ≡ body_encoding element given }
         ensures nothing { OnOk result (held_by self.new ≡ []) }
         ensures kind { kind_of self.new ≡ kind_of self.old }
         ensures refused { OnErr result (self.new ≡ self.old) }
@@ -97,6 +106,9 @@ impl BodyEncoder {
 
         ensures step { IfOk result (λ part. IsStep (kind_of session.old)
             (held_by session.old) piece.now (held_by session.new) part.now) }
+        ensures goes_on { OnOk result ((element : Element) (given added : List ℕ)
+            → HasEncoded session.old element given added → HasEncoded session.new element
+            (given ++ piece.now) (added ++ added_with session.old piece.now)) }
         ensures held { OnOk result
             (held_by session.new ≡ partial_end (kind_of session.old) (held_by session.old ++ piece.now)) }
         ensures few { length (held_by session.new) ≤ 8 }
@@ -118,6 +130,9 @@ impl BodyEncoder {
         ensures* appended { sem 𝓛 (StringAppended A.row A.Allocator output.entry
             (body_encoding (kind_of session.old) (held_by session.old)) result) }
 
+        ensures whole { (element : Element) (given added : List ℕ)
+            → HasEncoded session.old element given added
+            → added ++ body_encoding (kind_of session.old) (held_by session.old) ≡ body_encoding element given }
         ensures nothing { OnOk result (held_by session.new ≡ []) }
         ensures kind { kind_of session.new ≡ kind_of session.old }
         ensures refused { OnErr result (session.new ≡ session.old) }
@@ -140,6 +155,9 @@ impl BodyEncoder {
 
         ensures step { OnOk result (IsStep (kind_of self.old)
             (held_by self.old) piece.now (held_by self.new) (added_with self.old piece.now)) }
+        ensures goes_on { OnOk result ((element : Element) (given added : List ℕ)
+            → HasEncoded self.old element given added → HasEncoded self.new element
+            (given ++ piece.now) (added ++ added_with self.old piece.now)) }
         ensures held { OnOk result
             (held_by self.new ≡ partial_end (kind_of self.old) (held_by self.old ++ piece.now)) }
         ensures few { length (held_by self.new) ≤ 8 }
@@ -166,12 +184,16 @@ impl BodyEncoder {
     }
 
     // Appends the encoding of what is held, and answers nothing.
+    #[tactic(auto, using(crate::proofs::Sessions::ended))]
     fn add_rest<A: Allocator>(&mut self, output: &mut String<A>) -> Result<(), AllocError>
         ensures appended { Appended (string_bytes output.old) (string_bytes output.new)
             (body_encoding (kind_of self.old) (held_by self.old)) result }
         ensures fits { length (body_encoding (kind_of self.old) (held_by self.old))
             ≤ string_room output.old → IsOk result }
 
+        ensures whole { (element : Element) (given added : List ℕ)
+            → HasEncoded self.old element given added
+            → added ++ body_encoding (kind_of self.old) (held_by self.old) ≡ body_encoding element given }
         ensures nothing { OnOk result (held_by self.new ≡ []) }
         ensures kind { kind_of self.new ≡ kind_of self.old }
         ensures refused { OnErr result (self.new ≡ self.old) }

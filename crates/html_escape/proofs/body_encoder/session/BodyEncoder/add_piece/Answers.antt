@@ -1,4 +1,4 @@
-use Rattle.std.proofs.Common.{◌≡◌, List, ℕ, true, ◌++◌, length, take, drop, sym, ap, ◌∙◌}
+use Rattle.std.proofs.Common.{◌≡◌, List, ℕ, true, ◌++◌, length, take, drop, refl, sym, ap, ◌∙◌}
 use Rattle.std.proofs.lemmas.List.{append-nil, take_rest}
 use Rattle.hesc_specs.specs.Text.FirstPlace.{IsFirstAt}
 use Rattle.hesc_specs.specs.Bodies.Sessions.{is_partial}
@@ -8,6 +8,7 @@ use Rattle.hesc_specs.proofs.Bodies.Decided.{decided-step, partial-whole, partia
 use Rattle.hesc_specs.proofs.Bodies.DecidedChanges.{partial_end-place}
 use Rattle.html_escape.specs.Held.{carry_bytes}
 use Rattle.html_escape.specs.BodyEncoders.{held_by, kind_of}
+use Rattle.html_escape.proofs.Sessions.{pushed_more}
 use Rattle.html_escape.proofs.body_encoder.session.BodyEncoder.add_piece.Goals as goal
 
 pub returns-then-is_partial-clause-held : goal.returns-then-is_partial-clause-held
@@ -73,3 +74,9 @@ returns-clause-held g c =
 pub returns-clause-step : goal.returns-clause-step
 returns-clause-step g c =
     rw (returns-clause-held g c) (decided-step (kind_of c.args.self.now) (held_by c.args.self.now) c.args.piece.now)
+
+pub returns-then-is_partial-clause-goes_on : goal.returns-then-is_partial-clause-goes_on
+returns-then-is_partial-clause-goes_on g c element given added = pushed_more _ _ element given added _ _ refl (returns-then-is_partial-clause-step g c)
+
+pub returns-clause-goes_on : goal.returns-clause-goes_on
+returns-clause-goes_on g c element given added = pushed_more _ _ element given added _ _ refl (returns-clause-step g c)
