@@ -2,8 +2,8 @@
 mod bodies;
 mod hex;
 mod html;
-mod references;
-mod script_strings;
+pub mod references;
+pub mod script_strings;
 mod style_strings;
 
 ghost use Rattle.std.specs.Prelude.{◌≡◌};

@@ -8,7 +8,7 @@
 //! back. A page is a form of two attributes: [`build_page`] and [`read_page`].
 #![tactic(auto)]
 
-mod grammar;
+pub mod grammar;
 pub mod laws;
 mod markup;
 mod place;

@@ -31,7 +31,8 @@ pub fn reference(bytes: &[u8]) -> Step
     }
 }
 
-fn body_character(body: &[u8]) -> Option<char>
+/// The character of a reference's body, which stands between its `&` and its `;`.
+pub fn body_character(body: &[u8]) -> Option<char>
     ensures { result ≡ body_character body.now }
 {
     match body {

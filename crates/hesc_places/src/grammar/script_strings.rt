@@ -31,8 +31,8 @@ pub fn script_string_step(mark: u8, mode: Mode, bytes: &[u8]) -> Step
     Step::Byte(0, *first, Mode::Plain)
 }
 
-// What a `\` before the bytes begins.
-fn script_escape(bytes: &[u8]) -> Step
+/// What a `\` before the bytes begins.
+pub fn script_escape(bytes: &[u8]) -> Step
     ensures { result ≡ script_escape bytes.now }
 {
     let Some((first, rest)) = bytes.split_first() else {
