@@ -1,0 +1,11 @@
+pub mod HeldWords
+pub mod Passing
+pub mod HtmlSlots
+pub mod StringSlots
+pub mod ScriptSlots
+pub mod StyleSlots
+pub mod TemplateLaw
+pub mod Pieces
+pub mod Structure
+pub mod FillAnswers
+pub mod Joined

@@ -1,0 +1,63 @@
+-- A page is tokenized as its template, and its structure does not depend on the texts.
+use Rattle.std.proofs.Common.{ℕ, ◌≡◌, false, List, [], ◌∷◌, ◌++◌, map, IsUtf8, refl, sym, ap, ◌∙◌}
+use Rattle.std.specs.List.{AllByRecursion}
+use Rattle.std.proofs.lemmas.List.Elements.{filter-append}
+use Rattle.hesc_places.specs.Places.ReadBack.{read_back}
+use Rattle.html_template.specs.declared.parts.SlotPlace.{SlotPlace}
+use Rattle.html_template.specs.declared.parts.SlotPlace.TheVariants.{Text, DoubleQuoted, SingleQuoted, Unquoted, ScriptSingle, ScriptDouble, StyleSingle, StyleDouble}
+use Rattle.html_template.specs.Actions.{Action, read_byte}
+use Rattle.html_template.specs.States.{Tokenizer, data_state}
+use Rattle.html_template.specs.Structure.{is_structure, structure, IsReadAs}
+use Rattle.html_template.specs.Templates.{Chunk, Markup, Slot, Fill, encoder_for, page, actions_all, state_after_all, state_after_slot}
+use Rattle.html_template.specs.Tokenization.{state_after, actions_of}
+use Rattle.html_template.proofs.Passing.{actions_of-append, state_after-append}
+use Rattle.html_template.proofs.TemplateLaw.{pieces_pass}
+
+structure-append : (first second : List Action) → structure (first ++ second) ≡ structure first ++ structure second
+structure-append first second = filter-append is_structure first second
+
+no_structure : (p : SlotPlace) (b : ℕ) → is_structure (read_byte p b) ≡ false
+no_structure Text b = refl
+no_structure DoubleQuoted b = refl
+no_structure SingleQuoted b = refl
+no_structure Unquoted b = refl
+no_structure ScriptSingle b = refl
+no_structure ScriptDouble b = refl
+no_structure StyleSingle b = refl
+no_structure StyleDouble b = refl
+
+structure-text : (p : SlotPlace) (text : List ℕ) → structure (map (read_byte p) text) ≡ []
+structure-text p [] = refl
+structure-text p (b ∷ text) = rw (no_structure p b) (structure-text p text)
+
+-- the structure of a template with any texts is that with none
+structure_alone : (chunks : List Chunk) (t : Tokenizer) (texts : List (List ℕ)) →
+    structure (actions_all t chunks texts) ≡ structure (actions_all t chunks [])
+structure_alone [] t texts = refl
+structure_alone (Markup bytes ∷ chunks) t texts =
+    structure-append (actions_of t bytes) (actions_all (state_after t bytes) chunks texts)
+    ∙ ap (λ x. structure (actions_of t bytes) ++ x) (structure_alone chunks (state_after t bytes) texts)
+    ∙ sym (structure-append (actions_of t bytes) (actions_all (state_after t bytes) chunks []))
+structure_alone (Slot p ∷ chunks) t [] = refl
+structure_alone (Slot p ∷ chunks) t (text ∷ texts) =
+    structure-append (map (read_byte p) (read_back (encoder_for p) text)) (actions_all (state_after_slot p t) chunks texts)
+    ∙ ap (λ x. x ++ structure (actions_all (state_after_slot p t) chunks texts)) (structure-text p (read_back (encoder_for p) text))
+    ∙ structure_alone chunks (state_after_slot p t) texts
+
+pub structure_of_page : (chunks : List Chunk) (texts : List (List ℕ)) → state_after_all data_state chunks ≡ data_state →
+    Fill chunks texts → AllByRecursion IsUtf8 texts →
+    structure (actions_of data_state (page chunks texts)) ≡ structure (actions_all data_state chunks [])
+structure_of_page chunks texts sound full utf8 =
+    ap structure (pieces_pass chunks data_state texts sound full utf8).actions ∙ structure_alone chunks data_state texts
+
+pub is_read_as : (chunks : List Chunk) (texts : List (List ℕ)) → state_after_all data_state chunks ≡ data_state →
+    Fill chunks texts → AllByRecursion IsUtf8 texts → IsReadAs chunks texts (page chunks texts)
+is_read_as chunks texts sound full utf8 =
+    let passes = pieces_pass chunks data_state texts sound full utf8 in
+    let p : List ℕ = page chunks texts in
+    record {
+      actions = λ rest. actions_of-append data_state p rest
+          ∙ ap (λ x. x ++ actions_of (state_after data_state p) rest) passes.actions
+          ∙ ap (λ x. actions_all data_state chunks texts ++ actions_of x rest) passes.after;
+      ends = λ rest. state_after-append data_state p rest ∙ ap (λ x. state_after x rest) passes.after;
+    }

@@ -1,0 +1,97 @@
+-- The law of templates: piece by piece.
+use Rattle.std.proofs.Common.{ℕ, ◌≡◌, true, false, List, [], ◌∷◌, IsUtf8, map, refl, sym, ap, ◌∙◌, ⊎_elim}
+use Rattle.std.specs.List.{AllByRecursion}
+use Rattle.std.proofs.lemmas.Bool.{cases_Bool}
+use Rattle.html_escape.specs.Encoders.{encoded}
+use Rattle.hesc_places.specs.Places.ReadBack.{read_back}
+use Rattle.html_template.specs.declared.parts.SlotPlace.{SlotPlace}
+use Rattle.html_template.specs.declared.parts.SlotPlace.TheVariants as place
+use Rattle.html_template.specs.declared.tokenizer.states.Content.{Content}
+use Rattle.html_template.specs.declared.tokenizer.states.Content.TheVariants.{Normal, Title, Textarea, Script, DataBlock, Style}
+use Rattle.html_template.specs.Actions.{read_byte}
+use Rattle.html_template.specs.States.{State, Attribute, Ordinary, Tokenizer, In, BeforeValue, Refused, InCode, at, at_value, refused, data_state}
+use Rattle.html_template.specs.Templates.{Chunk, Markup, Slot, encoder_for, in_code, standing_in, standing, stands, state_after_slot, state_after_all, page, actions_all, MayFill, Fill}
+use Rattle.html_template.specs.Tokenization.{consume, state_after}
+use Rattle.html_template.proofs.HtmlSlots.{text_stays, double_stays, single_stays, unquoted_stays, first_stays}
+use Rattle.html_template.proofs.Passing.{Passes, passes_itself, passes_both}
+use Rattle.html_template.proofs.ScriptSlots.{script_stays, script_single_reads, script_double_reads}
+use Rattle.html_template.proofs.StyleSlots.{style_stays, style_single_reads, style_double_reads}
+
+no : false ≡ true → ⊥
+no h = cc
+
+no_code : (p : SlotPlace) (content : Content) → stands p (in_code content) ≡ false
+no_code p Normal = refl
+no_code p Title = refl
+no_code p Textarea = refl
+no_code p Script = refl
+no_code p DataBlock = refl
+no_code p Style = refl
+
+-- a slot stands in no attribute but an ordinary one
+slot_ordinary : (p : SlotPlace) (state : State) (content : Content) (attribute : Attribute) →
+    stands p (standing_in state content attribute) ≡ true → attribute ≡ Ordinary
+slot_ordinary p (In q) content Ordinary may = refl
+slot_ordinary p (In q) content other may = absurd (no may)
+slot_ordinary p BeforeValue content Ordinary may = refl
+slot_ordinary p BeforeValue content other may = absurd (no may)
+slot_ordinary p (InCode kind) content attribute may = absurd (no (sym (no_code p content) ∙ may))
+slot_ordinary p elsewhere content attribute may = absurd (no may)
+
+-- what the encoder writes for a text in a slot leads to the state behind the slot, and is read as the text
+ordinary_passes : (p : SlotPlace) (state : State) (content : Content) (text : List ℕ) →
+    stands p (standing_in state content Ordinary) ≡ true → MayFill p text → IsUtf8 text →
+    Passes (at state content) (encoded (encoder_for p) text) (map (read_byte p) (read_back (encoder_for p) text)) (at (In p) content)
+ordinary_passes place.Text (In place.Text) content text may full utf8 = text_stays content text
+ordinary_passes place.DoubleQuoted (In place.DoubleQuoted) content text may full utf8 = double_stays content text
+ordinary_passes place.SingleQuoted (In place.SingleQuoted) content text may full utf8 = single_stays content text
+ordinary_passes place.Unquoted (In place.Unquoted) content text may full utf8 = unquoted_stays content text
+ordinary_passes place.Unquoted BeforeValue content text may full utf8 = first_stays content text full
+ordinary_passes place.ScriptSingle (In place.ScriptSingle) content text may full utf8 = script_stays (script_single_reads content) text utf8
+ordinary_passes place.ScriptDouble (In place.ScriptDouble) content text may full utf8 = script_stays (script_double_reads content) text utf8
+ordinary_passes place.StyleSingle (In place.StyleSingle) content text may full utf8 = style_stays (style_single_reads content) text utf8
+ordinary_passes place.StyleDouble (In place.StyleDouble) content text may full utf8 = style_stays (style_double_reads content) text utf8
+ordinary_passes p (InCode kind) content text may full utf8 = absurd (no (sym (no_code p content) ∙ may))
+ordinary_passes other elsewhere content text may full utf8 = absurd (no may)
+
+slot_passes : (p : SlotPlace) (state : State) (content : Content) (attribute : Attribute) (text : List ℕ) →
+    stands p (standing_in state content attribute) ≡ true → MayFill p text → IsUtf8 text →
+    Passes (at_value state content attribute) (encoded (encoder_for p) text) (map (read_byte p) (read_back (encoder_for p) text)) (at (In p) content)
+slot_passes p state content attribute text may full utf8 =
+    let ordinary = slot_ordinary p state content attribute may in
+    rw ordinary (ordinary_passes p state content text (rw ordinary at may) full utf8)
+
+-- nothing leads out of a refusal
+stays_refused : (bytes : List ℕ) → state_after refused bytes ≡ refused
+unfolding consume
+stays_refused [] = refl
+stays_refused (b ∷ bytes) = stays_refused bytes
+
+all_refused : (chunks : List Chunk) → state_after_all refused chunks ≡ refused
+all_refused [] = refl
+all_refused (Markup bytes ∷ chunks) = ap (λ t. state_after_all t chunks) (stays_refused bytes) ∙ all_refused chunks
+all_refused (Slot p ∷ chunks) = all_refused chunks
+
+apart : refused ≡ data_state → ⊥
+apart is = let states : Refused ≡ In place.Text = ap (λ (t : Tokenizer). t.state) is in cc
+
+-- a template that ends in the data state has each slot where one may stand
+slot_stands : (p : SlotPlace) (t : Tokenizer) (chunks : List Chunk) →
+    state_after_all (state_after_slot p t) chunks ≡ data_state → stands p (standing t) ≡ true
+slot_stands p t chunks ends =
+    ⊎_elim
+    (λ (may : stands p (standing t) ≡ true). may)
+    (λ (not : stands p (standing t) ≡ false). absurd (apart (sym (all_refused chunks) ∙ rw not at ends)))
+    (cases_Bool (stands p (standing t)))
+
+pub pieces_pass : (chunks : List Chunk) (t : Tokenizer) (texts : List (List ℕ)) → state_after_all t chunks ≡ data_state →
+    Fill chunks texts → AllByRecursion IsUtf8 texts → Passes t (page chunks texts) (actions_all t chunks texts) data_state
+pieces_pass [] t texts ends fill utf8 = record { after = ends; actions = refl }
+pieces_pass (Markup bytes ∷ chunks) t texts ends fill utf8 =
+    passes_both (passes_itself t bytes) (pieces_pass chunks (state_after t bytes) texts ends fill utf8)
+pieces_pass (Slot p ∷ chunks) t [] ends fill utf8 = absurd fill
+pieces_pass (Slot p ∷ chunks) t (text ∷ texts) ends fill utf8 =
+    let may = slot_stands p t chunks ends in
+    let here : state_after_slot p t ≡ at (In p) t.content = rw may refl in
+    passes_both (slot_passes p t.state t.content t.attribute text may fill.0 utf8.0)
+    (rw here (pieces_pass chunks (at (In p) t.content) texts (rw here at ends) fill.1 utf8.1))

@@ -1,0 +1,18 @@
+use Rattle.std.proofs.Common.{◌≡◌, ◌≤◌, ◌+◌, ◌++◌, length, map}
+use Rattle.html_template.specs.Templates.{kept, page, texts_of}
+use Rattle.html_template.proofs.page.put_pieces.Given as goal
+
+-- what was taken, and the page of the rest, are the page of all
+abbrev pub invariant-pieces : goal.invariant-pieces
+invariant-pieces g l = record {
+  taken : g.S.Sink.taken l.sink ++ page (map kept l.rest) (texts_of l.left)
+      ≡ g.S.Sink.taken l.initial.sink ++ page (map kept l.pieces) (texts_of l.texts);
+  room : g.S.Sink.room l.initial.sink + length (page (map kept l.rest) (texts_of l.left))
+      ≤ g.S.Sink.room l.sink + length (page (map kept l.pieces) (texts_of l.texts));
+  failures : g.S.Sink.failures l.sink ≡ g.S.Sink.failures l.initial.sink;
+  reference : g.S.Sink.reference l.sink ≡ g.S.Sink.reference l.initial.sink;
+  before : g.S.Sink.before l.sink ≡ g.S.Sink.before l.initial.sink;
+}
+
+abbrev pub decreases-pieces : goal.decreases-pieces
+decreases-pieces g l = length l.rest

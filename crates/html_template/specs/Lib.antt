@@ -1,0 +1,16 @@
+pub mod States
+pub mod Actions
+pub mod Names
+pub mod Transitions
+pub mod Tags
+pub mod Values
+pub mod Comments
+pub mod CodeStrings
+pub mod CodeBytes
+pub mod Tokenization
+pub mod Templates
+pub mod TemplateFaults
+pub mod FillFaults
+pub mod Structure
+pub mod TemplatePieces
+pub mod Phases

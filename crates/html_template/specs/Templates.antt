@@ -1,0 +1,136 @@
+-- Templates: where their slots stand, and their pages.
+use Rattle.std.specs.Prelude.{◌≡◌, ◌≢◌, ⊤, ℕ, Bool, true, false, List, [], ◌∷◌, ◌++◌, length, map, if◌then◌else◌}
+use Rattle.std.specs.Borrow.{Bor}
+use Rattle.html_escape.specs.declared.encoder.Encoder.{Encoder}
+use Rattle.html_escape.specs.declared.encoder.Encoder.TheVariants as encoder
+use Rattle.html_escape.specs.Encoders.{encoded}
+use Rattle.hesc_places.specs.Places.ReadBack.{read_back}
+use Rattle.html_template.specs.declared.parts.Part.{Part}
+use Rattle.html_template.specs.declared.parts.Part.TheVariants as part
+use Rattle.html_template.specs.declared.parts.Piece.{Piece}
+use Rattle.html_template.specs.declared.parts.Piece.TheVariants as piece
+use Rattle.html_template.specs.declared.parts.SlotPlace.{SlotPlace}
+use Rattle.html_template.specs.declared.parts.SlotPlace.TheVariants.{Text, DoubleQuoted, SingleQuoted, Unquoted, ScriptSingle, ScriptDouble, StyleSingle, StyleDouble}
+use Rattle.html_template.specs.declared.tokenizer.reader.Standing.{Standing}
+use Rattle.html_template.specs.declared.tokenizer.reader.Standing.TheVariants.{Stands, Nowhere, Barred}
+use Rattle.html_template.specs.declared.tokenizer.states.Content.{Content}
+use Rattle.html_template.specs.declared.tokenizer.states.Content.TheVariants as content
+use Rattle.html_template.specs.Actions.{Action, read_byte}
+use Rattle.html_template.specs.States as state
+use Rattle.html_template.specs.States.{State, Attribute, Tokenizer, at, refused}
+use Rattle.html_template.specs.Tokenization.{state_after, actions_of}
+
+-- a piece of a template
+pub data Chunk : Type 0 where
+  Markup : List ℕ → Chunk
+  Slot : SlotPlace → Chunk
+
+-- the encoder for a place
+abbrev pub encoder_for : SlotPlace → Encoder
+encoder_for Text = encoder.Text
+encoder_for DoubleQuoted = encoder.DoubleQuotedAttribute
+encoder_for SingleQuoted = encoder.SingleQuotedAttribute
+encoder_for Unquoted = encoder.UnquotedAttribute
+encoder_for ScriptSingle = encoder.ScriptSingleQuoted
+encoder_for ScriptDouble = encoder.ScriptDoubleQuoted
+encoder_for StyleSingle = encoder.StyleSingleQuoted
+encoder_for StyleDouble = encoder.StyleDoubleQuoted
+
+-- a slot in the value of an attribute, if its text would mean itself
+abbrev pub unless_forbidden : Attribute → SlotPlace → Standing
+unless_forbidden state.Ordinary p = Stands p
+unless_forbidden other p = Barred
+
+-- a slot in the code of a script is nowhere, and in a data block in a second language
+abbrev pub in_code : Content → Standing
+in_code content.DataBlock = Barred
+in_code other = Nowhere
+
+-- where a slot stands: within a value, or where a value without quotes may begin
+abbrev pub standing_in : State → Content → Attribute → Standing
+standing_in (state.In p) content attribute = unless_forbidden attribute p
+standing_in state.BeforeValue content attribute = unless_forbidden attribute Unquoted
+standing_in (state.InCode kind) content attribute = in_code content
+standing_in other content attribute = Nowhere
+
+abbrev pub standing : Tokenizer → Standing
+standing t = standing_in t.state t.content t.attribute
+
+abbrev pub is_same : SlotPlace → SlotPlace → Bool
+is_same Text Text = true
+is_same DoubleQuoted DoubleQuoted = true
+is_same SingleQuoted SingleQuoted = true
+is_same Unquoted Unquoted = true
+is_same ScriptSingle ScriptSingle = true
+is_same ScriptDouble ScriptDouble = true
+is_same StyleSingle StyleSingle = true
+is_same StyleDouble StyleDouble = true
+is_same other another = false
+
+abbrev pub stands : SlotPlace → Standing → Bool
+stands p (Stands q) = is_same p q
+stands p other = false
+
+-- the tokenizer behind a slot at this place, by the template alone
+abbrev pub state_after_slot : SlotPlace → Tokenizer → Tokenizer
+state_after_slot p t = if stands p (standing t) then at (state.In p) t.content else refused
+
+-- where the tokenizer goes at a slot
+abbrev pub AfterStanding : Standing → Tokenizer → Tokenizer → Type 0
+AfterStanding (Stands p) old new = new ≡ state_after_slot p old
+AfterStanding other old new = ⊤
+
+-- the tokenizer behind the pieces
+abbrev pub state_after_all : Tokenizer → List Chunk → Tokenizer
+state_after_all t [] = t
+state_after_all t (Markup bytes ∷ chunks) = state_after_all (state_after t bytes) chunks
+state_after_all t (Slot p ∷ chunks) = state_after_all (state_after_slot p t) chunks
+
+-- the page of these texts
+abbrev pub page : List Chunk → List (List ℕ) → List ℕ
+page [] texts = []
+page (Markup bytes ∷ chunks) texts = bytes ++ page chunks texts
+page (Slot p ∷ chunks) [] = page chunks []
+page (Slot p ∷ chunks) (text ∷ texts) = encoded (encoder_for p) text ++ page chunks texts
+
+-- the actions at a template, where each text is handed to its slot whole: the tokenizer does not look at it
+abbrev pub actions_all : Tokenizer → List Chunk → List (List ℕ) → List Action
+actions_all t [] texts = []
+actions_all t (Markup bytes ∷ chunks) texts = actions_of t bytes ++ actions_all (state_after t bytes) chunks texts
+actions_all t (Slot p ∷ chunks) [] = actions_all (state_after_slot p t) chunks []
+actions_all t (Slot p ∷ chunks) (text ∷ texts) =
+    map (read_byte p) (read_back (encoder_for p) text) ++ actions_all (state_after_slot p t) chunks texts
+
+-- a value without quotes is not empty
+abbrev pub MayFill : SlotPlace → List ℕ → Type 0
+MayFill Unquoted text = length text ≢ 0
+MayFill other text = ⊤
+
+-- there is a text for each slot and no more, and none for a value without quotes is empty
+abbrev pub Fill : List Chunk → List (List ℕ) → Type 0
+Fill [] [] = ⊤
+Fill [] (text ∷ texts) = ⊥
+Fill (Markup bytes ∷ chunks) texts = Fill chunks texts
+Fill (Slot p ∷ chunks) [] = ⊥
+Fill (Slot p ∷ chunks) (text ∷ texts) = MayFill p text × Fill chunks texts
+
+-- the pieces as they are kept, and the texts as they are handed in
+abbrev pub kept : Piece → Chunk
+kept (piece.Markup text) = Markup text.now
+kept (piece.Slot p) = Slot p
+
+abbrev pub texts_of : List (Bor (List ℕ)) → List (List ℕ)
+texts_of texts = map (λ text. text.now) texts
+
+-- a part as it is given, and that of a piece
+pub data Given : Type 0 where
+  GivenMarkup : List ℕ → Given
+  GivenSlot : Given
+
+abbrev pub given : Part → Given
+given (part.Markup text) = GivenMarkup text.now
+given part.Slot = GivenSlot
+
+abbrev pub part_of : Chunk → Given
+part_of (Markup bytes) = GivenMarkup bytes
+part_of (Slot p) = GivenSlot

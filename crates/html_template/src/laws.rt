@@ -1,0 +1,61 @@
+//! The laws of templates.
+ghost use Rattle.std.specs.Prelude.{◌≡◌, ◌++◌, map};
+ghost use Rattle.std.specs.List.{AllByRecursion};
+ghost use Rattle.std.specs.Str.{IsUtf8};
+ghost use Rattle.html_template.specs.States.{data_state};
+ghost use Rattle.html_template.specs.Structure.{IsReadAs, structure};
+ghost use Rattle.html_template.specs.Templates.{
+  Fill,
+  actions_all,
+  kept,
+  page,
+  state_after_all,
+  texts_of,
+};
+ghost use Rattle.html_template.specs.Tokenization.{actions_of};
+
+use crate::parts::Piece;
+
+/// A page of a template whose slots all stand where a text may stand: whatever follows it, the
+/// tokenizer's actions are those at the template, where each text is handed to its slot whole, and
+/// then those at what follows, from the state in which a page begins.
+#[tactic(auto, using(crate::proofs::Structure::is_read_as))]
+pub fn template_law(pieces: &[Piece], texts: &[&str])
+    requires sound { state_after_all data_state (map kept pieces.now) ≡ data_state }
+    requires full { Fill (map kept pieces.now) (texts_of texts.now) }
+    requires utf8 { AllByRecursion IsUtf8 (texts_of texts.now) }
+    ensures { IsReadAs (map kept pieces.now) (texts_of texts.now)
+        (page (map kept pieces.now) (texts_of texts.now)) }
+{}
+
+/// The structure of a page, which is all of the tokenizer's actions but the bytes of texts and
+/// values, is the same for any texts.
+#[tactic(auto, using(crate::proofs::Structure::structure_of_page))]
+pub fn structure_law(pieces: &[Piece], texts: &[&str], others: &[&str])
+    requires sound { state_after_all data_state (map kept pieces.now) ≡ data_state }
+    requires full { Fill (map kept pieces.now) (texts_of texts.now) }
+    requires utf8 { AllByRecursion IsUtf8 (texts_of texts.now) }
+    requires others_full { Fill (map kept pieces.now) (texts_of others.now) }
+    requires others_utf8 { AllByRecursion IsUtf8 (texts_of others.now) }
+    ensures { structure (actions_of data_state (page (map kept pieces.now) (texts_of texts.now)))
+        ≡ structure (actions_of data_state (page (map kept pieces.now) (texts_of others.now))) }
+{}
+
+/// Templates join: the pieces of two, one after the other, are again those of a template, whose pages
+/// are a page of the first and then one of the second, read as both are.
+#[tactic(auto, using(crate::proofs::Joined::joined_state, crate::proofs::Joined::joined_page, crate::proofs::Joined::joined_actions))]
+pub fn joined_law(first: &[Piece], second: &[Piece], texts: &[&str], others: &[&str])
+    requires first_sound { state_after_all data_state (map kept first.now) ≡ data_state }
+    requires second_sound { state_after_all data_state (map kept second.now) ≡ data_state }
+    requires full { Fill (map kept first.now) (texts_of texts.now) }
+    ensures sound { state_after_all data_state (map kept first.now ++ map kept second.now)
+        ≡ data_state }
+    ensures page { page (map kept first.now ++ map kept second.now)
+        (texts_of texts.now ++ texts_of others.now)
+        ≡ page (map kept first.now) (texts_of texts.now)
+        ++ page (map kept second.now) (texts_of others.now) }
+    ensures actions { actions_all data_state (map kept first.now ++ map kept second.now)
+        (texts_of texts.now ++ texts_of others.now)
+        ≡ actions_all data_state (map kept first.now) (texts_of texts.now)
+        ++ actions_all data_state (map kept second.now) (texts_of others.now) }
+{}

@@ -1,0 +1,20 @@
+//! Templates of pages whose structure no text can change.
+//!
+//! A [`Template`] is made of markup and slots. It finds out by itself where each slot stands, and so
+//! which encoder writes its texts, and refuses what it cannot read. Whatever texts fill it, the page
+//! is tokenized as the template is, with each text handed to its slot whole.
+#![tactic(auto)]
+
+mod faults;
+pub mod laws;
+mod page;
+mod parts;
+mod template;
+#[cfg(test)]
+mod tests;
+mod tokenizer;
+
+pub use crate::faults::{FillFault, TemplateFault};
+pub use crate::parts::{Part, Piece, SlotPlace};
+pub use crate::template::Template;
+pub use crate::tokenizer::states::{Code, Content};

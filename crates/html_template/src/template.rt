@@ -1,0 +1,133 @@
+//! Templates.
+ghost use Rattle.std.specs.Prelude.{◌≡◌, ◌++◌, ◌∷◌, [], ◌≤◌, None, IfOk, IsOk, OnOk, length, map};
+ghost use Rattle.std.specs.String.{string_bytes};
+ghost use Rattle.hesc_engine.specs.Forms.{Appended, string_room};
+ghost use Rattle.html_template.specs.FillFaults.{AnswersFill, fill_fault};
+ghost use Rattle.html_template.specs.Phases.{tokenizer_of};
+ghost use Rattle.html_template.specs.States.{data_state};
+ghost use Rattle.html_template.specs.Structure.{IsReadAs};
+ghost use Rattle.html_template.specs.TemplateFaults.{AnswersFault, TakesPart, fault_from};
+ghost use Rattle.html_template.specs.Templates.{
+  Fill,
+  given,
+  kept,
+  page,
+  part_of,
+  state_after_all,
+  texts_of,
+};
+
+use crate::faults::{FillFault, TemplateFault};
+use crate::page::{Page, check};
+use crate::parts::{Part, Piece};
+use crate::tokenizer::reader::{Reader, Standing};
+use hesc_core::forms::append_parts;
+use std::alloc::{AllocError, Allocator, Global};
+
+/// A page with slots, each of which stands where a text may stand.
+#[derive(Drop)]
+pub struct Template<'a, A: Allocator = Global> {
+    pieces: Vec<Piece<'a>, A>,
+    ghost sound: { state_after_all data_state (map kept pieces.items) ≡ data_state },
+}
+
+impl<'a, A: Allocator + Copy> Template<'a, A> {
+    ghost use Rattle.html_template.specs.TemplatePieces.{pieces_of};
+
+    /// The template of these parts. On a fault it is the first, part by part; `Unfinished` comes
+    /// where each part alone has none.
+    #[tactic(auto, using(crate::proofs::Pieces::parts_more, crate::proofs::Pieces::parts_all))]
+    pub fn new(alloc: A, parts: &[Part<'a>]) -> Result<Template<'a, A>, TemplateFault>
+        ensures parts { IfOk result (λ template.
+            map part_of (pieces_of template) ≡ map given parts.now) }
+        ensures faults { AnswersFault (fault_from 0 data_state (map given parts.now)) result }
+    {
+        let mut reader = Reader::new(alloc);
+        let mut pieces = Vec::new(alloc);
+        let mut rest = parts;
+        'parts: while let [part, others @ ..] = rest {
+            take_part(&mut reader, &mut pieces, *part, parts.len() - rest.len())?;
+            rest = others;
+        }
+        if !reader.may_end() {
+            return Err(TemplateFault::Unfinished);
+        }
+        Ok(Template { pieces })
+    }
+
+    /// Appends the page of these texts, one for each slot. On a fault `output` is as it was.
+    ///
+    /// Whatever follows the page, it is tokenized as the template is, with each text handed to its
+    /// slot whole.
+    #[tactic(auto, using(crate::proofs::Structure::is_read_as))]
+    pub fn append<B: Allocator>(
+        &self,
+        output: &mut String<B>,
+        texts: &[&str],
+    ) -> Result<(), FillFault>
+        ensures appended { Appended (string_bytes output.old) (string_bytes output.new)
+            (page (pieces_of self.now) (texts_of texts.now)) result }
+        ensures full { OnOk result (Fill (pieces_of self.now) (texts_of texts.now)) }
+        ensures faults { AnswersFill (fill_fault 0 (pieces_of self.now) (texts_of texts.now)) result }
+        ensures fits { fill_fault 0 (pieces_of self.now) (texts_of texts.now) ≡ None
+            → length (page (pieces_of self.now) (texts_of texts.now)) ≤ string_room output.old
+            → IsOk result }
+        ensures read { OnOk result (IsReadAs (pieces_of self.now) (texts_of texts.now)
+            (page (pieces_of self.now) (texts_of texts.now))) }
+    {
+        if let Err(fault) = check(&self.pieces, texts) {
+            return Err(fault);
+        }
+        let page = Page {
+            pieces: &self.pieces,
+            texts,
+        };
+        match append_parts(output, &page) {
+            Ok(()) => Ok(()),
+            Err(AllocError) => Err(FillFault::Memory),
+        }
+    }
+}
+
+// Reads one part more, which has this number.
+#[tactic(auto, using(crate::proofs::Pieces::after_markup, crate::proofs::Pieces::after_slot, crate::proofs::Pieces::part_more))]
+fn take_part<'a, A: Allocator>(
+    reader: &mut Reader<A>,
+    pieces: &mut Vec<Piece<'a>, A>,
+    part: Part<'a>,
+    number: usize,
+) -> Result<(), TemplateFault>
+    ensures read { OnOk result (state_after_all data_state (map kept pieces.old.items)
+        ≡ tokenizer_of reader.old
+        → state_after_all data_state (map kept pieces.new.items) ≡ tokenizer_of reader.new) }
+    ensures same { OnOk result (map part_of (map kept pieces.new.items)
+        ≡ map part_of (map kept pieces.old.items) ++ given part.entry ∷ []) }
+    ensures faults { TakesPart number (tokenizer_of reader.old) (given part.entry)
+        (tokenizer_of reader.new) result }
+{
+    match part {
+        Part::Markup(text) => {
+            let Ok(()) = reader.read(text.as_bytes()) else {
+                return Err(TemplateFault::Memory);
+            };
+            if reader.is_refused() {
+                return Err(TemplateFault::Malformed(number));
+            }
+            match pieces.push(Piece::Markup(text)) {
+                Ok(()) => Ok(()),
+                Err(_) => Err(TemplateFault::Memory),
+            }
+        }
+        Part::Slot => {
+            let place = match reader.slot() {
+                Standing::Stands(place) => place,
+                Standing::Barred => return Err(TemplateFault::Forbidden(number)),
+                Standing::Nowhere => return Err(TemplateFault::NoPlace(number)),
+            };
+            match pieces.push(Piece::Slot(place)) {
+                Ok(()) => Ok(()),
+                Err(_) => Err(TemplateFault::Memory),
+            }
+        }
+    }
+}

@@ -1,0 +1,236 @@
+//! Templates that are taken and refused, and pages. What is expected comes from the HTML Standard,
+//! ECMAScript and CSS, never from the code.
+use crate::{FillFault, Part, Template, TemplateFault};
+use std::alloc::Allocator;
+use std::test::Fail;
+
+fn fault<A: Allocator + Copy>(alloc: A, before: &str, behind: &str) -> Option<TemplateFault> {
+    let parts = [Part::Markup(before), Part::Slot, Part::Markup(behind)];
+    match Template::new(alloc, &parts) {
+        Ok(_) => None,
+        Err(fault) => Some(fault),
+    }
+}
+
+/// The page of one text, between these parts.
+fn page<A: Allocator + Copy>(
+    alloc: A,
+    before: &str,
+    text: &str,
+    behind: &str,
+) -> Option<String<A>> {
+    let parts = [Part::Markup(before), Part::Slot, Part::Markup(behind)];
+    let Ok(template) = Template::new(alloc, &parts) else {
+        return None;
+    };
+    let mut output = String::new(alloc);
+    match template.append(&mut output, &[text]) {
+        Ok(()) => Some(output),
+        Err(_) => None,
+    }
+}
+
+#[test]
+fn pages(rt: HostRuntime) {
+    let rows = [
+        ("", "<b>&", "", "&lt;b&gt;&amp;"),
+        ("<P>", "</P>", "</P >", "<P>&lt;/P&gt;</P >"),
+        (
+            "<p title=\"x ",
+            "\" y",
+            " z\"/>",
+            "<p title=\"x &quot; y z\"/>",
+        ),
+        ("<p a b = '", "' c", "' d>", "<p a b = '&#x27; c' d>"),
+        ("<p a=", "x y>", " b=c>", "<p a=x&#x20;y&gt; b=c>"),
+        ("<p a=b", " ", ">", "<p a=b&#x20;>"),
+        (
+            "<Title>",
+            "</title>",
+            "</tiTle>",
+            "<Title>&lt;/title&gt;</tiTle>",
+        ),
+        (
+            "<textarea>",
+            "<",
+            "</textarea>",
+            "<textarea>&lt;</textarea>",
+        ),
+        (
+            "<!-- -- --- <p> --><br/>",
+            "",
+            "",
+            "<!-- -- --- <p> --><br/>",
+        ),
+        (
+            "<!----><!DOCtype \n HTML >",
+            "-->",
+            "",
+            "<!----><!DOCtype \n HTML >--&gt;",
+        ),
+        ("&lt;&#65;&nbsp;", "&lt;", "", "&lt;&#65;&nbsp;&amp;lt;"),
+        (
+            "<script>f('\\x41",
+            "",
+            "')</script>",
+            "<script>f('\\x41')</script>",
+        ),
+        (
+            "<script>a<b; // it's\nf('",
+            "'</script>",
+            "')</script>",
+            "<script>a<b; // it's\nf('\\'\\x3C/script>')</script>",
+        ),
+        (
+            "<script>/* \" */ f(\"<b>\\n",
+            "\"",
+            "\")</script>",
+            "<script>/* \" */ f(\"<b>\\n\\\"\")</script>",
+        ),
+        (
+            "<script>f('<\\/b>",
+            "\\",
+            "')</script>",
+            "<script>f('<\\/b>\\\\')</script>",
+        ),
+        (
+            "<style>p::after{content:'\\2014 ",
+            "'</style>",
+            "'}</style>",
+            "<style>p::after{content:'\\2014 \\'\\3C /style>'}</style>",
+        ),
+        (
+            "<style>/* ' */ a{b:url(x)} c{d:\"\\41\" ; e:\"",
+            "\"",
+            "\"}</style>",
+            "<style>/* ' */ a{b:url(x)} c{d:\"\\41\" ; e:\"\\\"\"}</style>",
+        ),
+        (
+            "<a href=\"/u/",
+            "javascript:x",
+            "\">",
+            "<a href=\"/u/javascript:x\">",
+        ),
+        (
+            "<a href='https://a.example/",
+            "x",
+            "'>",
+            "<a href='https://a.example/x'>",
+        ),
+        ("<a href=?", "x", ">", "<a href=?x>"),
+        ("<a href=\"mailto:", "x", "\">", "<a href=\"mailto:x\">"),
+        (
+            "<script type=module>f('",
+            "x",
+            "')</script>",
+            "<script type=module>f('x')</script>",
+        ),
+    ];
+    for (before, text, behind, wanted) in rows {
+        match page(rt.alloc(), before, text, behind) {
+            Some(found) => assert!(rt; found.as_str() == wanted, "{before}"),
+            None => assert!(rt; false, "no page: {before}"),
+        }
+    }
+}
+
+#[test]
+fn refusals(rt: HostRuntime) {
+    use TemplateFault::{Forbidden, Malformed, NoPlace, Unfinished};
+    let rows = [
+        ("<", ">", NoPlace(1)),
+        ("<p", ">", NoPlace(1)),
+        ("<p ", "=1>", NoPlace(1)),
+        ("<p a", "=1>", NoPlace(1)),
+        ("<p a=''", ">", NoPlace(1)),
+        ("</p ", ">", NoPlace(1)),
+        ("<!-- ", " -->", NoPlace(1)),
+        ("<!doctype ", ">", NoPlace(1)),
+        ("&am", ";", NoPlace(1)),
+        ("<script>f(", ")</script>", NoPlace(1)),
+        ("<script>// ", "\n</script>", NoPlace(1)),
+        ("<script>f('\\", "')</script>", NoPlace(1)),
+        ("<script>f('<", "')</script>", NoPlace(1)),
+        ("<style>p{color:", "}</style>", NoPlace(1)),
+        ("<style>p{x:'\\4", "'}</style>", NoPlace(1)),
+        ("<p onclick=\"f('", "')\">", Forbidden(1)),
+        ("<p STYLE='", "'>", Forbidden(1)),
+        ("<p srcdoc=", ">", Forbidden(1)),
+        ("<a href=\"", "\">", Forbidden(1)),
+        ("<a HREF=", ">", Forbidden(1)),
+        ("<a xlink:href='java", "'>", Forbidden(1)),
+        ("<form action=\"https:", "\">", Forbidden(1)),
+        ("<form action=\"https://a.example", "\">", Forbidden(1)),
+        ("<img src=\"data:image/png,", "\">", Forbidden(1)),
+        ("<a href=\"&#x2f;", "\">", Forbidden(1)),
+        (
+            "<script type=\"application/json\">{\"a\": \"",
+            "\"}</script>",
+            Forbidden(1),
+        ),
+        ("<script type=\"", "\"></script>", Forbidden(1)),
+        (
+            "<script type=text/html type=module>f('",
+            "')</script>",
+            Forbidden(1),
+        ),
+        ("<script language=vbscript>f('", "')</script>", Forbidden(1)),
+        ("<style>a{b:url( \"", "\")}</style>", Forbidden(1)),
+        ("<svg>", "", Malformed(0)),
+        ("<SELECT>", "", Malformed(0)),
+        ("&nix;", "", Malformed(0)),
+        ("a < b", "", Malformed(0)),
+        ("<p a=b\"c>", "", Malformed(0)),
+        ("<p a=>", "", Malformed(0)),
+        ("<p a=''b>", "", Malformed(0)),
+        ("<p =a>", "", Malformed(0)),
+        ("</p a>", "", Malformed(0)),
+        ("<!-->", "", Malformed(0)),
+        ("<!-- a --!>", "", Malformed(0)),
+        ("<!doctype html public>", "", Malformed(0)),
+        ("<title><b>", "", Malformed(0)),
+        ("<script>a /b/", "", Malformed(0)),
+        ("<script>`", "", Malformed(0)),
+        ("<script>a-->", "", Malformed(0)),
+        ("<script><!--", "", Malformed(0)),
+        ("<script>f('</script>')", "", Malformed(0)),
+        ("<script>'a\n", "", Malformed(0)),
+        ("<script>// </script>", "", Malformed(0)),
+        ("<script>// \u{2028}", "", Malformed(0)),
+        ("<style>a\\", "", Malformed(0)),
+        ("<style>@Import '", "", Malformed(0)),
+        ("<style>a{b:url(x'", "", Malformed(0)),
+        ("<p title=\"", "\">a < b", Malformed(2)),
+        ("<p title=\"", "", Unfinished),
+        ("<title>", "", Unfinished),
+        ("", "&amp", Unfinished),
+    ];
+    for (before, behind, wanted) in rows {
+        assert!(rt;
+            fault(rt.alloc(), before, behind) == Some(wanted),
+            "{before}"
+        );
+    }
+}
+
+#[test]
+fn fills(rt: HostRuntime) -> Result<(), Fail> {
+    let parts = [
+        Part::Markup("<p a="),
+        Part::Slot,
+        Part::Markup(">"),
+        Part::Slot,
+    ];
+    let Ok(template) = Template::new(rt.alloc(), &parts) else {
+        assert!(rt; false);
+        return Ok(());
+    };
+    let mut output = String::from_str(rt.alloc(), "x")?;
+    assert!(rt; template.append(&mut output, &["a"]) == Err(FillFault::WrongCount));
+    assert!(rt; template.append(&mut output, &["a", "b", "c"]) == Err(FillFault::WrongCount));
+    assert!(rt; template.append(&mut output, &["", "b"]) == Err(FillFault::EmptyUnquoted(0)));
+    assert!(rt; template.append(&mut output, &["a", ""]) == Ok(()));
+    assert!(rt; template.append(&mut output, &["b", "<"]) == Ok(()));
+    assert_eq!(rt; output.as_str(), "x<p a=a><p a=b>&lt;");
+    Ok(())
+}
