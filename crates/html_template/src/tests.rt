@@ -4,7 +4,11 @@ use crate::{FillFault, Part, Template, TemplateFault};
 use std::alloc::Allocator;
 use std::test::Fail;
 
-fn fault<A: Allocator + Copy>(alloc: A, before: &str, behind: &str) -> Option<TemplateFault> {
+fn fault<'a, A: Allocator + Copy>(
+    alloc: A,
+    before: &'a str,
+    behind: &'a str,
+) -> Option<TemplateFault> {
     let parts = [Part::Markup(before), Part::Slot, Part::Markup(behind)];
     match Template::new(alloc, &parts) {
         Ok(_) => None,
@@ -13,11 +17,11 @@ fn fault<A: Allocator + Copy>(alloc: A, before: &str, behind: &str) -> Option<Te
 }
 
 /// The page of one text, between these parts.
-fn page<A: Allocator + Copy>(
+fn page<'a, A: Allocator + Copy>(
     alloc: A,
-    before: &str,
+    before: &'a str,
     text: &str,
-    behind: &str,
+    behind: &'a str,
 ) -> Option<String<A>> {
     let parts = [Part::Markup(before), Part::Slot, Part::Markup(behind)];
     let Ok(template) = Template::new(alloc, &parts) else {
