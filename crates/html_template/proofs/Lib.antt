@@ -9,3 +9,5 @@ pub mod Pieces
 pub mod Structure
 pub mod FillAnswers
 pub mod Joined
+pub mod TokenLaw
+pub mod Agreement

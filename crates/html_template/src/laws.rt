@@ -13,8 +13,14 @@ ghost use Rattle.html_template.specs.Templates.{
   texts_of,
 };
 ghost use Rattle.html_template.specs.Tokenization.{actions_of};
+ghost use Rattle.hesc_specs.specs.Text.Ascii.{double_quote, less_than, single_quote};
+ghost use Rattle.hesc_places.specs.declared.place.places.Place.TheVariants as place;
+ghost use Rattle.html_template.specs.Agreement.{AgreesWith};
+ghost use Rattle.html_template.specs.Tokens.{skeleton, tokens};
+ghost use Rattle.html_template.specs.declared.parts.SlotPlace.TheVariants as slot;
 
 use crate::parts::Piece;
+use crate::tokenizer::states::Content;
 
 /// A page of a template whose slots all stand where a text may stand: whatever follows it, the
 /// tokenizer's actions are those at the template, where each text is handed to its slot whole, and
@@ -58,4 +64,30 @@ pub fn joined_law(first: &[Piece], second: &[Piece], texts: &[&str], others: &[&
         (texts_of texts.now ++ texts_of others.now)
         ≡ actions_all data_state (map kept first.now) (texts_of texts.now)
         ++ actions_all data_state (map kept second.now) (texts_of others.now) }
+{}
+
+/// The tokens of a page, but for characters and for the values of attributes and strings, are the
+/// same for any texts: the same doctypes, comments, tags, names and code, in the same order.
+#[tactic(auto, using(crate::proofs::TokenLaw::skeleton_of_pages))]
+pub fn token_law(pieces: &[Piece], texts: &[&str], others: &[&str])
+    requires sound { state_after_all data_state (map kept pieces.now) ≡ data_state }
+    requires full { Fill (map kept pieces.now) (texts_of texts.now) }
+    requires utf8 { AllByRecursion IsUtf8 (texts_of texts.now) }
+    requires others_full { Fill (map kept pieces.now) (texts_of others.now) }
+    requires others_utf8 { AllByRecursion IsUtf8 (texts_of others.now) }
+    ensures { skeleton (tokens (actions_of data_state
+        (page (map kept pieces.now) (texts_of texts.now))))
+        ≡ skeleton (tokens (actions_of data_state
+        (page (map kept pieces.now) (texts_of others.now)))) }
+{}
+
+/// In text and in a value in quotes the tokenizer agrees with the grammars of the places in
+/// `hesc_places`: up to the mark at which a place's reading ends it stays in the value, and it reads
+/// the same value.
+pub fn agreement_law(content: Content, bytes: &[u8])
+    ensures text { AgreesWith slot.Text content place.Text less_than bytes.now }
+    ensures double { AgreesWith slot.DoubleQuoted content place.DoubleAttribute
+        double_quote bytes.now }
+    ensures single { AgreesWith slot.SingleQuoted content place.SingleAttribute
+        single_quote bytes.now }
 {}
