@@ -1,6 +1,8 @@
 pub mod Capped
 mod CommonNames
 mod Halving
+pub mod ClassWords
+pub mod HandsOnConstant
 pub mod HandsOnTable
 pub mod NamedTable
 mod ReferenceTable

@@ -4,8 +4,9 @@ ghost use Rattle.hesc_specs.specs.Text.Changes.{html_changes};
 ghost use Rattle.hesc_specs.specs.Html.{encoding};
 ghost use Rattle.hesc_engine.specs.Forms.{AnswersPart, AnswersText, StringAppended, VecAppended, WritesText, string_room, vec_room};
 
+use crate::appends::{encode_onto_string, encode_onto_vec};
 use hesc_core::Class;
-use hesc_core::forms::{onto_string, onto_vec, to_cow, to_writer};
+use hesc_core::forms::{to_cow, to_writer};
 use hesc_core::rules::Escape;
 use std::alloc::{AllocError, Allocator};
 use std::borrow::CowStr;
@@ -40,7 +41,7 @@ pub fn encode_text_minimal_to_string<'o, A: Allocator>(
     ensures* appended { sem 𝓛 (StringAppended A.row A.Allocator output.entry
         (encoding Class.TextMinimal text.now) result) }
 {
-    encode_text_minimal_onto_string(output, text)
+    encode_onto_string(output, Class::TextMinimal, text)
 }
 
 /// Appends the encoding of `text` to `output`, and answers the part that was added. On a refusal
@@ -57,7 +58,7 @@ pub fn encode_text_minimal_to_vec<'o, A: Allocator>(
     ensures* appended { sem 𝓛 (VecAppended A.row A.Allocator output.entry
         (encoding Class.TextMinimal text.now) result) }
 {
-    encode_text_minimal_onto_vec(output, text)
+    encode_onto_vec(output, Class::TextMinimal, text)
 }
 
 /// Writes the encoding of `text` to `output`, or a beginning of it and then the writer's fault.
@@ -68,30 +69,6 @@ pub fn encode_text_minimal_to_writer<W: Write>(text: &str, output: &mut W) -> Re
         (encoding Class.TextMinimal text.now) result }
 {
     to_writer(&Escape(Class::TextMinimal), text, output)
-}
-
-fn encode_text_minimal_onto_string<'o, A: Allocator>(
-    output: &'o mut String<A>,
-    text: &str,
-) -> Result<&'o str, AllocError>
-    ensures part { AnswersPart (string_room output.old)
-        (encoding Class.TextMinimal text.now) result }
-    ensures* appended { sem 𝓛 (StringAppended A.row A.Allocator output.entry
-        (encoding Class.TextMinimal text.now) result) }
-{
-    onto_string(output, &Escape(Class::TextMinimal), text)
-}
-
-fn encode_text_minimal_onto_vec<'o, A: Allocator>(
-    output: &'o mut Vec<u8, A>,
-    text: &str,
-) -> Result<&'o [u8], AllocError>
-    ensures part { AnswersPart (vec_room output.old)
-        (encoding Class.TextMinimal text.now) result }
-    ensures* appended { sem 𝓛 (VecAppended A.row A.Allocator output.entry
-        (encoding Class.TextMinimal text.now) result) }
-{
-    onto_vec(output, &Escape(Class::TextMinimal), text)
 }
 
 // `encode_text`: `&`, `<` and `>` become `&amp;`, `&lt;` and `&gt;`.
@@ -119,7 +96,7 @@ pub fn encode_text_to_string<'o, A: Allocator>(
     ensures* appended { sem 𝓛 (StringAppended A.row A.Allocator output.entry
         (encoding Class.Text text.now) result) }
 {
-    encode_text_onto_string(output, text)
+    encode_onto_string(output, Class::Text, text)
 }
 
 /// Appends the encoding of `text` to `output`, and answers the part that was added. On a refusal
@@ -136,7 +113,7 @@ pub fn encode_text_to_vec<'o, A: Allocator>(
     ensures* appended { sem 𝓛 (VecAppended A.row A.Allocator output.entry
         (encoding Class.Text text.now) result) }
 {
-    encode_text_onto_vec(output, text)
+    encode_onto_vec(output, Class::Text, text)
 }
 
 /// Writes the encoding of `text` to `output`, or a beginning of it and then the writer's fault.
@@ -147,30 +124,6 @@ pub fn encode_text_to_writer<W: Write>(text: &str, output: &mut W) -> Result<(),
         (encoding Class.Text text.now) result }
 {
     to_writer(&Escape(Class::Text), text, output)
-}
-
-fn encode_text_onto_string<'o, A: Allocator>(
-    output: &'o mut String<A>,
-    text: &str,
-) -> Result<&'o str, AllocError>
-    ensures part { AnswersPart (string_room output.old)
-        (encoding Class.Text text.now) result }
-    ensures* appended { sem 𝓛 (StringAppended A.row A.Allocator output.entry
-        (encoding Class.Text text.now) result) }
-{
-    onto_string(output, &Escape(Class::Text), text)
-}
-
-fn encode_text_onto_vec<'o, A: Allocator>(
-    output: &'o mut Vec<u8, A>,
-    text: &str,
-) -> Result<&'o [u8], AllocError>
-    ensures part { AnswersPart (vec_room output.old)
-        (encoding Class.Text text.now) result }
-    ensures* appended { sem 𝓛 (VecAppended A.row A.Allocator output.entry
-        (encoding Class.Text text.now) result) }
-{
-    onto_vec(output, &Escape(Class::Text), text)
 }
 
 // `encode_double_quoted_attribute`: `&`, `<`, `>` and `"` become `&amp;`, `&lt;`, `&gt;` and
@@ -203,7 +156,7 @@ pub fn encode_double_quoted_attribute_to_string<'o, A: Allocator>(
     ensures* appended { sem 𝓛 (StringAppended A.row A.Allocator output.entry
         (encoding Class.DoubleQuotedAttribute text.now) result) }
 {
-    encode_double_quoted_attribute_onto_string(output, text)
+    encode_onto_string(output, Class::DoubleQuotedAttribute, text)
 }
 
 /// Appends the encoding of `text` to `output`, and answers the part that was added. On a refusal
@@ -220,7 +173,7 @@ pub fn encode_double_quoted_attribute_to_vec<'o, A: Allocator>(
     ensures* appended { sem 𝓛 (VecAppended A.row A.Allocator output.entry
         (encoding Class.DoubleQuotedAttribute text.now) result) }
 {
-    encode_double_quoted_attribute_onto_vec(output, text)
+    encode_onto_vec(output, Class::DoubleQuotedAttribute, text)
 }
 
 /// Writes the encoding of `text` to `output`, or a beginning of it and then the writer's fault.
@@ -235,30 +188,6 @@ pub fn encode_double_quoted_attribute_to_writer<W: Write>(
         (encoding Class.DoubleQuotedAttribute text.now) result }
 {
     to_writer(&Escape(Class::DoubleQuotedAttribute), text, output)
-}
-
-fn encode_double_quoted_attribute_onto_string<'o, A: Allocator>(
-    output: &'o mut String<A>,
-    text: &str,
-) -> Result<&'o str, AllocError>
-    ensures part { AnswersPart (string_room output.old)
-        (encoding Class.DoubleQuotedAttribute text.now) result }
-    ensures* appended { sem 𝓛 (StringAppended A.row A.Allocator output.entry
-        (encoding Class.DoubleQuotedAttribute text.now) result) }
-{
-    onto_string(output, &Escape(Class::DoubleQuotedAttribute), text)
-}
-
-fn encode_double_quoted_attribute_onto_vec<'o, A: Allocator>(
-    output: &'o mut Vec<u8, A>,
-    text: &str,
-) -> Result<&'o [u8], AllocError>
-    ensures part { AnswersPart (vec_room output.old)
-        (encoding Class.DoubleQuotedAttribute text.now) result }
-    ensures* appended { sem 𝓛 (VecAppended A.row A.Allocator output.entry
-        (encoding Class.DoubleQuotedAttribute text.now) result) }
-{
-    onto_vec(output, &Escape(Class::DoubleQuotedAttribute), text)
 }
 
 // `encode_single_quoted_attribute`: `&`, `<`, `>` and `'` become `&amp;`, `&lt;`, `&gt;` and
@@ -291,7 +220,7 @@ pub fn encode_single_quoted_attribute_to_string<'o, A: Allocator>(
     ensures* appended { sem 𝓛 (StringAppended A.row A.Allocator output.entry
         (encoding Class.SingleQuotedAttribute text.now) result) }
 {
-    encode_single_quoted_attribute_onto_string(output, text)
+    encode_onto_string(output, Class::SingleQuotedAttribute, text)
 }
 
 /// Appends the encoding of `text` to `output`, and answers the part that was added. On a refusal
@@ -308,7 +237,7 @@ pub fn encode_single_quoted_attribute_to_vec<'o, A: Allocator>(
     ensures* appended { sem 𝓛 (VecAppended A.row A.Allocator output.entry
         (encoding Class.SingleQuotedAttribute text.now) result) }
 {
-    encode_single_quoted_attribute_onto_vec(output, text)
+    encode_onto_vec(output, Class::SingleQuotedAttribute, text)
 }
 
 /// Writes the encoding of `text` to `output`, or a beginning of it and then the writer's fault.
@@ -323,30 +252,6 @@ pub fn encode_single_quoted_attribute_to_writer<W: Write>(
         (encoding Class.SingleQuotedAttribute text.now) result }
 {
     to_writer(&Escape(Class::SingleQuotedAttribute), text, output)
-}
-
-fn encode_single_quoted_attribute_onto_string<'o, A: Allocator>(
-    output: &'o mut String<A>,
-    text: &str,
-) -> Result<&'o str, AllocError>
-    ensures part { AnswersPart (string_room output.old)
-        (encoding Class.SingleQuotedAttribute text.now) result }
-    ensures* appended { sem 𝓛 (StringAppended A.row A.Allocator output.entry
-        (encoding Class.SingleQuotedAttribute text.now) result) }
-{
-    onto_string(output, &Escape(Class::SingleQuotedAttribute), text)
-}
-
-fn encode_single_quoted_attribute_onto_vec<'o, A: Allocator>(
-    output: &'o mut Vec<u8, A>,
-    text: &str,
-) -> Result<&'o [u8], AllocError>
-    ensures part { AnswersPart (vec_room output.old)
-        (encoding Class.SingleQuotedAttribute text.now) result }
-    ensures* appended { sem 𝓛 (VecAppended A.row A.Allocator output.entry
-        (encoding Class.SingleQuotedAttribute text.now) result) }
-{
-    onto_vec(output, &Escape(Class::SingleQuotedAttribute), text)
 }
 
 // `encode_quoted_attribute`: `&`, `<`, `>`, `"` and `'` become `&amp;`, `&lt;`, `&gt;`, `&quot;` and
@@ -379,7 +284,7 @@ pub fn encode_quoted_attribute_to_string<'o, A: Allocator>(
     ensures* appended { sem 𝓛 (StringAppended A.row A.Allocator output.entry
         (encoding Class.QuotedAttribute text.now) result) }
 {
-    encode_quoted_attribute_onto_string(output, text)
+    encode_onto_string(output, Class::QuotedAttribute, text)
 }
 
 /// Appends the encoding of `text` to `output`, and answers the part that was added. On a refusal
@@ -396,7 +301,7 @@ pub fn encode_quoted_attribute_to_vec<'o, A: Allocator>(
     ensures* appended { sem 𝓛 (VecAppended A.row A.Allocator output.entry
         (encoding Class.QuotedAttribute text.now) result) }
 {
-    encode_quoted_attribute_onto_vec(output, text)
+    encode_onto_vec(output, Class::QuotedAttribute, text)
 }
 
 /// Writes the encoding of `text` to `output`, or a beginning of it and then the writer's fault.
@@ -411,30 +316,6 @@ pub fn encode_quoted_attribute_to_writer<W: Write>(
         (encoding Class.QuotedAttribute text.now) result }
 {
     to_writer(&Escape(Class::QuotedAttribute), text, output)
-}
-
-fn encode_quoted_attribute_onto_string<'o, A: Allocator>(
-    output: &'o mut String<A>,
-    text: &str,
-) -> Result<&'o str, AllocError>
-    ensures part { AnswersPart (string_room output.old)
-        (encoding Class.QuotedAttribute text.now) result }
-    ensures* appended { sem 𝓛 (StringAppended A.row A.Allocator output.entry
-        (encoding Class.QuotedAttribute text.now) result) }
-{
-    onto_string(output, &Escape(Class::QuotedAttribute), text)
-}
-
-fn encode_quoted_attribute_onto_vec<'o, A: Allocator>(
-    output: &'o mut Vec<u8, A>,
-    text: &str,
-) -> Result<&'o [u8], AllocError>
-    ensures part { AnswersPart (vec_room output.old)
-        (encoding Class.QuotedAttribute text.now) result }
-    ensures* appended { sem 𝓛 (VecAppended A.row A.Allocator output.entry
-        (encoding Class.QuotedAttribute text.now) result) }
-{
-    onto_vec(output, &Escape(Class::QuotedAttribute), text)
 }
 
 // `encode_safe`: `&`, `<`, `>`, `"`, `'` and `/` become `&amp;`, `&lt;`, `&gt;`, `&quot;`,
@@ -464,7 +345,7 @@ pub fn encode_safe_to_string<'o, A: Allocator>(
     ensures* appended { sem 𝓛 (StringAppended A.row A.Allocator output.entry
         (encoding Class.Safe text.now) result) }
 {
-    encode_safe_onto_string(output, text)
+    encode_onto_string(output, Class::Safe, text)
 }
 
 /// Appends the encoding of `text` to `output`, and answers the part that was added. On a refusal
@@ -481,7 +362,7 @@ pub fn encode_safe_to_vec<'o, A: Allocator>(
     ensures* appended { sem 𝓛 (VecAppended A.row A.Allocator output.entry
         (encoding Class.Safe text.now) result) }
 {
-    encode_safe_onto_vec(output, text)
+    encode_onto_vec(output, Class::Safe, text)
 }
 
 /// Writes the encoding of `text` to `output`, or a beginning of it and then the writer's fault.
@@ -492,30 +373,6 @@ pub fn encode_safe_to_writer<W: Write>(text: &str, output: &mut W) -> Result<(),
         (encoding Class.Safe text.now) result }
 {
     to_writer(&Escape(Class::Safe), text, output)
-}
-
-fn encode_safe_onto_string<'o, A: Allocator>(
-    output: &'o mut String<A>,
-    text: &str,
-) -> Result<&'o str, AllocError>
-    ensures part { AnswersPart (string_room output.old)
-        (encoding Class.Safe text.now) result }
-    ensures* appended { sem 𝓛 (StringAppended A.row A.Allocator output.entry
-        (encoding Class.Safe text.now) result) }
-{
-    onto_string(output, &Escape(Class::Safe), text)
-}
-
-fn encode_safe_onto_vec<'o, A: Allocator>(
-    output: &'o mut Vec<u8, A>,
-    text: &str,
-) -> Result<&'o [u8], AllocError>
-    ensures part { AnswersPart (vec_room output.old)
-        (encoding Class.Safe text.now) result }
-    ensures* appended { sem 𝓛 (VecAppended A.row A.Allocator output.entry
-        (encoding Class.Safe text.now) result) }
-{
-    onto_vec(output, &Escape(Class::Safe), text)
 }
 
 // `encode_unquoted_attribute`: each ASCII character that is no letter or digit becomes a
@@ -548,7 +405,7 @@ pub fn encode_unquoted_attribute_to_string<'o, A: Allocator>(
     ensures* appended { sem 𝓛 (StringAppended A.row A.Allocator output.entry
         (encoding Class.UnquotedAttribute text.now) result) }
 {
-    encode_unquoted_attribute_onto_string(output, text)
+    encode_onto_string(output, Class::UnquotedAttribute, text)
 }
 
 /// Appends the encoding of `text` to `output`, and answers the part that was added. On a refusal
@@ -565,7 +422,7 @@ pub fn encode_unquoted_attribute_to_vec<'o, A: Allocator>(
     ensures* appended { sem 𝓛 (VecAppended A.row A.Allocator output.entry
         (encoding Class.UnquotedAttribute text.now) result) }
 {
-    encode_unquoted_attribute_onto_vec(output, text)
+    encode_onto_vec(output, Class::UnquotedAttribute, text)
 }
 
 /// Writes the encoding of `text` to `output`, or a beginning of it and then the writer's fault.
@@ -580,28 +437,4 @@ pub fn encode_unquoted_attribute_to_writer<W: Write>(
         (encoding Class.UnquotedAttribute text.now) result }
 {
     to_writer(&Escape(Class::UnquotedAttribute), text, output)
-}
-
-fn encode_unquoted_attribute_onto_string<'o, A: Allocator>(
-    output: &'o mut String<A>,
-    text: &str,
-) -> Result<&'o str, AllocError>
-    ensures part { AnswersPart (string_room output.old)
-        (encoding Class.UnquotedAttribute text.now) result }
-    ensures* appended { sem 𝓛 (StringAppended A.row A.Allocator output.entry
-        (encoding Class.UnquotedAttribute text.now) result) }
-{
-    onto_string(output, &Escape(Class::UnquotedAttribute), text)
-}
-
-fn encode_unquoted_attribute_onto_vec<'o, A: Allocator>(
-    output: &'o mut Vec<u8, A>,
-    text: &str,
-) -> Result<&'o [u8], AllocError>
-    ensures part { AnswersPart (vec_room output.old)
-        (encoding Class.UnquotedAttribute text.now) result }
-    ensures* appended { sem 𝓛 (VecAppended A.row A.Allocator output.entry
-        (encoding Class.UnquotedAttribute text.now) result) }
-{
-    onto_vec(output, &Escape(Class::UnquotedAttribute), text)
 }

@@ -6,8 +6,9 @@ ghost use Rattle.hesc_specs.specs.declared.elements.Element.TheVariants.{Script,
 ghost use Rattle.hesc_specs.specs.declared.quotes.Quotes.TheVariants.{Single, Double, Both};
 ghost use Rattle.hesc_engine.specs.Forms.{AnswersPart, AnswersText, StringAppended, VecAppended, WritesText, string_room, vec_room};
 
+use crate::appends::{encode_onto_string, encode_onto_vec};
 use hesc_core::Class;
-use hesc_core::forms::{onto_string, onto_vec, to_cow, to_writer};
+use hesc_core::forms::{to_cow, to_writer};
 use hesc_core::rules::Escape;
 use std::alloc::{AllocError, Allocator};
 use std::borrow::CowStr;
@@ -43,7 +44,7 @@ pub fn encode_script_single_quoted_text_to_string<'o, A: Allocator>(
     ensures* appended { sem 𝓛 (StringAppended A.row A.Allocator output.entry
         (string_encoding Script Single text.now) result) }
 {
-    encode_script_single_quoted_text_onto_string(output, text)
+    encode_onto_string(output, Class::ScriptSingleQuoted, text)
 }
 
 /// Appends the encoding of `text` to `output`, and answers the part that was added. On a refusal
@@ -60,7 +61,7 @@ pub fn encode_script_single_quoted_text_to_vec<'o, A: Allocator>(
     ensures* appended { sem 𝓛 (VecAppended A.row A.Allocator output.entry
         (string_encoding Script Single text.now) result) }
 {
-    encode_script_single_quoted_text_onto_vec(output, text)
+    encode_onto_vec(output, Class::ScriptSingleQuoted, text)
 }
 
 /// Writes the encoding of `text` to `output`, or a beginning of it and then the writer's fault.
@@ -75,30 +76,6 @@ pub fn encode_script_single_quoted_text_to_writer<W: Write>(
         (string_encoding Script Single text.now) result }
 {
     to_writer(&Escape(Class::ScriptSingleQuoted), text, output)
-}
-
-fn encode_script_single_quoted_text_onto_string<'o, A: Allocator>(
-    output: &'o mut String<A>,
-    text: &str,
-) -> Result<&'o str, AllocError>
-    ensures part { AnswersPart (string_room output.old)
-        (string_encoding Script Single text.now) result }
-    ensures* appended { sem 𝓛 (StringAppended A.row A.Allocator output.entry
-        (string_encoding Script Single text.now) result) }
-{
-    onto_string(output, &Escape(Class::ScriptSingleQuoted), text)
-}
-
-fn encode_script_single_quoted_text_onto_vec<'o, A: Allocator>(
-    output: &'o mut Vec<u8, A>,
-    text: &str,
-) -> Result<&'o [u8], AllocError>
-    ensures part { AnswersPart (vec_room output.old)
-        (string_encoding Script Single text.now) result }
-    ensures* appended { sem 𝓛 (VecAppended A.row A.Allocator output.entry
-        (string_encoding Script Single text.now) result) }
-{
-    onto_vec(output, &Escape(Class::ScriptSingleQuoted), text)
 }
 
 // `encode_script_double_quoted_text`: `\` and `"` get a `\` before them, C0 controls and `<`
@@ -131,7 +108,7 @@ pub fn encode_script_double_quoted_text_to_string<'o, A: Allocator>(
     ensures* appended { sem 𝓛 (StringAppended A.row A.Allocator output.entry
         (string_encoding Script Double text.now) result) }
 {
-    encode_script_double_quoted_text_onto_string(output, text)
+    encode_onto_string(output, Class::ScriptDoubleQuoted, text)
 }
 
 /// Appends the encoding of `text` to `output`, and answers the part that was added. On a refusal
@@ -148,7 +125,7 @@ pub fn encode_script_double_quoted_text_to_vec<'o, A: Allocator>(
     ensures* appended { sem 𝓛 (VecAppended A.row A.Allocator output.entry
         (string_encoding Script Double text.now) result) }
 {
-    encode_script_double_quoted_text_onto_vec(output, text)
+    encode_onto_vec(output, Class::ScriptDoubleQuoted, text)
 }
 
 /// Writes the encoding of `text` to `output`, or a beginning of it and then the writer's fault.
@@ -163,30 +140,6 @@ pub fn encode_script_double_quoted_text_to_writer<W: Write>(
         (string_encoding Script Double text.now) result }
 {
     to_writer(&Escape(Class::ScriptDoubleQuoted), text, output)
-}
-
-fn encode_script_double_quoted_text_onto_string<'o, A: Allocator>(
-    output: &'o mut String<A>,
-    text: &str,
-) -> Result<&'o str, AllocError>
-    ensures part { AnswersPart (string_room output.old)
-        (string_encoding Script Double text.now) result }
-    ensures* appended { sem 𝓛 (StringAppended A.row A.Allocator output.entry
-        (string_encoding Script Double text.now) result) }
-{
-    onto_string(output, &Escape(Class::ScriptDoubleQuoted), text)
-}
-
-fn encode_script_double_quoted_text_onto_vec<'o, A: Allocator>(
-    output: &'o mut Vec<u8, A>,
-    text: &str,
-) -> Result<&'o [u8], AllocError>
-    ensures part { AnswersPart (vec_room output.old)
-        (string_encoding Script Double text.now) result }
-    ensures* appended { sem 𝓛 (VecAppended A.row A.Allocator output.entry
-        (string_encoding Script Double text.now) result) }
-{
-    onto_vec(output, &Escape(Class::ScriptDoubleQuoted), text)
 }
 
 // `encode_script_quoted_text`: `\`, `'` and `"` get a `\` before them, C0 controls and `<` become
@@ -219,7 +172,7 @@ pub fn encode_script_quoted_text_to_string<'o, A: Allocator>(
     ensures* appended { sem 𝓛 (StringAppended A.row A.Allocator output.entry
         (string_encoding Script Both text.now) result) }
 {
-    encode_script_quoted_text_onto_string(output, text)
+    encode_onto_string(output, Class::ScriptQuoted, text)
 }
 
 /// Appends the encoding of `text` to `output`, and answers the part that was added. On a refusal
@@ -236,7 +189,7 @@ pub fn encode_script_quoted_text_to_vec<'o, A: Allocator>(
     ensures* appended { sem 𝓛 (VecAppended A.row A.Allocator output.entry
         (string_encoding Script Both text.now) result) }
 {
-    encode_script_quoted_text_onto_vec(output, text)
+    encode_onto_vec(output, Class::ScriptQuoted, text)
 }
 
 /// Writes the encoding of `text` to `output`, or a beginning of it and then the writer's fault.
@@ -250,30 +203,6 @@ pub fn encode_script_quoted_text_to_writer<W: Write>(
         (string_encoding Script Both text.now) result }
 {
     to_writer(&Escape(Class::ScriptQuoted), text, output)
-}
-
-fn encode_script_quoted_text_onto_string<'o, A: Allocator>(
-    output: &'o mut String<A>,
-    text: &str,
-) -> Result<&'o str, AllocError>
-    ensures part { AnswersPart (string_room output.old)
-        (string_encoding Script Both text.now) result }
-    ensures* appended { sem 𝓛 (StringAppended A.row A.Allocator output.entry
-        (string_encoding Script Both text.now) result) }
-{
-    onto_string(output, &Escape(Class::ScriptQuoted), text)
-}
-
-fn encode_script_quoted_text_onto_vec<'o, A: Allocator>(
-    output: &'o mut Vec<u8, A>,
-    text: &str,
-) -> Result<&'o [u8], AllocError>
-    ensures part { AnswersPart (vec_room output.old)
-        (string_encoding Script Both text.now) result }
-    ensures* appended { sem 𝓛 (VecAppended A.row A.Allocator output.entry
-        (string_encoding Script Both text.now) result) }
-{
-    onto_vec(output, &Escape(Class::ScriptQuoted), text)
 }
 
 // `encode_style_single_quoted_text`: `\` and `'` get a `\` before them, NUL becomes U+FFFD, and
@@ -306,7 +235,7 @@ pub fn encode_style_single_quoted_text_to_string<'o, A: Allocator>(
     ensures* appended { sem 𝓛 (StringAppended A.row A.Allocator output.entry
         (string_encoding Style Single text.now) result) }
 {
-    encode_style_single_quoted_text_onto_string(output, text)
+    encode_onto_string(output, Class::StyleSingleQuoted, text)
 }
 
 /// Appends the encoding of `text` to `output`, and answers the part that was added. On a refusal
@@ -323,7 +252,7 @@ pub fn encode_style_single_quoted_text_to_vec<'o, A: Allocator>(
     ensures* appended { sem 𝓛 (VecAppended A.row A.Allocator output.entry
         (string_encoding Style Single text.now) result) }
 {
-    encode_style_single_quoted_text_onto_vec(output, text)
+    encode_onto_vec(output, Class::StyleSingleQuoted, text)
 }
 
 /// Writes the encoding of `text` to `output`, or a beginning of it and then the writer's fault.
@@ -338,30 +267,6 @@ pub fn encode_style_single_quoted_text_to_writer<W: Write>(
         (string_encoding Style Single text.now) result }
 {
     to_writer(&Escape(Class::StyleSingleQuoted), text, output)
-}
-
-fn encode_style_single_quoted_text_onto_string<'o, A: Allocator>(
-    output: &'o mut String<A>,
-    text: &str,
-) -> Result<&'o str, AllocError>
-    ensures part { AnswersPart (string_room output.old)
-        (string_encoding Style Single text.now) result }
-    ensures* appended { sem 𝓛 (StringAppended A.row A.Allocator output.entry
-        (string_encoding Style Single text.now) result) }
-{
-    onto_string(output, &Escape(Class::StyleSingleQuoted), text)
-}
-
-fn encode_style_single_quoted_text_onto_vec<'o, A: Allocator>(
-    output: &'o mut Vec<u8, A>,
-    text: &str,
-) -> Result<&'o [u8], AllocError>
-    ensures part { AnswersPart (vec_room output.old)
-        (string_encoding Style Single text.now) result }
-    ensures* appended { sem 𝓛 (VecAppended A.row A.Allocator output.entry
-        (string_encoding Style Single text.now) result) }
-{
-    onto_vec(output, &Escape(Class::StyleSingleQuoted), text)
 }
 
 // `encode_style_double_quoted_text`: `\` and `"` get a `\` before them, NUL becomes U+FFFD, and
@@ -394,7 +299,7 @@ pub fn encode_style_double_quoted_text_to_string<'o, A: Allocator>(
     ensures* appended { sem 𝓛 (StringAppended A.row A.Allocator output.entry
         (string_encoding Style Double text.now) result) }
 {
-    encode_style_double_quoted_text_onto_string(output, text)
+    encode_onto_string(output, Class::StyleDoubleQuoted, text)
 }
 
 /// Appends the encoding of `text` to `output`, and answers the part that was added. On a refusal
@@ -411,7 +316,7 @@ pub fn encode_style_double_quoted_text_to_vec<'o, A: Allocator>(
     ensures* appended { sem 𝓛 (VecAppended A.row A.Allocator output.entry
         (string_encoding Style Double text.now) result) }
 {
-    encode_style_double_quoted_text_onto_vec(output, text)
+    encode_onto_vec(output, Class::StyleDoubleQuoted, text)
 }
 
 /// Writes the encoding of `text` to `output`, or a beginning of it and then the writer's fault.
@@ -426,30 +331,6 @@ pub fn encode_style_double_quoted_text_to_writer<W: Write>(
         (string_encoding Style Double text.now) result }
 {
     to_writer(&Escape(Class::StyleDoubleQuoted), text, output)
-}
-
-fn encode_style_double_quoted_text_onto_string<'o, A: Allocator>(
-    output: &'o mut String<A>,
-    text: &str,
-) -> Result<&'o str, AllocError>
-    ensures part { AnswersPart (string_room output.old)
-        (string_encoding Style Double text.now) result }
-    ensures* appended { sem 𝓛 (StringAppended A.row A.Allocator output.entry
-        (string_encoding Style Double text.now) result) }
-{
-    onto_string(output, &Escape(Class::StyleDoubleQuoted), text)
-}
-
-fn encode_style_double_quoted_text_onto_vec<'o, A: Allocator>(
-    output: &'o mut Vec<u8, A>,
-    text: &str,
-) -> Result<&'o [u8], AllocError>
-    ensures part { AnswersPart (vec_room output.old)
-        (string_encoding Style Double text.now) result }
-    ensures* appended { sem 𝓛 (VecAppended A.row A.Allocator output.entry
-        (string_encoding Style Double text.now) result) }
-{
-    onto_vec(output, &Escape(Class::StyleDoubleQuoted), text)
 }
 
 // `encode_style_quoted_text`: `\`, `'` and `"` get a `\` before them, NUL becomes U+FFFD, and the
@@ -482,7 +363,7 @@ pub fn encode_style_quoted_text_to_string<'o, A: Allocator>(
     ensures* appended { sem 𝓛 (StringAppended A.row A.Allocator output.entry
         (string_encoding Style Both text.now) result) }
 {
-    encode_style_quoted_text_onto_string(output, text)
+    encode_onto_string(output, Class::StyleQuoted, text)
 }
 
 /// Appends the encoding of `text` to `output`, and answers the part that was added. On a refusal
@@ -499,7 +380,7 @@ pub fn encode_style_quoted_text_to_vec<'o, A: Allocator>(
     ensures* appended { sem 𝓛 (VecAppended A.row A.Allocator output.entry
         (string_encoding Style Both text.now) result) }
 {
-    encode_style_quoted_text_onto_vec(output, text)
+    encode_onto_vec(output, Class::StyleQuoted, text)
 }
 
 /// Writes the encoding of `text` to `output`, or a beginning of it and then the writer's fault.
@@ -513,28 +394,4 @@ pub fn encode_style_quoted_text_to_writer<W: Write>(
         (string_encoding Style Both text.now) result }
 {
     to_writer(&Escape(Class::StyleQuoted), text, output)
-}
-
-fn encode_style_quoted_text_onto_string<'o, A: Allocator>(
-    output: &'o mut String<A>,
-    text: &str,
-) -> Result<&'o str, AllocError>
-    ensures part { AnswersPart (string_room output.old)
-        (string_encoding Style Both text.now) result }
-    ensures* appended { sem 𝓛 (StringAppended A.row A.Allocator output.entry
-        (string_encoding Style Both text.now) result) }
-{
-    onto_string(output, &Escape(Class::StyleQuoted), text)
-}
-
-fn encode_style_quoted_text_onto_vec<'o, A: Allocator>(
-    output: &'o mut Vec<u8, A>,
-    text: &str,
-) -> Result<&'o [u8], AllocError>
-    ensures part { AnswersPart (vec_room output.old)
-        (string_encoding Style Both text.now) result }
-    ensures* appended { sem 𝓛 (VecAppended A.row A.Allocator output.entry
-        (string_encoding Style Both text.now) result) }
-{
-    onto_vec(output, &Escape(Class::StyleQuoted), text)
 }
