@@ -2,6 +2,7 @@
 //! string or a vector, or written.
 #![tactic(auto)]
 
+mod appends;
 pub mod bodies;
 pub mod references;
 pub mod strings;

@@ -6,8 +6,9 @@ ghost use Rattle.hesc_specs.specs.declared.elements.Element.TheVariants.{Script,
 ghost use Rattle.hesc_specs.specs.declared.quotes.Quotes.TheVariants.{Single, Double, Both};
 ghost use Rattle.hesc_engine.specs.Forms.{AnswersPart, AnswersText, StringAppended, VecAppended, WritesText, string_room, vec_room};
 
+use crate::appends::{decode_onto_string, decode_onto_vec};
 use hesc_core::Class;
-use hesc_core::forms::{onto_string, onto_vec, to_cow, to_writer};
+use hesc_core::forms::{to_cow, to_writer};
 use hesc_core::rules::Unescape;
 use std::alloc::{AllocError, Allocator};
 use std::borrow::CowStr;
@@ -45,7 +46,7 @@ pub fn decode_script_single_quoted_text_to_string<'o, A: Allocator>(
     ensures* appended { sem 𝓛 (StringAppended A.row A.Allocator output.entry
         (string_decoding Script Single text.now) result) }
 {
-    decode_script_single_quoted_text_onto_string(output, text)
+    decode_onto_string(output, Class::ScriptSingleQuoted, text)
 }
 
 /// Appends `text` decoded to `output`, and answers the part that was added. On a refusal
@@ -62,7 +63,7 @@ pub fn decode_script_single_quoted_text_to_vec<'o, A: Allocator>(
     ensures* appended { sem 𝓛 (VecAppended A.row A.Allocator output.entry
         (string_decoding Script Single text.now) result) }
 {
-    decode_script_single_quoted_text_onto_vec(output, text)
+    decode_onto_vec(output, Class::ScriptSingleQuoted, text)
 }
 
 /// Writes `text` decoded to `output`, or a beginning of it and then the writer's fault.
@@ -77,30 +78,6 @@ pub fn decode_script_single_quoted_text_to_writer<W: Write>(
         (string_decoding Script Single text.now) result }
 {
     to_writer(&Unescape(Class::ScriptSingleQuoted), text, output)
-}
-
-fn decode_script_single_quoted_text_onto_string<'o, A: Allocator>(
-    output: &'o mut String<A>,
-    text: &str,
-) -> Result<&'o str, AllocError>
-    ensures part { AnswersPart (string_room output.old)
-        (string_decoding Script Single text.now) result }
-    ensures* appended { sem 𝓛 (StringAppended A.row A.Allocator output.entry
-        (string_decoding Script Single text.now) result) }
-{
-    onto_string(output, &Unescape(Class::ScriptSingleQuoted), text)
-}
-
-fn decode_script_single_quoted_text_onto_vec<'o, A: Allocator>(
-    output: &'o mut Vec<u8, A>,
-    text: &str,
-) -> Result<&'o [u8], AllocError>
-    ensures part { AnswersPart (vec_room output.old)
-        (string_decoding Script Single text.now) result }
-    ensures* appended { sem 𝓛 (VecAppended A.row A.Allocator output.entry
-        (string_decoding Script Single text.now) result) }
-{
-    onto_vec(output, &Unescape(Class::ScriptSingleQuoted), text)
 }
 
 // `decode_script_double_quoted_text`: in a script's string `\\`, `\"`, `\x` and two upper-case hex
@@ -135,7 +112,7 @@ pub fn decode_script_double_quoted_text_to_string<'o, A: Allocator>(
     ensures* appended { sem 𝓛 (StringAppended A.row A.Allocator output.entry
         (string_decoding Script Double text.now) result) }
 {
-    decode_script_double_quoted_text_onto_string(output, text)
+    decode_onto_string(output, Class::ScriptDoubleQuoted, text)
 }
 
 /// Appends `text` decoded to `output`, and answers the part that was added. On a refusal
@@ -152,7 +129,7 @@ pub fn decode_script_double_quoted_text_to_vec<'o, A: Allocator>(
     ensures* appended { sem 𝓛 (VecAppended A.row A.Allocator output.entry
         (string_decoding Script Double text.now) result) }
 {
-    decode_script_double_quoted_text_onto_vec(output, text)
+    decode_onto_vec(output, Class::ScriptDoubleQuoted, text)
 }
 
 /// Writes `text` decoded to `output`, or a beginning of it and then the writer's fault.
@@ -167,30 +144,6 @@ pub fn decode_script_double_quoted_text_to_writer<W: Write>(
         (string_decoding Script Double text.now) result }
 {
     to_writer(&Unescape(Class::ScriptDoubleQuoted), text, output)
-}
-
-fn decode_script_double_quoted_text_onto_string<'o, A: Allocator>(
-    output: &'o mut String<A>,
-    text: &str,
-) -> Result<&'o str, AllocError>
-    ensures part { AnswersPart (string_room output.old)
-        (string_decoding Script Double text.now) result }
-    ensures* appended { sem 𝓛 (StringAppended A.row A.Allocator output.entry
-        (string_decoding Script Double text.now) result) }
-{
-    onto_string(output, &Unescape(Class::ScriptDoubleQuoted), text)
-}
-
-fn decode_script_double_quoted_text_onto_vec<'o, A: Allocator>(
-    output: &'o mut Vec<u8, A>,
-    text: &str,
-) -> Result<&'o [u8], AllocError>
-    ensures part { AnswersPart (vec_room output.old)
-        (string_decoding Script Double text.now) result }
-    ensures* appended { sem 𝓛 (VecAppended A.row A.Allocator output.entry
-        (string_decoding Script Double text.now) result) }
-{
-    onto_vec(output, &Unescape(Class::ScriptDoubleQuoted), text)
 }
 
 // `decode_script_quoted_text`: in a script's string `\\`, `\'`, `\"`, `\x` and two upper-case hex
@@ -225,7 +178,7 @@ pub fn decode_script_quoted_text_to_string<'o, A: Allocator>(
     ensures* appended { sem 𝓛 (StringAppended A.row A.Allocator output.entry
         (string_decoding Script Both text.now) result) }
 {
-    decode_script_quoted_text_onto_string(output, text)
+    decode_onto_string(output, Class::ScriptQuoted, text)
 }
 
 /// Appends `text` decoded to `output`, and answers the part that was added. On a refusal
@@ -242,7 +195,7 @@ pub fn decode_script_quoted_text_to_vec<'o, A: Allocator>(
     ensures* appended { sem 𝓛 (VecAppended A.row A.Allocator output.entry
         (string_decoding Script Both text.now) result) }
 {
-    decode_script_quoted_text_onto_vec(output, text)
+    decode_onto_vec(output, Class::ScriptQuoted, text)
 }
 
 /// Writes `text` decoded to `output`, or a beginning of it and then the writer's fault.
@@ -256,30 +209,6 @@ pub fn decode_script_quoted_text_to_writer<W: Write>(
         (string_decoding Script Both text.now) result }
 {
     to_writer(&Unescape(Class::ScriptQuoted), text, output)
-}
-
-fn decode_script_quoted_text_onto_string<'o, A: Allocator>(
-    output: &'o mut String<A>,
-    text: &str,
-) -> Result<&'o str, AllocError>
-    ensures part { AnswersPart (string_room output.old)
-        (string_decoding Script Both text.now) result }
-    ensures* appended { sem 𝓛 (StringAppended A.row A.Allocator output.entry
-        (string_decoding Script Both text.now) result) }
-{
-    onto_string(output, &Unescape(Class::ScriptQuoted), text)
-}
-
-fn decode_script_quoted_text_onto_vec<'o, A: Allocator>(
-    output: &'o mut Vec<u8, A>,
-    text: &str,
-) -> Result<&'o [u8], AllocError>
-    ensures part { AnswersPart (vec_room output.old)
-        (string_decoding Script Both text.now) result }
-    ensures* appended { sem 𝓛 (VecAppended A.row A.Allocator output.entry
-        (string_decoding Script Both text.now) result) }
-{
-    onto_vec(output, &Unescape(Class::ScriptQuoted), text)
 }
 
 // `decode_style_single_quoted_text`: in a style's string `\\`, `\'`, and `\`, two upper-case hex
@@ -314,7 +243,7 @@ pub fn decode_style_single_quoted_text_to_string<'o, A: Allocator>(
     ensures* appended { sem 𝓛 (StringAppended A.row A.Allocator output.entry
         (string_decoding Style Single text.now) result) }
 {
-    decode_style_single_quoted_text_onto_string(output, text)
+    decode_onto_string(output, Class::StyleSingleQuoted, text)
 }
 
 /// Appends `text` decoded to `output`, and answers the part that was added. On a refusal
@@ -331,7 +260,7 @@ pub fn decode_style_single_quoted_text_to_vec<'o, A: Allocator>(
     ensures* appended { sem 𝓛 (VecAppended A.row A.Allocator output.entry
         (string_decoding Style Single text.now) result) }
 {
-    decode_style_single_quoted_text_onto_vec(output, text)
+    decode_onto_vec(output, Class::StyleSingleQuoted, text)
 }
 
 /// Writes `text` decoded to `output`, or a beginning of it and then the writer's fault.
@@ -346,30 +275,6 @@ pub fn decode_style_single_quoted_text_to_writer<W: Write>(
         (string_decoding Style Single text.now) result }
 {
     to_writer(&Unescape(Class::StyleSingleQuoted), text, output)
-}
-
-fn decode_style_single_quoted_text_onto_string<'o, A: Allocator>(
-    output: &'o mut String<A>,
-    text: &str,
-) -> Result<&'o str, AllocError>
-    ensures part { AnswersPart (string_room output.old)
-        (string_decoding Style Single text.now) result }
-    ensures* appended { sem 𝓛 (StringAppended A.row A.Allocator output.entry
-        (string_decoding Style Single text.now) result) }
-{
-    onto_string(output, &Unescape(Class::StyleSingleQuoted), text)
-}
-
-fn decode_style_single_quoted_text_onto_vec<'o, A: Allocator>(
-    output: &'o mut Vec<u8, A>,
-    text: &str,
-) -> Result<&'o [u8], AllocError>
-    ensures part { AnswersPart (vec_room output.old)
-        (string_decoding Style Single text.now) result }
-    ensures* appended { sem 𝓛 (VecAppended A.row A.Allocator output.entry
-        (string_decoding Style Single text.now) result) }
-{
-    onto_vec(output, &Unescape(Class::StyleSingleQuoted), text)
 }
 
 // `decode_style_double_quoted_text`: in a style's string `\\`, `\"`, and `\`, two upper-case hex
@@ -404,7 +309,7 @@ pub fn decode_style_double_quoted_text_to_string<'o, A: Allocator>(
     ensures* appended { sem 𝓛 (StringAppended A.row A.Allocator output.entry
         (string_decoding Style Double text.now) result) }
 {
-    decode_style_double_quoted_text_onto_string(output, text)
+    decode_onto_string(output, Class::StyleDoubleQuoted, text)
 }
 
 /// Appends `text` decoded to `output`, and answers the part that was added. On a refusal
@@ -421,7 +326,7 @@ pub fn decode_style_double_quoted_text_to_vec<'o, A: Allocator>(
     ensures* appended { sem 𝓛 (VecAppended A.row A.Allocator output.entry
         (string_decoding Style Double text.now) result) }
 {
-    decode_style_double_quoted_text_onto_vec(output, text)
+    decode_onto_vec(output, Class::StyleDoubleQuoted, text)
 }
 
 /// Writes `text` decoded to `output`, or a beginning of it and then the writer's fault.
@@ -436,30 +341,6 @@ pub fn decode_style_double_quoted_text_to_writer<W: Write>(
         (string_decoding Style Double text.now) result }
 {
     to_writer(&Unescape(Class::StyleDoubleQuoted), text, output)
-}
-
-fn decode_style_double_quoted_text_onto_string<'o, A: Allocator>(
-    output: &'o mut String<A>,
-    text: &str,
-) -> Result<&'o str, AllocError>
-    ensures part { AnswersPart (string_room output.old)
-        (string_decoding Style Double text.now) result }
-    ensures* appended { sem 𝓛 (StringAppended A.row A.Allocator output.entry
-        (string_decoding Style Double text.now) result) }
-{
-    onto_string(output, &Unescape(Class::StyleDoubleQuoted), text)
-}
-
-fn decode_style_double_quoted_text_onto_vec<'o, A: Allocator>(
-    output: &'o mut Vec<u8, A>,
-    text: &str,
-) -> Result<&'o [u8], AllocError>
-    ensures part { AnswersPart (vec_room output.old)
-        (string_decoding Style Double text.now) result }
-    ensures* appended { sem 𝓛 (VecAppended A.row A.Allocator output.entry
-        (string_decoding Style Double text.now) result) }
-{
-    onto_vec(output, &Unescape(Class::StyleDoubleQuoted), text)
 }
 
 // `decode_style_quoted_text`: in a style's string `\\`, `\'`, `\"`, and `\`, two upper-case hex
@@ -494,7 +375,7 @@ pub fn decode_style_quoted_text_to_string<'o, A: Allocator>(
     ensures* appended { sem 𝓛 (StringAppended A.row A.Allocator output.entry
         (string_decoding Style Both text.now) result) }
 {
-    decode_style_quoted_text_onto_string(output, text)
+    decode_onto_string(output, Class::StyleQuoted, text)
 }
 
 /// Appends `text` decoded to `output`, and answers the part that was added. On a refusal
@@ -511,7 +392,7 @@ pub fn decode_style_quoted_text_to_vec<'o, A: Allocator>(
     ensures* appended { sem 𝓛 (VecAppended A.row A.Allocator output.entry
         (string_decoding Style Both text.now) result) }
 {
-    decode_style_quoted_text_onto_vec(output, text)
+    decode_onto_vec(output, Class::StyleQuoted, text)
 }
 
 /// Writes `text` decoded to `output`, or a beginning of it and then the writer's fault.
@@ -525,28 +406,4 @@ pub fn decode_style_quoted_text_to_writer<W: Write>(
         (string_decoding Style Both text.now) result }
 {
     to_writer(&Unescape(Class::StyleQuoted), text, output)
-}
-
-fn decode_style_quoted_text_onto_string<'o, A: Allocator>(
-    output: &'o mut String<A>,
-    text: &str,
-) -> Result<&'o str, AllocError>
-    ensures part { AnswersPart (string_room output.old)
-        (string_decoding Style Both text.now) result }
-    ensures* appended { sem 𝓛 (StringAppended A.row A.Allocator output.entry
-        (string_decoding Style Both text.now) result) }
-{
-    onto_string(output, &Unescape(Class::StyleQuoted), text)
-}
-
-fn decode_style_quoted_text_onto_vec<'o, A: Allocator>(
-    output: &'o mut Vec<u8, A>,
-    text: &str,
-) -> Result<&'o [u8], AllocError>
-    ensures part { AnswersPart (vec_room output.old)
-        (string_decoding Style Both text.now) result }
-    ensures* appended { sem 𝓛 (VecAppended A.row A.Allocator output.entry
-        (string_decoding Style Both text.now) result) }
-{
-    onto_vec(output, &Unescape(Class::StyleQuoted), text)
 }
