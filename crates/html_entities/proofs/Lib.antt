@@ -1,0 +1,5 @@
+mod Block
+mod GoodRows
+mod References
+mod RowPlaces
+mod StaticRows
