@@ -1,0 +1,36 @@
+//! A caller: a form that a stranger posted, read.
+#![tactic(auto)]
+
+ghost use Rattle.std.specs.Prelude.{◌≡◌, IfOk};
+ghost use Rattle.std.specs.Option.{option_map};
+ghost use Rattle.hesc_places.specs.Pages.FormReadings.{form_reading};
+
+use hesc_places::read_form;
+use std::alloc::{AllocError, Global};
+
+/// The string that the posted form's script hands to `alert`, if the bytes begin with a form.
+pub fn posted_script(alloc: Global, posted: &[u8]) -> Result<Option<Vec<u8>>, AllocError>
+    ensures { IfOk result (λ script. option_map (λ s. s.items) script
+        ≡ option_map (λ form. form.script) (form_reading posted.now)) }
+{
+    match read_form(alloc, posted)? {
+        Some(form) => Ok(Some(form.script)),
+        None => Ok(None),
+    }
+}
+
+#[cfg(test)]
+mod tests {
+    use super::posted_script;
+    use std::test::Fail;
+
+    #[test]
+    fn a_strangers_form_is_read(rt: HostRuntime) -> Result<(), Fail> {
+        let posted = b"<input a=1 /><script>alert('\\x3C\\u0041');</script>rest";
+        let script = posted_script(rt.alloc(), posted.as_slice())?;
+        assert_eq!(rt; script.as_deref(), Some(b"<A".as_slice()));
+        let other = posted_script(rt.alloc(), b"<p>hello</p>")?;
+        assert_eq!(rt; other.as_deref(), None);
+        Ok(())
+    }
+}
