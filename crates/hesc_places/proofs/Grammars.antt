@@ -9,3 +9,4 @@ pub mod ParserLaws
 pub mod Fronts
 pub mod FirstSemicolon
 pub mod ReadingTurns
+pub mod TextItems

@@ -9,3 +9,4 @@ pub mod EnclosedTexts
 pub mod UnquotedEndings
 pub mod PartsTaken
 pub mod Trials
+pub mod ReadTexts

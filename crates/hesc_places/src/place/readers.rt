@@ -1,6 +1,7 @@
 //! The readers of places: what stands in a place, and where it ends.
 ghost use Rattle.std.specs.Prelude.{◌≡◌, ◌<◌, length, IfOk, IfSome};
 ghost use Rattle.std.specs.Option.{option_map};
+ghost use Rattle.std.specs.Str.{IsUtf8};
 ghost use Rattle.hesc_places.specs.Places.Readings.{end_of, reading};
 
 use crate::grammar::{Mode, Step, first_mode, step_of};
@@ -17,7 +18,7 @@ pub struct Reading<A: Allocator = Global> {
 }
 
 /// Reads the bytes after a place's opening mark, up to its closing mark. There is `None` exactly
-/// where the place's grammar has no reading. The bytes need be no UTF-8.
+/// where the place's grammar has no reading. The bytes need be no UTF-8; where they are, the value is.
 pub fn read_place<A: Allocator>(
     alloc: A,
     place: Place,
@@ -26,6 +27,8 @@ pub fn read_place<A: Allocator>(
     ensures value { IfOk result (λ found. option_map (λ r. (r.value.items, r.end)) found
         ≡ reading place bytes.now) }
     ensures within { IfOk result (λ found. IfSome found (λ r. r.end < length bytes.now)) }
+    ensures utf8 { IsUtf8 bytes.now
+        → IfOk result (λ found. IfSome found (λ r. IsUtf8 r.value.items)) }
 {
     let mut value = Vec::new(alloc);
     let mut mode = first_mode(place);
