@@ -3,9 +3,12 @@
 
 ghost use Rattle.std.specs.Prelude.{◌≡◌, IfOk};
 ghost use Rattle.std.specs.Option.{option_map};
+ghost use Rattle.std.specs.String.{string_bytes};
 ghost use Rattle.hesc_places.specs.Pages.FormReadings.{form_reading};
+ghost use Rattle.hesc_places.specs.Places.Readings.{reading};
+ghost use Rattle.hesc_places.specs.declared.place.places.Place.TheVariants.{DoubleAttribute};
 
-use hesc_places::read_form;
+use hesc_places::{Place, read_form, read_place};
 use std::alloc::{AllocError, Global};
 
 /// The string that the posted form's script hands to `alert`, if the bytes begin with a form.
@@ -19,9 +22,23 @@ pub fn posted_script(alloc: Global, posted: &[u8]) -> Result<Option<Vec<u8>>, Al
     }
 }
 
+/// The value of an attribute whose opening `"` stands right before the source, as a text.
+pub fn value_text(alloc: Global, source: &str) -> Result<Option<String>, AllocError>
+    ensures { IfOk result (λ value. option_map (λ v. string_bytes v) value
+        ≡ option_map (λ read. read.0) (reading DoubleAttribute source.now)) }
+{
+    let Some(reading) = read_place(alloc, Place::DoubleAttribute, source.as_bytes())? else {
+        return Ok(None);
+    };
+    match String::from_utf8(reading.value) {
+        Ok(value) => Ok(Some(value)),
+        Err(_) => unreachable!(),
+    }
+}
+
 #[cfg(test)]
 mod tests {
-    use super::posted_script;
+    use super::{posted_script, value_text};
     use std::test::Fail;
 
     #[test]
@@ -31,6 +48,8 @@ mod tests {
         assert_eq!(rt; script.as_deref(), Some(b"<A".as_slice()));
         let other = posted_script(rt.alloc(), b"<p>hello</p>")?;
         assert_eq!(rt; other.as_deref(), None);
+        let value = value_text(rt.alloc(), "é&lt;\" rest")?;
+        assert_eq!(rt; value.as_deref(), Some("é<"));
         Ok(())
     }
 }
