@@ -1,2 +1,3 @@
 mod DecoderBounds
 pub mod Sessions
+pub mod Steps

@@ -1,33 +1,6 @@
 -- The call hands the output on for good, so that what `append_form` says of its end holds here.
 use Rattle.std.proofs.Common.{[], ◌∷◌, refl}
-use Rattle.std.proofs.raw_atomic.Walks.{proved}
-use base.Logic.{id⊢}
-use base.Fml.{Fml, ftrue, flft}
-use mir.Syntax.{named}
-use mir.MapTy.{inst_fn}
-use types.Kit.{‵, raw, ◌⊛◌, some, later, ◌$◌, ◌∵◌, !, qed, done, move, drop, use1, split, join, pick, await, suffices, group}
-use types.Run.{enter, addr, stop, no_more, and_then, returns}
-use types.ByLocal.{alloc_all, pass_all, free_all, look_at, get, through, sets, lands_as}
-use contract.Lifetimes.{Lfts}
-use contract.Running.{tables}
-use denote.Builtin.{u8, SliceRefOf}
-use denote.Exit.{yes, no}
-use denote.Laws.{Is, shows}
-use denote.Param.{param}
-use denote.RattleType.{RattleType}
-use denote.Ref.{MutRef, mut_vals, mut_Tells}
-use denote.Signature.{Slot, plain, type_at, named_lft}
-use denote.Slice.{ShrSlice, shr_slice_vals, shr_slice_Tells}
-use denote.Steps.{nothing, peeks}
-use denote.Such.{such_Tells}
-use denote.Text.{Str, StrRefOf, Utf8}
-use denote.Triple.Call.{calls_at}
-use denote.Triple.Clauses.{Lasts, lasts, at_exit, closing}
-use denote.Triple.Entry.{Args, Res}
-use denote.Triple.Spec.{triple_of}
-use denote.Triple.Table.{framed}
-use denote.Triple.Walked.{Stays, stay_dropped, Goes-dropped, Goes-spent_ref, walk_of, ends_at}
-use borrow.Table.Str.{str_laws}
+use Rattle.html_escape.proofs.Steps.{proved, id⊢, Fml, ftrue, flft, named, inst_fn, ‵, raw, ◌⊛◌, some, later, ◌$◌, ◌∵◌, !, qed, done, move, drop, use1, split, join, pick, await, suffices, group, enter, addr, stop, no_more, and_then, returns, alloc_all, pass_all, free_all, look_at, get, through, sets, lands_as, Lfts, tables, u8, SliceRefOf, yes, no, Is, shows, param, RattleType, MutRef, mut_vals, mut_Tells, Slot, plain, type_at, named_lft, ShrSlice, shr_slice_vals, shr_slice_Tells, nothing, peeks, such_Tells, Str, StrRefOf, Utf8, calls_at, Lasts, lasts, at_exit, closing, Args, Res, triple_of, framed, Stays, stay_dropped, Goes-dropped, Goes-spent_ref, walk_of, ends_at, str_laws}
 use Rattle.std.proofs.result.Result.TheLaws.{the_row_laws as result_laws}
 use Rattle.hesc_engine.specs.Forms.{string_row}
 use Rattle.hesc_engine.proofs.HandsOn.{over}

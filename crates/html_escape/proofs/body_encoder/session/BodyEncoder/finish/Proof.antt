@@ -1,30 +1,6 @@
 -- The call hands the output and the session on for good, so that what `append_rest` says of their ends holds here.
 use Rattle.std.proofs.Common.{[], ◌∷◌, refl}
-use Rattle.std.proofs.raw_atomic.Walks.{proved}
-use base.Logic.{id⊢}
-use base.Fml.{Fml, ftrue, flft}
-use mir.Syntax.{named}
-use mir.MapTy.{inst_fn}
-use types.Kit.{‵, raw, ◌⊛◌, some, later, ◌$◌, ◌∵◌, !, qed, done, move, drop, use1, split, fsplit, join, pick, await, suffices, group}
-use types.Run.{enter, addr, stop, no_more, and_then, returns}
-use types.ByLocal.{alloc_all, pass_all, free_all, look_at, get, through, sets, lands_as}
-use contract.Lifetimes.{Lfts}
-use contract.Running.{tables}
-use denote.Exit.{no}
-use denote.Laws.{Is, shows}
-use denote.Param.{param}
-use denote.RattleType.{RattleType}
-use denote.Ref.{MutRef, mut_vals, mut_Tells}
-use denote.Signature.{plain, type_at}
-use denote.Steps.{nothing, peeks}
-use denote.Text.{Str}
-use denote.Triple.Call.{calls_at}
-use denote.Triple.Clauses.{Lasts, lasts, at_exit, closing}
-use denote.Triple.Entry.{Args, Res}
-use denote.Triple.Spec.{triple_of}
-use denote.Triple.Table.{framed}
-use denote.Triple.Walked.{Stays, gave_ref, stay_dropped, Goes-gave_ref, Goes-spent_ref, walk_of, ends_at}
-use borrow.Table.Str.{str_laws}
+use Rattle.html_escape.proofs.Steps.{proved, id⊢, Fml, ftrue, flft, named, inst_fn, ‵, raw, ◌⊛◌, some, later, ◌$◌, ◌∵◌, !, qed, done, move, drop, use1, split, fsplit, join, pick, await, suffices, group, enter, addr, stop, no_more, and_then, returns, alloc_all, pass_all, free_all, look_at, get, through, sets, lands_as, Lfts, tables, no, Is, shows, param, RattleType, MutRef, mut_vals, mut_Tells, plain, type_at, nothing, peeks, Str, calls_at, Lasts, lasts, at_exit, closing, Args, Res, triple_of, framed, Stays, gave_ref, stay_dropped, Goes-gave_ref, Goes-spent_ref, walk_of, ends_at, str_laws}
 use Rattle.std.proofs.result.Result.TheLaws.{the_row_laws as result_laws}
 use Rattle.std.proofs.alloc.AllocError.TheLaws.{the_row_laws as error_laws}
 use Rattle.std.specs.contracts.alloc.AllocError as error
