@@ -35,8 +35,14 @@ pub fn script_by_session(alloc: Global, pieces: &[&str]) -> Result<String, Alloc
     Ok(page)
 }
 
-/// Writes each line of the input as soon as it is decided. A session holds back 8 bytes at most.
+/// Writes a line that is there in pieces, by each of the two, and then each line of the input as soon
+/// as it is decided. A session holds back 8 bytes at most.
 fn main(rt: HostRuntime) -> io::Result<()> {
+    let pieces = ["let a = \"<!", "--\"; let b = \"</scr", "ipt>\";"];
+    let line = script(rt.alloc(), &pieces)?;
+    println!(rt; "{line}")?;
+    let same = script_by_session(rt.alloc(), &pieces)?;
+    println!(rt; "{same}")?;
     let mut session = BodyEncoder::new(BodyKind::Script);
     for line in rt.lines(rt.alloc()) {
         let mut part = String::new(rt.alloc());
