@@ -1,0 +1,30 @@
+//! Why a source is no template.
+
+use html_template::TemplateFault;
+use std::alloc::AllocError;
+
+/// Why a source is no template. Positions are counted in bytes from 0.
+#[derive(Clone, Copy, Debug, PartialEq, Eq)]
+pub enum SourceFault {
+    /// No `}}` follows the `{{` at this position.
+    Unclosed(usize),
+    /// Between the `{{` at this position and the next `}}` stands no name: one or more ASCII
+    /// letters, digits and `_`.
+    BadName(usize),
+    /// The source is cut into parts, and they are no template. Markup and slots take turns, so that
+    /// part `2 * i` is the markup before slot `i`.
+    NoTemplate(TemplateFault),
+    /// A growth was refused.
+    Memory,
+}
+
+impl From<AllocError> for SourceFault {
+    ghost use Rattle.std.specs.Prelude.{◌≡◌};
+    ghost use Rattle.html_template_source.specs.declared.faults.SourceFault.TheVariants.{Memory};
+
+    ghost from_gives = { λ _ fault. fault ≡ Memory };
+
+    fn from(_refusal: AllocError) -> SourceFault {
+        SourceFault::Memory
+    }
+}

@@ -1,0 +1,13 @@
+//! Templates from one text, in which a slot is a name between `{{` and `}}`.
+//!
+//! ```text
+//! <p title="{{title}}">{{body}}</p>
+//! ```
+#![tactic(auto)]
+
+mod faults;
+mod named;
+mod source;
+
+pub use crate::faults::SourceFault;
+pub use crate::named::NamedTemplate;

@@ -1,0 +1,106 @@
+//! A source, cut into parts.
+ghost use Rattle.std.specs.Prelude.{◌≡◌, ◌<◌, ◌++◌, ℕ, List, IfNone, IfOk, IfSome, OnOk, length, map, true};
+ghost use Rattle.html_template.specs.Templates.{given, texts_of};
+ghost use Rattle.html_template_source.specs.SourceFaults.{AnswersSource};
+ghost use Rattle.html_template_source.specs.Sources.{
+  IsSourceOf,
+  Lacks,
+  are_letters,
+  closing,
+  is_name,
+  opening,
+  slot_text,
+};
+
+use crate::faults::SourceFault;
+use html_template::Part;
+use std::alloc::{AllocError, Allocator, Global};
+
+/// A source, cut into markup and slots, which take turns, and the names of the slots.
+#[derive(Drop)]
+pub struct Source<'a, A: Allocator = Global> {
+    /// The parts, for [`Template::new`](html_template::Template::new).
+    pub parts: Vec<Part<'a>, A>,
+    /// The name of each slot, in order.
+    pub names: Vec<&'a str, A>,
+}
+
+impl<'a, A: Allocator + Copy> Source<'a, A> {
+    /// Cuts a source into parts. A slot is one or more ASCII letters, digits and `_` between `{{` and
+    /// the next `}}`; all else is markup.
+    pub fn cut(alloc: A, source: &'a str) -> Result<Source<'a, A>, SourceFault>
+        ensures parts { IfOk result (λ s.
+            IsSourceOf (map given s.parts.items) (texts_of s.names.items) source.now) }
+        ensures faults { AnswersSource source.now result }
+    {
+        let mut parts = Vec::new(alloc);
+        let mut names = Vec::new(alloc);
+        let mut rest = source;
+        'slots: while let Some((markup, behind)) = cut_at(rest, "{{") {
+            let place = source.len() - rest.len() + markup.len();
+            let Some((name, more)) = cut_at(behind, "}}") else {
+                return Err(SourceFault::Unclosed(place));
+            };
+            if !is_name(name) {
+                return Err(SourceFault::BadName(place));
+            }
+            add_slot(&mut parts, &mut names, markup, name)?;
+            rest = more;
+        }
+        let Ok(()) = parts.push(Part::Markup(rest)) else {
+            return Err(SourceFault::Memory);
+        };
+        Ok(Source { parts, names })
+    }
+}
+
+// What stands before the first such mark, and after it.
+fn cut_at<'s>(text: &'s str, mark: &str) -> Option<(&'s str, &'s str)>
+    requires { 0 < length mark.now }
+    ensures whole { IfSome result (λ c. text.now ≡ c.0.now ++ (mark.now ++ c.1.now)) }
+    ensures first { IfSome result (λ c. Lacks mark.now c.0.now) }
+    ensures none { IfNone result (Lacks mark.now text.now) }
+{
+    text.split_once(mark)
+}
+
+fn is_name(name: &str) -> bool
+    ensures { result ≡ is_name name.now }
+{
+    !name.is_empty() && are_letters(name.as_bytes())
+}
+
+fn are_letters(bytes: &[u8]) -> bool
+    ensures { result ≡ are_letters bytes.now }
+{
+    let mut rest = bytes;
+    'bytes: while let [byte, others @ ..] = rest {
+        if !byte.is_ascii_alphanumeric() && *byte != b'_' {
+            return false;
+        }
+        rest = others;
+    }
+    true
+}
+
+// Markup and a slot behind it.
+fn add_slot<'a, A: Allocator>(
+    parts: &mut Vec<Part<'a>, A>,
+    names: &mut Vec<&'a str, A>,
+    markup: &'a str,
+    name: &'a str,
+) -> Result<(), AllocError>
+    requires plain { Lacks opening markup.now }
+    requires named { is_name name.now ≡ true }
+    ensures { OnOk result ((front : List ℕ)
+        → IsSourceOf (map given parts.old.items) (texts_of names.old.items) front
+        → IsSourceOf (map given parts.new.items) (texts_of names.new.items)
+        (front ++ (markup.now ++ slot_text name.now))) }
+{
+    parts.push(Part::Markup(markup))?;
+    parts.push(Part::Slot)?;
+    match names.push(name) {
+        Ok(()) => Ok(()),
+        Err(_) => Err(AllocError),
+    }
+}
