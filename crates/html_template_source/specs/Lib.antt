@@ -1,3 +1,4 @@
 pub mod Sources
 pub mod SourceFaults
 pub mod NamedTemplates
+pub mod Bindings

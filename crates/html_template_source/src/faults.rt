@@ -1,6 +1,6 @@
 //! Why a source is no template.
 
-use html_template::TemplateFault;
+use html_template::{FillFault, TemplateFault};
 use std::alloc::AllocError;
 
 /// Why a source is no template. Positions are counted in bytes from 0.
@@ -27,4 +27,19 @@ impl From<AllocError> for SourceFault {
     fn from(_refusal: AllocError) -> SourceFault {
         SourceFault::Memory
     }
+}
+
+/// Why texts that are bound to names do not fill a template. Bindings and slots are counted from 0.
+#[derive(Clone, Copy, Debug, PartialEq, Eq)]
+pub enum BindFault {
+    /// The name of this binding is that of no slot.
+    Unknown(usize),
+    /// The name of this binding is that of a later one, too.
+    Doubled(usize),
+    /// The name of this slot has no text.
+    Missing(usize),
+    /// The texts, one for each slot, do not fill the template.
+    Fill(FillFault),
+    /// A growth was refused.
+    Memory,
 }

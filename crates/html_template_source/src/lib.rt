@@ -5,9 +5,12 @@
 //! ```
 #![tactic(auto)]
 
+mod bindings;
 mod faults;
 mod named;
 mod source;
+#[cfg(test)]
+mod tests;
 
-pub use crate::faults::SourceFault;
+pub use crate::faults::{BindFault, SourceFault};
 pub use crate::named::NamedTemplate;

@@ -1,12 +1,22 @@
 //! Templates whose slots have names.
-ghost use Rattle.std.specs.Prelude.{IfOk, map};
-ghost use Rattle.html_template.specs.Templates.{part_of};
+ghost use Rattle.std.specs.Prelude.{IfOk, OnOk, map};
+ghost use Rattle.std.specs.String.{string_bytes};
+ghost use Rattle.hesc_engine.specs.Forms.{Appended};
+ghost use Rattle.html_template.specs.Structure.{IsReadAs};
+ghost use Rattle.html_template.specs.Templates.{page, part_of};
+ghost use Rattle.html_template_source.specs.Bindings.{
+  AnswersBind,
+  bind_fault,
+  bindings_of,
+  text_of,
+};
 ghost use Rattle.html_template_source.specs.SourceFaults.{AnswersSource};
 ghost use Rattle.html_template_source.specs.Sources.{IsSourceOf};
 
-use crate::faults::SourceFault;
+use crate::bindings::{check_bindings, texts_for};
+use crate::faults::{BindFault, SourceFault};
 use crate::source::Source;
-use html_template::{Template, TemplateFault};
+use html_template::{FillFault, Template, TemplateFault};
 use std::alloc::{Allocator, Global};
 
 /// A template and the names of its slots.
@@ -36,6 +46,40 @@ impl<'a, A: Allocator + Copy> NamedTemplate<'a, A> {
             }),
             Err(TemplateFault::Memory) => Err(SourceFault::Memory),
             Err(fault) => Err(SourceFault::NoTemplate(fault)),
+        }
+    }
+
+    /// Appends the page of these texts, each with the name of its slots. On a fault `output` is as it
+    /// was: first come faults of the bindings, one by one, then of the slots.
+    ///
+    /// Whatever follows the page, it is tokenized as the template is, with each text handed to its
+    /// slots whole.
+    pub fn append<B: Allocator>(
+        &self,
+        output: &mut String<B>,
+        bindings: &[(&str, &str)],
+    ) -> Result<(), BindFault>
+        ensures appended { Appended (string_bytes output.old) (string_bytes output.new)
+            (page (chunks_of self.now)
+            (map (text_of (bindings_of bindings.now)) (names_of self.now))) result }
+        ensures faults { AnswersBind (bind_fault (bindings_of bindings.now) (names_of self.now)
+            (chunks_of self.now)) result }
+        ensures read { OnOk result (IsReadAs (chunks_of self.now)
+            (map (text_of (bindings_of bindings.now)) (names_of self.now))
+            (page (chunks_of self.now)
+            (map (text_of (bindings_of bindings.now)) (names_of self.now)))) }
+    {
+        if let Err(fault) = check_bindings(&self.names, bindings) {
+            return Err(fault);
+        }
+        let texts = match texts_for(self.alloc, &self.names, bindings) {
+            Ok(texts) => texts,
+            Err(fault) => return Err(fault),
+        };
+        match self.template.append(output, &texts) {
+            Ok(()) => Ok(()),
+            Err(FillFault::Memory) => Err(BindFault::Memory),
+            Err(fault) => Err(BindFault::Fill(fault)),
         }
     }
 }

@@ -1,0 +1,14 @@
+use Rattle.std.proofs.Common.{◌≡◌, ◌≤◌, ◌-◌, ◌++◌, length, map}
+use Rattle.html_template.specs.Templates.{texts_of}
+use Rattle.html_template_source.specs.Bindings.{bindings_of, missing_fault, text_of}
+use Rattle.html_template_source.proofs.bindings.texts_for.Given as goal
+
+abbrev pub invariant-names : goal.invariant-names
+invariant-names g l = record {
+  texts : texts_of l.texts.items ++ map (text_of (bindings_of l.bindings)) (texts_of l.rest) ≡ map (text_of (bindings_of l.bindings)) (texts_of l.names);
+  first : missing_fault (length l.names - length l.rest) (bindings_of l.bindings) (texts_of l.rest) ≡ missing_fault 0 (bindings_of l.bindings) (texts_of l.names);
+  shorter : length l.rest ≤ length l.names;
+}
+
+abbrev pub decreases-names : goal.decreases-names
+decreases-names g l = length l.rest

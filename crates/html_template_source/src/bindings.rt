@@ -1,0 +1,103 @@
+//! Texts that are bound to names.
+ghost use Rattle.std.specs.Prelude.{◌≡◌, IfOk, map, bytes_eq};
+ghost use Rattle.std.specs.List.{list_any};
+ghost use Rattle.std.specs.Option.{option_map};
+ghost use Rattle.std.specs.Result.{result_err};
+ghost use Rattle.html_template.specs.Templates.{texts_of};
+ghost use Rattle.html_template_source.specs.Bindings.{
+  AnswersBind,
+  Binding,
+  binding_fault,
+  bindings_of,
+  bound,
+  is_among,
+  missing_fault,
+  text_of,
+};
+
+use crate::faults::BindFault;
+use std::alloc::Allocator;
+
+fn bound<'b>(bindings: &[(&'b str, &'b str)], name: &str) -> Option<&'b str>
+    ensures { option_map (λ text. text.now) result ≡ bound (bindings_of bindings.now) name.now }
+{
+    let mut rest = bindings;
+    'bindings: while let [(other, text), others @ ..] = rest {
+        if *other == name {
+            return Some(*text);
+        }
+        rest = others;
+    }
+    None
+}
+
+fn is_slot(name: &str, names: &[&str]) -> bool
+    ensures { result ≡ is_among name.now (texts_of names.now) }
+{
+    let mut rest = names;
+    'names: while let [other, others @ ..] = rest {
+        if name == *other {
+            return true;
+        }
+        rest = others;
+    }
+    false
+}
+
+fn is_bound(name: &str, bindings: &[(&str, &str)]) -> bool
+    ensures { result ≡ is_among name.now
+        (map (λ b. b.name) (bindings_of bindings.now)) }
+{
+    let mut rest = bindings;
+    'bindings: while let [(other, _), others @ ..] = rest {
+        if name == *other {
+            return true;
+        }
+        rest = others;
+    }
+    false
+}
+
+/// Whether each binding is of one slot's name, and no other binding's.
+pub(crate) fn check_bindings(names: &[&str], bindings: &[(&str, &str)]) -> Result<(), BindFault>
+    ensures { result_err result
+        ≡ binding_fault 0 (texts_of names.now) (bindings_of bindings.now) }
+{
+    let mut rest = bindings;
+    'bindings: while let [(name, _), others @ ..] = rest {
+        let number = bindings.len() - rest.len();
+        if !is_slot(*name, names) {
+            return Err(BindFault::Unknown(number));
+        }
+        if is_bound(*name, others) {
+            return Err(BindFault::Doubled(number));
+        }
+        rest = others;
+    }
+    Ok(())
+}
+
+/// The text for each name.
+pub(crate) fn texts_for<'b, A: Allocator>(
+    alloc: A,
+    names: &[&str],
+    bindings: &[(&'b str, &'b str)],
+) -> Result<Vec<&'b str, A>, BindFault>
+    ensures texts { IfOk result (λ texts.
+        texts_of texts.items ≡ map (text_of (bindings_of bindings.now)) (texts_of names.now)) }
+    ensures faults { AnswersBind
+        (missing_fault 0 (bindings_of bindings.now) (texts_of names.now)) result }
+{
+    let mut texts = Vec::new(alloc);
+    let mut rest = names;
+    'names: while let [name, others @ ..] = rest {
+        let Some(text) = bound(bindings, *name) else {
+            return Err(BindFault::Missing(names.len() - rest.len()));
+        };
+        let Ok(()) = texts.push(text) else {
+            return Err(BindFault::Memory);
+        };
+        rest = others;
+    }
+    Ok(texts)
+}

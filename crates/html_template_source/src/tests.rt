@@ -1,0 +1,66 @@
+//! Sources that are taken and refused, and pages of bound texts.
+use crate::{BindFault, NamedTemplate, SourceFault};
+use html_template::{FillFault, TemplateFault};
+use std::test::Fail;
+
+#[test]
+fn sources(rt: HostRuntime) {
+    let rows = [
+        ("", None),
+        ("{ } }} <p title=\"{{a_1}}\">{{B}}{{a_1}}</p>", None),
+        ("<p>{{a", Some(SourceFault::Unclosed(3))),
+        ("{{a}}{{b}", Some(SourceFault::Unclosed(5))),
+        ("{{}}", Some(SourceFault::BadName(0))),
+        ("<p>{{a b}}", Some(SourceFault::BadName(3))),
+        ("{{{a}}", Some(SourceFault::BadName(0))),
+        ("{{é}}", Some(SourceFault::BadName(0))),
+        (
+            "<p {{a}}>",
+            Some(SourceFault::NoTemplate(TemplateFault::NoPlace(1))),
+        ),
+        (
+            "<p>{{a}}<a href='{{b}}'>",
+            Some(SourceFault::NoTemplate(TemplateFault::Forbidden(3))),
+        ),
+        (
+            "{{a}}<svg>",
+            Some(SourceFault::NoTemplate(TemplateFault::Malformed(2))),
+        ),
+        (
+            "<title>{{a}}",
+            Some(SourceFault::NoTemplate(TemplateFault::Unfinished)),
+        ),
+    ];
+    for (source, wanted) in rows {
+        let found = match NamedTemplate::parse(rt.alloc(), source) {
+            Ok(_) => None,
+            Err(fault) => Some(fault),
+        };
+        assert!(rt; found == wanted, "{source}");
+    }
+}
+
+#[test]
+fn bindings(rt: HostRuntime) -> Result<(), Fail> {
+    let source = "<p title={{title}} id=\"{{id}}\">{{title}}</p>";
+    let Ok(template) = NamedTemplate::parse(rt.alloc(), source) else {
+        assert!(rt; false);
+        return Ok(());
+    };
+    let mut page = String::new(rt.alloc());
+    assert!(rt; template.append(&mut page, &[("id", "a")]) == Err(BindFault::Missing(0)));
+    assert!(rt;
+        template.append(&mut page, &[("title", "a"), ("ID", "b")]) == Err(BindFault::Unknown(1))
+    );
+    assert!(rt;
+        template.append(&mut page, &[("id", "a"), ("title", "b"), ("id", "c")])
+            == Err(BindFault::Doubled(0))
+    );
+    assert!(rt;
+        template.append(&mut page, &[("title", ""), ("id", "b")])
+            == Err(BindFault::Fill(FillFault::EmptyUnquoted(0)))
+    );
+    assert!(rt; template.append(&mut page, &[("id", "\""), ("title", "a b")]) == Ok(()));
+    assert_eq!(rt; page.as_str(), "<p title=a&#x20;b id=\"&quot;\">a b</p>");
+    Ok(())
+}
