@@ -1,5 +1,5 @@
 //! The page of a template and texts: whether there is one, and as parts that are put.
-ghost use Rattle.std.specs.Prelude.{◌≡◌, ◌≤◌, ◌+◌, ◌++◌, ◌↔◌, length, map, IsOk, IsTrue, OnOk};
+ghost use Rattle.std.specs.Prelude.{◌≡◌, ◌<◌, ◌≤◌, ◌+◌, ◌^◌, ◌++◌, ◌↔◌, length, map, IfSome, IsOk, IsSome, IsTrue, OnOk};
 ghost use Rattle.std.specs.List.{AllByRecursion};
 ghost use Rattle.std.specs.Result.{result_err};
 ghost use Rattle.std.specs.Str.{IsUtf8};
@@ -9,7 +9,7 @@ ghost use Rattle.html_template.specs.Templates.{Fill, MayFill, encoder_for, kept
 use crate::faults::FillFault;
 use crate::parts::{Piece, SlotPlace};
 use hesc_core::forms::Parts;
-use hesc_core::{Sink, run};
+use hesc_core::{CountOverflow, Rule, Sink, run};
 use html_escape::Encoder;
 
 fn encoder_for(place: SlotPlace) -> Encoder
@@ -78,6 +78,40 @@ impl Parts for Page<'_> {
     fn put_into<S: Sink>(&self, sink: &mut S) -> Result<(), S::Fault> {
         put_pieces(self.pieces, self.texts, sink)
     }
+
+    // Counted by lanes, in place of writing each text twice.
+    fn room_for(&self, spare: usize) -> Result<usize, CountOverflow> {
+        let _spare = spare;
+        page_length(self.pieces, self.texts).ok_or(CountOverflow)
+    }
+}
+
+fn page_length(pieces: &[Piece], texts: &[&str]) -> Option<usize>
+    ensures count { IfSome result (λ count. count
+        ≡ length (page (map kept pieces.now) (texts_of texts.now))) }
+    ensures fits { length (page (map kept pieces.now) (texts_of texts.now)) < 2 ^ 64
+        → IsSome result }
+{
+    let mut count: usize = 0;
+    let mut rest = pieces;
+    let mut left = texts;
+    'pieces: while let [piece, others @ ..] = rest {
+        rest = others;
+        let place = match *piece {
+            Piece::Markup(text) => {
+                count = count.checked_add(text.len())?;
+                continue 'pieces;
+            }
+            Piece::Slot(place) => place,
+        };
+        let [text, more @ ..] = left else {
+            continue 'pieces;
+        };
+        let added = encoder_for(place).total(*text)?;
+        count = count.checked_add(added)?;
+        left = more;
+    }
+    Some(count)
 }
 
 fn put_pieces<S: Sink>(pieces: &[Piece], texts: &[&str], sink: &mut S) -> Result<(), S::Fault>
