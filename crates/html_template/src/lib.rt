@@ -10,8 +10,6 @@ pub mod laws;
 mod page;
 mod parts;
 mod template;
-#[cfg(test)]
-mod tests;
 mod tokenizer;
 
 pub use crate::faults::{FillFault, TemplateFault};

@@ -10,6 +10,8 @@ mod faults;
 mod named;
 mod source;
 #[cfg(test)]
+mod template_tests;
+#[cfg(test)]
 mod tests;
 
 pub use crate::faults::{BindFault, SourceFault};

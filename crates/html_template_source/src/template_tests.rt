@@ -1,6 +1,7 @@
-//! Templates that are taken and refused, and pages. What is expected comes from the HTML Standard,
+//! Templates that are taken and refused, and pages. They stand here, so that the larger crate is
+//! proved once. What is expected comes from the HTML Standard,
 //! ECMAScript and CSS, never from the code.
-use crate::{FillFault, Part, Template, TemplateFault};
+use html_template::{FillFault, Part, Template, TemplateFault};
 use std::alloc::Allocator;
 use std::test::Fail;
 
@@ -236,5 +237,30 @@ fn fills(rt: HostRuntime) -> Result<(), Fail> {
     assert!(rt; template.append(&mut output, &["a", ""]) == Ok(()));
     assert!(rt; template.append(&mut output, &["b", "<"]) == Ok(()));
     assert_eq!(rt; output.as_str(), "x<p a=a><p a=b>&lt;");
+    Ok(())
+}
+
+/// A megabyte of markup, and 100,000 slots: a search that began anew for each would not end.
+#[test]
+fn long_templates(rt: HostRuntime) -> Result<(), Fail> {
+    let alloc = rt.alloc();
+    let mut markup = String::new(alloc);
+    for _ in 0..40000 {
+        markup.push_str("<p title=\"a&amp;b\">x</p> ")?;
+    }
+    let mut parts = vec![in alloc; Part::Markup(markup.as_str())]?;
+    let mut texts = Vec::new(alloc);
+    for _ in 0..100000 {
+        parts.push(Part::Slot)?;
+        parts.push(Part::Markup("<br>"))?;
+        texts.push("<a>&\"'")?;
+    }
+    let Ok(template) = Template::new(alloc, &parts) else {
+        assert!(rt; false);
+        return Ok(());
+    };
+    let mut page = String::new(alloc);
+    assert!(rt; template.append(&mut page, &texts) == Ok(()));
+    assert_eq!(rt; page.as_str().len(), 40000 * 25 + 100000 * 20);
     Ok(())
 }
