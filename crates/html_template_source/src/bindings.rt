@@ -1,12 +1,10 @@
 //! Texts that are bound to names.
-ghost use Rattle.std.specs.Prelude.{◌≡◌, IfOk, map, bytes_eq};
-ghost use Rattle.std.specs.List.{list_any};
+ghost use Rattle.std.specs.Prelude.{◌≡◌, IfOk, map};
 ghost use Rattle.std.specs.Option.{option_map};
 ghost use Rattle.std.specs.Result.{result_err};
 ghost use Rattle.html_template.specs.Templates.{texts_of};
 ghost use Rattle.html_template_source.specs.Bindings.{
   AnswersBind,
-  Binding,
   binding_fault,
   bindings_of,
   bound,

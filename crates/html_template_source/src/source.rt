@@ -6,7 +6,6 @@ ghost use Rattle.html_template_source.specs.Sources.{
   IsSourceOf,
   Lacks,
   are_letters,
-  closing,
   is_name,
   opening,
   slot_text,

@@ -1,5 +1,5 @@
 //! The running tokenizer.
-ghost use Rattle.std.specs.Prelude.{◌≡◌, ◌++◌, ◌∷◌, [], ◌↔◌, IfOk, OnOk, IsTrue};
+ghost use Rattle.std.specs.Prelude.{◌≡◌, ◌++◌, ◌∷◌, [], ◌↔◌, OnOk, IsTrue};
 ghost use Rattle.html_template.specs.CodeStrings.{script_escape_byte};
 ghost use Rattle.html_template.specs.Names.{reference_read};
 ghost use Rattle.html_template.specs.Phases.{attribute_in, moved, tokenizer_of};

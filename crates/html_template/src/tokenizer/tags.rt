@@ -1,5 +1,5 @@
 //! What a byte does in a tag.
-ghost use Rattle.std.specs.Prelude.{◌≡◌, ℕ, List, []};
+ghost use Rattle.std.specs.Prelude.{◌≡◌, ℕ, List};
 ghost use Rattle.html_template.specs.Phases.{moved, state_of};
 ghost use Rattle.html_template.specs.States.{State, at};
 ghost use Rattle.html_template.specs.Tags.{

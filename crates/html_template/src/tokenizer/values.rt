@@ -1,13 +1,11 @@
 //! What a byte does in text and in the value of an attribute.
 ghost use Rattle.std.specs.Prelude.{◌≡◌, ℕ, List};
-ghost use Rattle.hesc_places.specs.Grammars.Html.{is_unquoted_error};
 ghost use Rattle.html_template.specs.Names.{reference_read};
 ghost use Rattle.html_template.specs.Phases.{attribute_in, moved};
 ghost use Rattle.html_template.specs.Transitions.{keeps};
 ghost use Rattle.html_template.specs.Values.{
   before_value_byte,
   begins_character,
-  character_read,
   quoted_byte,
   reference_byte,
   text_byte,
