@@ -57,32 +57,65 @@ stops : (test : ℕ → Bool) (xs : List ℕ) → 0 < mask_l (map test xs) → p
 stops test [] some = absurd (omega arith)
 stops test (x ∷ xs) some = stop (test x) (mask_l (map test xs)) (prefix_len (λ y. not (test y)) xs) (length xs) some (stops test xs)
 
--- the mask of 32 bytes, where no byte before them passes the test
+-- the mask of the bytes from a place on, where no byte before them passes the test
+module _ (test : ℕ → Bool) (bytes found : List ℕ) (from place n mask : ℕ) (few : n ≤ 64) (room : place + n ≤ length bytes) (there : found ≡ chunk place n bytes) (after : from ≤ place)
+    (none : (k : ℕ) → from ≤ k → k < place → test (get_or bytes k 0) ≡ false)
+    (masks : mask ≡ mask_l (map test found)) where
+  is : mask ≡ mask_l (map test (chunk place n bytes))
+  is = masks ∙ ap (λ l. mask_l (map test l)) there
+
+  pub first_by_mask_of : 0 < mask → IsFirstPlace test bytes from (place + count_trailing_zeros 64 mask)
+  first_by_mask_of some =
+      let long = length-chunk place n bytes room in
+      let set : 0 < mask_l (map test (chunk place n bytes)) = omega (arith, is) in
+      let counted : count_trailing_zeros 64 mask ≡ prefix_len (λ x. not (test x)) (chunk place n bytes) =
+      ap (count_trailing_zeros 64) is ∙ trailing_mask_l test 64 (chunk place n bytes) (omega (arith, long)) set in
+      let short : count_trailing_zeros 64 mask < n = omega (arith, counted, long, stops test (chunk place n bytes) set) in
+      record {
+        ordered = omega arith;
+        in_range = omega (arith, room);
+        before = λ k from_k below. elim (cases_lt k place) [
+          | inl earlier ↦ none k from_k earlier
+          | inr later ↦ run_in_chunk_fails test bytes place n _ 0 room counted k later below
+        ];
+        found = λ _. run_in_chunk_stops test bytes place n _ 0 room counted short;
+      }
+
+  pub none_by_mask_of : mask ≡ 0 → (k : ℕ) → from ≤ k → k < place + n → test (get_or bytes k 0) ≡ false
+  none_by_mask_of empty k from_k below = elim (cases_lt k place) [
+    | inl earlier ↦ none k from_k earlier
+    | inr later ↦ none_from_empty_mask test bytes place n 0 room (sym is ∙ empty) k later below
+  ]
+
+-- the mask of 32 bytes
 module _ (test : ℕ → Bool) (bytes found : List ℕ) (from place mask : ℕ) (after : from ≤ place)
     (none : (k : ℕ) → from ≤ k → k < place → test (get_or bytes k 0) ≡ false)
     (stands : StandsAt bytes place found) (masks : mask ≡ mask_l (map test found)) where
-  is : mask ≡ mask_l (map test (chunk place 32 bytes))
-  is = masks ∙ ap (λ l. mask_l (map test l)) stands.bytes_there
-
   pub first_by_mask : 0 < mask → IsFirstPlace test bytes from (place + count_trailing_zeros 64 mask)
-  first_by_mask some =
-      let long = length-chunk place 32 bytes stands.room in
-      let set : 0 < mask_l (map test (chunk place 32 bytes)) = omega (arith, is) in
-      let counted : count_trailing_zeros 64 mask ≡ prefix_len (λ x. not (test x)) (chunk place 32 bytes) =
-      ap (count_trailing_zeros 64) is ∙ trailing_mask_l test 64 (chunk place 32 bytes) (omega (arith, long)) set in
-      let short : count_trailing_zeros 64 mask < 32 = omega (arith, counted, long, stops test (chunk place 32 bytes) set) in
-      record {
-        ordered = omega arith;
-        in_range = omega (arith, stands.room);
-        before = λ k from_k below. elim (cases_lt k place) [
-          | inl earlier ↦ none k from_k earlier
-          | inr later ↦ run_in_chunk_fails test bytes place 32 _ 0 stands.room counted k later below
-        ];
-        found = λ _. run_in_chunk_stops test bytes place 32 _ 0 stands.room counted short;
-      }
+  first_by_mask = first_by_mask_of test bytes found from place 32 mask (omega arith) stands.room stands.bytes_there after none masks
 
   pub none_by_mask : mask ≡ 0 → (k : ℕ) → from ≤ k → k < place + 32 → test (get_or bytes k 0) ≡ false
-  none_by_mask empty k from_k below = elim (cases_lt k place) [
-    | inl earlier ↦ none k from_k earlier
-    | inr later ↦ none_from_empty_mask test bytes place 32 0 stands.room (sym is ∙ empty) k later below
-  ]
+  none_by_mask = none_by_mask_of test bytes found from place 32 mask (omega arith) stands.room stands.bytes_there after none masks
+
+-- the mask of all bytes from a place on
+module _ (test : ℕ → Bool) (bytes : List ℕ) (from mask : ℕ) (within : from ≤ length bytes) (few : length bytes < from + 32)
+    (masks : mask ≡ mask_l (map test (drop from bytes))) where
+  nothing : (k : ℕ) → from ≤ k → k < from → test (get_or bytes k 0) ≡ false
+  nothing k after below = absurd (omega arith)
+
+  pub first_by_rest : 0 < mask → IsFirstPlace test bytes from (from + count_trailing_zeros 64 mask)
+  first_by_rest =
+      first_by_mask_of test bytes (drop from bytes) from from (length bytes - from) mask (omega arith) (omega arith) (sym (slice_rest bytes from within)) (omega arith) nothing masks
+
+  pub none_by_rest : mask ≡ 0 → IsFirstPlace test bytes from (length bytes)
+  none_by_rest empty = record {
+    ordered = within;
+    in_range = omega arith;
+    before = λ k after below. none_by_mask_of test bytes (drop from bytes) from from (length bytes - from) mask (omega arith) (omega arith) (sym (slice_rest bytes from within)) (omega arith) nothing masks empty k after (omega arith);
+    found = λ inside. absurd (omega arith);
+  }
+
+-- the bytes from a place on are bytes
+pub rest_below_256 : (bytes : List ℕ) (from : ℕ) → from ≤ length bytes → ((k : ℕ) → Fits w8 (get_or bytes k 0)) → Each1 (λ b. b < 256) (drop from bytes)
+rest_below_256 bytes from within fits =
+    subst (Each1 (λ b. b < 256)) (slice_rest bytes from within) (below_from_Fits w8 _ (chunk-fits w8 from (length bytes - from) bytes fits))

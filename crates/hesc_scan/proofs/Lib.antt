@@ -7,5 +7,6 @@ pub mod FoundBytes
 pub mod GrowthSums
 pub mod LaneLemmas
 pub mod Lookups
+pub mod Masks
 pub mod OpeningSearch
 pub mod StringGrowthSums

@@ -3,7 +3,9 @@ ghost use Rattle.std.specs.Prelude.{◌≡◌, ◌<◌, map};
 ghost use Rattle.std.specs.Simd.Lanes.{Each1, mask_l};
 ghost use Rattle.memchr.specs.Find.{is_byte, is_byte2};
 ghost use Rattle.hesc_specs.specs.Text.Classes.{in_class};
+ghost use Rattle.hesc_scan.specs.Blocks.{block_bytes};
 
+use crate::block::Block;
 use crate::groups::{DOUBLE, SCRIPT, SINGLE, STYLE, hits_of_groups};
 use hesc_specs::Class;
 use std::simd::prelude::*;
@@ -40,6 +42,14 @@ pub(crate) fn hits(class: Class, v: u8x32) -> u64
         Class::StyleDoubleQuoted => hits_of_groups(STYLE | DOUBLE, v),
         Class::StyleQuoted => hits_of_groups(STYLE | SINGLE | DOUBLE, v),
     }
+}
+
+/// The same for the bytes of a block.
+#[inline(always)]
+pub(crate) fn block_hits(class: Class, block: &Block) -> u64
+    ensures { result ≡ mask_l (map (in_class class) (block_bytes block.now)) }
+{
+    block.mask_of(hits(class, block.lanes()))
 }
 
 /// Bit `k` of the answer is set exactly if byte `k` is this one.

@@ -5,6 +5,7 @@
 //! or bounded, without going from change to change.
 #![tactic(auto)]
 
+mod block;
 pub mod find;
 mod flags;
 mod groups;

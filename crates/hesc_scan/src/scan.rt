@@ -1,5 +1,5 @@
 //! The search for the next place at which an encoder may change something, and at which it does.
-ghost use Rattle.std.specs.Prelude.{◌≡◌, ◌≤◌, length};
+ghost use Rattle.std.specs.Prelude.{◌≡◌, ◌≤◌, ◌<◌, ◌+◌, length};
 ghost use Rattle.hesc_specs.specs.Text.Classes.{in_class};
 ghost use Rattle.hesc_specs.specs.Text.EscapedPlaces.{
   completes_separator as completes,
@@ -7,9 +7,10 @@ ghost use Rattle.hesc_specs.specs.Text.EscapedPlaces.{
 };
 ghost use Rattle.hesc_specs.specs.Text.FirstPlace.{IsFirstAt, IsFirstPlace};
 
+use crate::block::Block;
 use crate::flags::is_in;
 pub use crate::flags::{FLAGS, flags_agree};
-use crate::lanes::hits;
+use crate::lanes::{block_hits, hits};
 use hesc_specs::Class;
 use std::simd::prelude::*;
 
@@ -64,20 +65,22 @@ fn first_by_lanes(class: Class, bytes: &[u8], from: usize) -> usize
         }
         place += 32;
     }
-    first_by_one(class, bytes, place)
+    first_in_rest(class, bytes, place)
 }
 
+// Fewer than 32 bytes are left.
 #[inline(always)]
-fn first_by_one(class: Class, bytes: &[u8], from: usize) -> usize
-    requires { from ≤ length bytes.now }
+fn first_in_rest(class: Class, bytes: &[u8], from: usize) -> usize
+    requires within { from ≤ length bytes.now }
+    requires few { length bytes.now < from + 32 }
     ensures { IsFirstPlace (in_class class) bytes.now from result }
 {
-    for at in from..bytes.len() {
-        if is_in(class, bytes[at]) {
-            return at;
-        }
+    let mask = block_hits(class, &Block::rest(bytes, from));
+    if mask == 0 {
+        bytes.len()
+    } else {
+        from + mask.trailing_zeros() as usize
     }
-    bytes.len()
 }
 
 /// The least place at or after `from` where something begins that the encoder of the class

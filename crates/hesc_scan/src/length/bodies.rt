@@ -4,9 +4,9 @@ ghost use Rattle.hesc_specs.specs.Text.Ascii.{less_than};
 ghost use Rattle.hesc_specs.specs.Bodies.Encoding.{body_encoding};
 ghost use Rattle.hesc_specs.specs.declared.elements.Element.{Element};
 
+use crate::block::Block;
 use crate::length::counts::count;
 use crate::length::growth::{Growth, grown_length};
-use std::simd::prelude::*;
 
 /// As many bytes as the body encoding of these bytes has or more, for each element, and 0 where it
 /// has none; `None` where the count would pass the greatest `usize`.
@@ -26,12 +26,7 @@ impl Growth for OneForEachLess {
     ghost added = { λ growth b. if b == less_than then 1 else 0 };
 
     #[inline(always)]
-    fn of_lanes(&self, v: u8x32) -> usize {
-        count(v, b'<')
-    }
-
-    #[inline(always)]
-    fn of_byte(&self, byte: u8) -> usize {
-        usize::from(byte == b'<')
+    fn of_block(&self, block: &Block) -> usize {
+        count(block, b'<')
     }
 }

@@ -2,21 +2,18 @@
 ghost use Rattle.std.specs.Prelude.{◌≡◌, ◌<◌, ◌+◌, ◌^◌, ℕ, length, IfSome, IsSome};
 ghost use Rattle.std.specs.List.{sum_by};
 ghost use Rattle.std.specs.Simd.Lanes.{Each1};
+ghost use Rattle.hesc_scan.specs.Blocks.{block_bytes};
 
-use std::simd::prelude::*;
+use crate::block::Block;
 
 /// By how much each byte grows.
 pub(crate) trait Growth {
     ghost added: { Self → ℕ → ℕ };
 
-    /// By how much these bytes grow together.
-    fn of_lanes(&self, v: u8x32) -> usize
-        requires { Each1 (λ b. b < 256) v }
-        ensures { result ≡ sum_by (added self.now) v };
-
-    /// By how much the byte grows.
-    fn of_byte(&self, byte: u8) -> usize
-        ensures { result ≡ added self.now byte };
+    /// By how much the bytes of a block grow together.
+    fn of_block(&self, block: &Block) -> usize
+        requires { Each1 (λ b. b < 256) (block_bytes block.now) }
+        ensures { result ≡ sum_by (added self.now) (block_bytes block.now) };
 }
 
 /// The length of the bytes when each has grown, or `None` where it would pass the greatest `usize`.
@@ -30,21 +27,10 @@ pub(crate) fn grown_length<G: Growth>(growth: &G, bytes: &[u8]) -> Option<usize>
     let (chunks, rest) = bytes.as_chunks::<32>();
     let mut count = bytes.len();
     for chunk in chunks {
-        count = count.checked_add(growth.of_lanes(u8x32::from_array(*chunk)))?;
+        count = count.checked_add(growth.of_block(&Block::full(chunk)))?;
     }
-    grown_by_one(growth, rest, count)
-}
-
-// What was counted before, and by how much these bytes grow.
-#[inline(always)]
-fn grown_by_one<G: Growth>(growth: &G, bytes: &[u8], counted: usize) -> Option<usize>
-    ensures count { IfSome result (λ count.
-        count ≡ counted + sum_by (G.added growth.now) bytes.now) }
-    ensures fits { counted + sum_by (G.added growth.now) bytes.now < 2 ^ 64 → IsSome result }
-{
-    let mut count = counted;
-    for byte in bytes {
-        count = count.checked_add(growth.of_byte(*byte))?;
+    if rest.is_empty() {
+        return Some(count);
     }
-    Some(count)
+    count.checked_add(growth.of_block(&Block::rest(bytes, bytes.len() - rest.len())))
 }

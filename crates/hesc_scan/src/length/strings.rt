@@ -3,11 +3,10 @@ ghost use Rattle.std.specs.Prelude.{◌≡◌, ◌≢◌, ◌≤◌, [], None, l
 ghost use Rattle.hesc_specs.specs.Text.Classes.{in_class, string_class};
 ghost use Rattle.hesc_specs.specs.Text.Escaped.{escaped};
 
-use crate::flags::is_in;
-use crate::lanes::hits;
+use crate::block::Block;
+use crate::lanes::block_hits;
 use crate::length::growth::{Growth, grown_length};
 use hesc_specs::Class;
-use std::simd::prelude::*;
 
 /// As many bytes as the string encoding of the text has or more, and 0 where it has none; `None`
 /// where the count would pass the greatest `usize`.
@@ -48,12 +47,7 @@ impl Growth for StringGrowth {
     ghost added = { λ growth b. if in_class growth.class b then 3 else 0 };
 
     #[inline(always)]
-    fn of_lanes(&self, v: u8x32) -> usize {
-        3 * hits(self.class, v).count_ones() as usize
-    }
-
-    #[inline(always)]
-    fn of_byte(&self, byte: u8) -> usize {
-        if is_in(self.class, byte) { 3 } else { 0 }
+    fn of_block(&self, block: &Block) -> usize {
+        3 * block_hits(self.class, block).count_ones() as usize
     }
 }

@@ -1,8 +1,10 @@
-use Rattle.std.proofs.Common.{◌==◌, w8, ap, ◌∙◌, arith}
-use Rattle.std.proofs.lemmas.Simd.{bitmask_splat, ones-mask_l}
+use Rattle.std.proofs.Common.{◌==◌, map, ap, ◌∙◌}
+use Rattle.std.proofs.lemmas.Simd.{ones-mask_l}
 use Rattle.std.specs.Int.RustNames.{count_ones}
+use Rattle.std.specs.Simd.Lanes.{mask_l}
+use Rattle.hesc_scan.specs.Blocks.{block_bytes}
 use Rattle.hesc_scan.proofs.length.counts.count.Goals as goal
 
 pub returns : goal.returns
 returns c =
-    ap count_ones (bitmask_splat w8 (λ a b. a == b) c.args.v 32 c.args.byte c.fits-v.0 (omega arith)) ∙ ones-mask_l (λ b. b == c.args.byte) c.args.v
+    ap count_ones (c.mask_of.ensures (λ b. b == c.args.byte) (c.hits_of_one.ensures ∙ ap (λ l. mask_l (map (λ b. b == c.args.byte) l)) c.lanes.ensures.lanes)) ∙ ones-mask_l (λ b. b == c.args.byte) (block_bytes c.args.block.now)

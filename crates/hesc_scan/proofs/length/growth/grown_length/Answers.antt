@@ -1,8 +1,8 @@
-use Rattle.std.proofs.Common.{◌≡◌, ℕ, ◌+◌, ◌*◌, ◌/◌, ◌<◌, ◌^◌, List, length, take, drop, rules, refl, sym, subst, ap, IfSome, ◌∙◌, arith}
+use Rattle.std.proofs.Common.{◌≡◌, ℕ, ◌+◌, ◌*◌, ◌/◌, ◌<◌, ◌^◌, List, length, take, drop, rules, refl, sym, ap, ◌∙◌, arith}
 use Rattle.std.proofs.lemmas.List.Sums.{sum_by-append, sum_by-take-drop, sum_by-take-le}
 use Rattle.std.proofs.Math.Seq.{take-add}
 use Rattle.std.specs.List.{sum_by}
-use Rattle.hesc_scan.proofs.ChunkSearch.{StandsAt, below_256, chunk_stands}
+use Rattle.hesc_scan.proofs.ChunkSearch.{StandsAt, below_256, chunk_stands, rest_below_256}
 use Rattle.hesc_scan.proofs.length.growth.grown_length.Goals as goal
 
 sum_chunk : (f : ℕ → ℕ) (bytes found : List ℕ) (i : ℕ) → StandsAt bytes (32 * i) found
@@ -22,11 +22,14 @@ sum_whole f bytes rest chunks many behind =
     ap (λ l. sum_by f (take (32 * chunks) bytes) + sum_by f l) (behind ∙ ap (λ n. drop n bytes) place)
     ∙ sum_by-take-drop f bytes (32 * chunks)
 
-pub of_lanes-requires : goal.of_lanes-requires
-of_lanes-requires g c =
+pub full-requires : goal.full-requires
+full-requires g c =
     let chunks = c.as_chunks.ensures in
     below_256 c.args.bytes.now _ (32 * c.loop-chunk.chunk-index) c.type_inv.bytes
     (chunk_stands c.args.bytes.now _ 0 c.as_chunks.result.0.now c.loop-chunk.chunk-index (omega arith) refl chunks.front chunks.front_len (omega arith) _ (omega arith))
+
+pub of_block-requires-2 : goal.of_block-requires-2
+of_block-requires-2 g c = rw c.rest.ensures (rest_below_256 c.args.bytes.now _ (omega arith) c.type_inv.bytes)
 
 pub returns-in_err-count-clause-fits : goal.returns-in_err-count-clause-fits
 returns-in_err-count-clause-fits g c =
@@ -35,7 +38,7 @@ returns-in_err-count-clause-fits g c =
     let chunks = c.as_chunks.ensures in
     let here = sum_chunk f c.args.bytes.now _ c.loop-chunk.chunk-index (chunk_stands c.args.bytes.now _ 0 c.as_chunks.result.0.now c.loop-chunk.chunk-index (omega arith) refl chunks.front chunks.front_len (omega arith) _ (omega arith)) in
     let part = sum_by-take-le f c.args.bytes.now (32 * (c.loop-chunk.chunk-index + 1)) in
-    let room : c.loop-chunk.count + c.of_lanes.result < 2 ^ 64 = omega (arith, fits, here, part, c.loop-chunk.invariant, c.of_lanes.ensures) in
+    let room : c.loop-chunk.count + c.of_block.result < 2 ^ 64 = omega (arith, fits, here, part, c.loop-chunk.invariant, c.of_block.ensures, ap (sum_by f) c.full.ensures) in
     search rules
 
 pub loop-chunk-preserved : goal.loop-chunk-preserved
@@ -43,19 +46,18 @@ loop-chunk-preserved g c =
     let f = g.G.Growth.added c.args.growth.now in
     let chunks = c.as_chunks.ensures in
     let here = sum_chunk f c.args.bytes.now _ c.loop-chunk.chunk-index (chunk_stands c.args.bytes.now _ 0 c.as_chunks.result.0.now c.loop-chunk.chunk-index (omega arith) refl chunks.front chunks.front_len (omega arith) _ (omega arith)) in
-    omega (arith, here, c.loop-chunk.invariant, c.of_lanes.ensures)
+    omega (arith, here, c.loop-chunk.invariant, c.of_block.ensures, ap (sum_by f) c.full.ensures)
 
-pub returns-clause-count : goal.returns-clause-count
-returns-clause-count g c =
+all_counted : (g : _) (c : goal.After-checked_add-2 g) → c.loop-chunk.count + c.of_block-2.result ≡ length c.args.bytes.now + sum_by (g.G.Growth.added c.args.growth.now) c.args.bytes.now
+all_counted g c =
     let f = g.G.Growth.added c.args.growth.now in
     let chunks = c.as_chunks.ensures in
     let whole = sum_whole f c.args.bytes.now _ c.loop-chunk.chunk-index (omega arith) chunks.back in
-    let same : c.loop-chunk.count + sum_by f c.as_chunks.result.1.now ≡ length c.args.bytes.now + sum_by f c.args.bytes.now = omega (arith, whole, c.loop-chunk.invariant) in
-    subst (λ n. IfSome c.grown_by_one.result (λ count. count ≡ n)) same c.grown_by_one.ensures.count
+    let rest = c.rest.ensures ∙ ap (λ n. drop n c.args.bytes.now) (omega (arith, chunks.back_len)) ∙ sym chunks.back in
+    omega (arith, whole, c.loop-chunk.invariant, c.of_block-2.ensures, ap (sum_by f) rest)
+
+pub returns-clause-count : goal.returns-clause-count
+returns-clause-count g c = let all = all_counted g c in search rules
 
 pub returns-clause-fits : goal.returns-clause-fits
-returns-clause-fits g c =
-    λ fits.
-    let chunks = c.as_chunks.ensures in
-    let whole = sum_whole (g.G.Growth.added c.args.growth.now) c.args.bytes.now _ c.loop-chunk.chunk-index (omega arith) chunks.back in
-    c.grown_by_one.ensures.fits (omega (arith, fits, whole, c.loop-chunk.invariant))
+returns-clause-fits g c = let all = all_counted g c in search rules

@@ -1,0 +1,66 @@
+-- The mask of a part of some lanes, from the mask of all of them.
+use Rattle.std.proofs.Common.{◌≡◌, ℕ, suc, ◌+◌, ◌*◌, ◌/◌, ◌%◌, ◌^◌, ◌≤◌, ◌<◌, Bool, List, [], ◌∷◌, ◌++◌, map, take, drop, length, ap, sym, ◌∙◌, arith, ◌-◌, bit_and, bit_or, get_or, inl, inr}
+use Rattle.std.proofs.lemmas.Bool.{cases_lt}
+use Rattle.std.proofs.lemmas.List.{length-map, length-take-le, map-append, take-append-drop}
+use Rattle.std.proofs.lemmas.Nat.{and_mask, mod_low, one_shl, or_shifted, shl_whole, shr_high, shr_le}
+use Rattle.std.proofs.lemmas.Simd.{Each1-get_or, mask_l-lt}
+use Rattle.std.proofs.Math.ListN.{get_or-eq_default}
+use Rattle.std.proofs.Math.Nat.{mul_assoc, mul_comm, pow-suc}
+use Rattle.std.specs.Int.Bits.{mask_lt}
+use Rattle.std.specs.Simd.Lanes.{Each1, mask_l}
+
+doubled : (m n : ℕ) → 2 * (m * 2 ^ n) ≡ m * 2 ^ suc n
+doubled m n = mul_comm 2 (m * 2 ^ n) ∙ mul_assoc m (2 ^ n) 2 ∙ ap (λ p. m * p) (sym (pow-suc 2 n))
+
+mask_l-append : (bs cs : List Bool) → mask_l (bs ++ cs) ≡ mask_l cs * 2 ^ length bs + mask_l bs
+mask_l-append [] cs = omega arith
+mask_l-append (b ∷ bs) cs = omega (arith, mask_l-append bs cs, doubled (mask_l cs) (length bs))
+
+module _ (test : ℕ → Bool) (xs : List ℕ) (k : ℕ) (within : k ≤ length xs) where
+  long : length (map test (take k xs)) ≡ k
+  long = length-map (take k xs) test ∙ length-take-le k xs within
+
+  split : mask_l (map test xs) ≡ mask_l (map test (drop k xs)) * 2 ^ k + mask_l (map test (take k xs))
+  split =
+      ap (λ l. mask_l (map test l)) (sym (take-append-drop k xs))
+      ∙ ap mask_l (map-append test (take k xs) (drop k xs))
+      ∙ mask_l-append (map test (take k xs)) (map test (drop k xs))
+      ∙ ap (λ n. mask_l (map test (drop k xs)) * 2 ^ n + mask_l (map test (take k xs))) long
+
+  low : mask_l (map test (take k xs)) < 2 ^ k
+  low = rw long at (mask_l-lt (map test (take k xs)))
+
+  pub mask_l-take : mask_l (map test xs) % 2 ^ k ≡ mask_l (map test (take k xs))
+  mask_l-take = ap (λ n. n % 2 ^ k) split ∙ mod_low (mask_l (map test (drop k xs))) k (mask_l (map test (take k xs))) low
+
+  pub mask_l-drop : mask_l (map test xs) / 2 ^ k ≡ mask_l (map test (drop k xs))
+  mask_l-drop = ap (λ n. n / 2 ^ k) split ∙ shr_high (mask_l (map test (drop k xs))) k (mask_l (map test (take k xs))) low
+
+-- the first lanes, and those from a place on
+pub mask_l-parts : (test : ℕ → Bool) (xs : List ℕ) (front skip : ℕ) → front ≤ length xs → skip ≤ length xs
+    → mask_l (map test (take front xs ++ drop skip xs)) ≡ mask_l (map test xs) / 2 ^ skip * 2 ^ front + mask_l (map test xs) % 2 ^ front
+mask_l-parts test xs front skip first last =
+    ap mask_l (map-append test (take front xs) (drop skip xs))
+    ∙ mask_l-append (map test (take front xs)) (map test (drop skip xs))
+    ∙ ap (λ n. mask_l (map test (drop skip xs)) * 2 ^ n + mask_l (map test (take front xs))) (long test xs front first)
+    ∙ (λ i. sym (mask_l-drop test xs skip last) i * 2 ^ front + sym (mask_l-take test xs front first) i)
+
+-- the same, as shifts and masks of 64 bits
+pub parts_by_bits : (test : ℕ → Bool) (xs : List ℕ) (front skip mask : ℕ) → length xs ≡ 32 → front ≤ 32 → skip ≤ 32 → mask ≡ mask_l (map test xs)
+    → bit_or (mask / 2 ^ skip * 2 ^ front % 2 ^ 64) (bit_and mask (1 * 2 ^ front % 2 ^ 64 - 1)) ≡ mask_l (map test (take front xs ++ drop skip xs))
+parts_by_bits test xs front skip mask long first last masks =
+    let small : mask < 2 ^ 32 = omega (arith, masks, rw (length-map xs test, long) at (mask_l-lt (map test xs))) in
+    let shifted : mask / 2 ^ skip < 2 ^ 32 = omega (arith, shr_le mask skip) in
+    let low : bit_and mask (1 * 2 ^ front % 2 ^ 64 - 1) ≡ mask % 2 ^ front = ap (λ n. bit_and mask (n - 1)) (one_shl front 64 (omega arith)) ∙ and_mask mask front in
+    (λ i. bit_or (shl_whole (mask / 2 ^ skip) 32 front 64 shifted (omega arith) i) (low i))
+    ∙ or_shifted (mask / 2 ^ skip) front (mask % 2 ^ front) (omega (arith, rw (and_mask mask front) at (mask_lt mask front)))
+    ∙ ap (λ m. m / 2 ^ skip * 2 ^ front + m % 2 ^ front) masks
+    ∙ sym (mask_l-parts test xs front skip (omega (arith, long)) (omega (arith, long)))
+
+-- each of them is a byte
+pub byte_at : (xs : List ℕ) → Each1 (λ b. b < 256) xs → (k : ℕ) → get_or xs k 0 < 256
+byte_at xs below k =
+    elim (cases_lt k (length xs)) [
+      | inl within ↦ Each1-get_or (λ b. b < 256) xs k 0 within below
+      | inr past ↦ omega (arith, get_or-eq_default xs 0 past)
+    ]

@@ -1,0 +1,117 @@
+//! Up to 32 bytes in the lanes of one vector: a chunk, or what a text has behind its chunks.
+ghost use Rattle.std.specs.Prelude.{◌≡◌, ◌≤◌, ◌<◌, ◌+◌, ◌-◌, ◌*◌, ℕ, drop, length, slice_index, take};
+
+use std::simd::prelude::*;
+
+/// Bytes that stand in the first `front` lanes, and in those from `skip` on.
+#[derive(Clone, Copy)]
+pub(crate) struct Block {
+    lanes: u8x32,
+    front: usize,
+    skip: usize,
+    ghost long: { length lanes ≡ 32 },
+    ghost within: { (front ≤ 32) × (skip ≤ 32) },
+    ghost below: { (k : ℕ) → slice_index lanes k < 256 },
+}
+
+impl Block {
+    ghost use Rattle.std.specs.Prelude.{Bool, map};
+    ghost use Rattle.std.specs.Simd.Lanes.{Each1, mask_l};
+    ghost use Rattle.hesc_scan.specs.Blocks.{block_bytes, block_lanes};
+
+    /// The 32 bytes of a chunk.
+    #[inline(always)]
+    pub(crate) fn full(chunk: &[u8; 32]) -> Block
+        requires { Each1 (λ b. b < 256) chunk.now }
+        ensures { block_bytes result ≡ chunk.now }
+    {
+        Block {
+            lanes: u8x32::from_array(*chunk),
+            front: 0,
+            skip: 0,
+        }
+    }
+
+    /// The bytes from a place on, fewer than 32.
+    #[inline(always)]
+    pub(crate) fn rest(bytes: &[u8], place: usize) -> Block
+        requires within { place ≤ length bytes.now }
+        requires few { length bytes.now < place + 32 }
+        ensures { block_bytes result ≡ drop place bytes.now }
+    {
+        if bytes.len() >= 32 {
+            // The last 32 bytes of the text, where those before the place do not count.
+            let start = bytes.len() - 32;
+            return Block {
+                lanes: u8x32::from_slice(&bytes[start..]),
+                front: 0,
+                skip: place - start,
+            };
+        }
+        Block::short(&bytes[place..])
+    }
+
+    // Fewer than 32 bytes.
+    #[inline(always)]
+    fn short(bytes: &[u8]) -> Block
+        requires { length bytes.now < 32 }
+        ensures { block_bytes result ≡ bytes.now }
+    {
+        match bytes.len() {
+            16.. => Block::halves(bytes, 16),
+            8.. => Block::halves(bytes, 8),
+            4.. => Block::halves(bytes, 4),
+            2.. => Block::halves(bytes, 2),
+            1 => Block::halves(bytes, 1),
+            _ => Block::halves(bytes, 0),
+        }
+    }
+
+    // As many bytes as a half has, or up to twice as many: the last ones overlap the first.
+    #[inline(always)]
+    fn halves(bytes: &[u8], half: usize) -> Block
+        requires small { half ≤ 16 }
+        requires one { half ≤ length bytes.now }
+        requires both { length bytes.now ≤ 2 * half }
+        ensures { block_bytes result ≡ bytes.now }
+    {
+        Block {
+            lanes: u8x32::from_array(ends(bytes, half)),
+            front: half,
+            skip: 32 - (bytes.len() - half),
+        }
+    }
+
+    /// The lanes.
+    #[inline(always)]
+    pub(crate) fn lanes(&self) -> u8x32
+        ensures lanes { result ≡ block_lanes self.now }
+        ensures below { Each1 (λ b. b < 256) result }
+    {
+        self.lanes
+    }
+
+    /// The mask of the bytes, from that of the lanes: bit `k` for byte `k`.
+    #[inline(always)]
+    pub(crate) fn mask_of(&self, mask: u64) -> u64
+        ensures { (test : ℕ → Bool) → mask ≡ mask_l (map test (block_lanes self.now))
+            → result ≡ mask_l (map test (block_bytes self.now)) }
+    {
+        let front = mask & ((1 << self.front) - 1);
+        ((mask >> self.skip) << self.front) | front
+    }
+}
+
+// The first bytes at the front and the last ones at the back, as many as a half has of each.
+#[inline(always)]
+fn ends(bytes: &[u8], half: usize) -> [u8; 32]
+    requires small { half ≤ 16 }
+    requires one { half ≤ length bytes.now }
+    ensures front { take half result ≡ take half bytes.now }
+    ensures back { drop (32 - half) result ≡ drop (length bytes.now - half) bytes.now }
+{
+    let mut lanes = [0; 32];
+    lanes[..half].copy_from_slice(&bytes[..half]);
+    lanes[32 - half..].copy_from_slice(&bytes[bytes.len() - half..]);
+    lanes
+}
