@@ -1,4 +1,5 @@
 //! The rules of the operations.
+pub(crate) mod ahead;
 pub mod bodies;
 pub mod escape;
 pub mod html;

@@ -1,3 +1,4 @@
+pub mod Ahead
 pub mod Text
 pub mod Next
 pub mod Pieces

@@ -5,6 +5,7 @@
 //! rule's text. The forms of an operation, for any rule, are in [`forms`].
 #![tactic(auto)]
 
+pub mod ahead;
 pub mod engine;
 pub mod forms;
 pub mod found;
@@ -16,6 +17,7 @@ pub mod sinks;
 pub mod small_text;
 pub mod unchanged;
 
+pub use crate::ahead::Ahead;
 pub use crate::engine::run;
 pub use crate::found::{Found, Replacement};
 pub use crate::pieces::{Piece, Pieces};

@@ -1,6 +1,8 @@
 //! What a rule makes of a text, piece by piece: the stretches that stay are slices of the text.
 ghost use Rattle.std.specs.Str.{IsCharBoundary};
+ghost use Rattle.hesc_engine.specs.Ahead.{IsAhead};
 
+use crate::ahead::Ahead;
 use crate::found::Replacement;
 use crate::rule::Rule;
 use crate::segment::Segment;
@@ -43,7 +45,9 @@ pub struct Pieces<'t, R: Rule> {
     // What stands after the stretch that was handed out last.
     pending: Option<Replacement<'t>>,
     is_done: bool,
+    ahead: Ahead,
     ghost boundary: { IsCharBoundary text.now from },
+    ghost known: { IsAhead text.now ahead },
 }
 
 impl<'t, R: Rule> Pieces<'t, R> {
@@ -80,6 +84,7 @@ impl<'t, R: Rule> Pieces<'t, R> {
             from: 0,
             pending: None,
             is_done: false,
+            ahead: Ahead::nothing(text),
         }
     }
 
@@ -99,7 +104,10 @@ impl<'t, R: Rule> Pieces<'t, R> {
         }
         let start = self.from;
         let rest = &self.text.as_bytes()[start..];
-        match self.rule.next(self.text, start) {
+        let mut ahead = self.ahead;
+        let found = self.rule.next_ahead(self.text, start, &mut ahead);
+        self.ahead = ahead;
+        match found {
             Some(found) => {
                 self.from = found.end;
                 Some(Segment {

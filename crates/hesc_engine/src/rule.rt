@@ -2,8 +2,10 @@
 ghost use Rattle.std.specs.Prelude.{◌≡◌, ◌≤◌, ◌<◌, ◌^◌, ℕ, List, [], length, IfNone, IfSome, IsSome};
 ghost use Rattle.std.specs.Str.{IsCharBoundary, IsUtf8};
 ghost use Rattle.hesc_specs.specs.Text.Changes.{Change, applied};
+ghost use Rattle.hesc_engine.specs.Ahead.{IsAhead};
 ghost use Rattle.hesc_engine.specs.Next.{IsNext};
 
+use crate::ahead::Ahead;
 use crate::found::Found;
 
 /// An operation on texts. It holds no state and takes no memory.
@@ -20,6 +22,19 @@ pub trait Rule {
         requires { IsCharBoundary text.now from }
         ensures none { IfNone result (changes_from self.now text.now from ≡ []) }
         ensures found { IfSome result (IsNext text.now from (changes_from self.now text.now)) };
+
+    /// The same, by what is known of the bytes ahead, which stays true.
+    #[inline(always)]
+    fn next_ahead(&self, text: &str, from: usize, ahead: &mut Ahead) -> Option<Found<'_>>
+        requires boundary { IsCharBoundary text.now from }
+        requires ahead { IsAhead text.now ahead.old }
+        ensures none { IfNone result (changes_from self.now text.now from ≡ []) }
+        ensures found { IfSome result (IsNext text.now from (changes_from self.now text.now)) }
+        ensures ahead { IsAhead text.now ahead.new }
+    {
+        let _known = *ahead;
+        self.next(text, from)
+    }
 
     /// How many bytes the rule's text has, or `None` where they pass the greatest `usize`.
     #[inline(always)]

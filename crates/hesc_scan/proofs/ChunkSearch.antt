@@ -1,7 +1,7 @@
 -- A search that goes by chunks of 32 bytes: where a chunk stands, and what its mask tells.
-use Rattle.std.proofs.Common.{◌≡◌, ℕ, zero, suc, ◌+◌, ◌*◌, ◌-◌, ◌/◌, ◌≤◌, ◌<◌, Fits, w8, Bool, true, false, not, cond, List, [], ◌∷◌, drop, length, get_or, map, sym, subst, ap, ◌∙◌, arith, inl, inr}
+use Rattle.std.proofs.Common.{◌≡◌, ℕ, zero, suc, ◌+◌, ◌*◌, ◌-◌, ◌/◌, ◌≤◌, ◌<◌, Fits, w8, Bool, true, false, not, cond, List, [], ◌∷◌, drop, length, min, take, get_or, map, sym, subst, ap, ◌∙◌, arith, inl, inr}
 use Rattle.std.proofs.lemmas.Bool.{cases_lt}
-use Rattle.std.proofs.lemmas.List.{drop-drop, length-drop, take_all}
+use Rattle.std.proofs.lemmas.List.{drop-drop, length-drop, take_all, take_min}
 use Rattle.std.proofs.lemmas.Simd.{below_from_Fits, chunk-fits, length-chunk, none_from_empty_mask, run_in_chunk_fails, run_in_chunk_stops, trailing_mask_l}
 use Rattle.std.proofs.Math.Nat.{mul-suc, mul-zero}
 use Rattle.std.specs.Int.Count.{count_trailing_zeros}
@@ -10,6 +10,7 @@ use Rattle.std.specs.Simd.Lanes.{Each1, mask_l}
 use Rattle.std.specs.Simd.{first_chunks}
 use lib.Lanes.{chunk}
 use Rattle.hesc_specs.specs.Text.FirstPlace.{IsFirstPlace}
+use Rattle.hesc_scan.specs.Blocks.{IsFirstBlock}
 
 get_or-first_chunks : (n k i : ℕ) (xs : List ℕ) → i < k → get_or (first_chunks n k xs) i [] ≡ chunk (n * i) n xs
 get_or-first_chunks n zero i xs within = absurd (omega arith)
@@ -97,25 +98,45 @@ module _ (test : ℕ → Bool) (bytes found : List ℕ) (from place mask : ℕ) 
   pub none_by_mask : mask ≡ 0 → (k : ℕ) → from ≤ k → k < place + 32 → test (get_or bytes k 0) ≡ false
   none_by_mask = none_by_mask_of test bytes found from place 32 mask (omega arith) stands.room stands.bytes_there after none masks
 
--- the mask of all bytes from a place on
-module _ (test : ℕ → Bool) (bytes : List ℕ) (from mask : ℕ) (within : from ≤ length bytes) (few : length bytes < from + 32)
-    (masks : mask ≡ mask_l (map test (drop from bytes))) where
-  nothing : (k : ℕ) → from ≤ k → k < from → test (get_or bytes k 0) ≡ false
-  nothing k after below = absurd (omega arith)
+-- the mask of the bytes from a place on, as many as there are up to a number
+module _ (test : ℕ → Bool) (bytes : List ℕ) (from place n mask : ℕ) (few : n ≤ 64) (within : place ≤ length bytes) (after : from ≤ place)
+    (none : (k : ℕ) → from ≤ k → k < place → test (get_or bytes k 0) ≡ false)
+    (masks : mask ≡ mask_l (map test (take n (drop place bytes)))) where
+  abbrev there : ℕ
+  there = min n (length bytes - place)
 
-  pub first_by_rest : 0 < mask → IsFirstPlace test bytes from (from + count_trailing_zeros 64 mask)
-  first_by_rest =
-      first_by_mask_of test bytes (drop from bytes) from from (length bytes - from) mask (omega arith) (omega arith) (sym (slice_rest bytes from within)) (omega arith) nothing masks
+  same : take n (drop place bytes) ≡ chunk place there bytes
+  same = sym (take_min n (drop place bytes)) ∙ ap (λ l. take (min n l) (drop place bytes)) (length-drop place bytes)
 
-  pub none_by_rest : mask ≡ 0 → IsFirstPlace test bytes from (length bytes)
-  none_by_rest empty = record {
-    ordered = within;
-    in_range = omega arith;
-    before = λ k after below. none_by_mask_of test bytes (drop from bytes) from from (length bytes - from) mask (omega arith) (omega arith) (sym (slice_rest bytes from within)) (omega arith) nothing masks empty k after (omega arith);
-    found = λ inside. absurd (omega arith);
-  }
+  pub first_by_part : 0 < mask → IsFirstPlace test bytes from (place + count_trailing_zeros 64 mask)
+  first_by_part = first_by_mask_of test bytes (take n (drop place bytes)) from place there mask (omega arith) (omega arith) same after none masks
+
+  pub none_by_part : mask ≡ 0 → (k : ℕ) → from ≤ k → k < length bytes → k < place + n → test (get_or bytes k 0) ≡ false
+  none_by_part empty k from_k inside below = none_by_mask_of test bytes (take n (drop place bytes)) from place there mask (omega arith) (omega arith) same after none masks empty k from_k (omega arith)
 
 -- the bytes from a place on are bytes
 pub rest_below_256 : (bytes : List ℕ) (from : ℕ) → from ≤ length bytes → ((k : ℕ) → Fits w8 (get_or bytes k 0)) → Each1 (λ b. b < 256) (drop from bytes)
 rest_below_256 bytes from within fits =
     subst (Each1 (λ b. b < 256)) (slice_rest bytes from within) (below_from_Fits w8 _ (chunk-fits w8 from (length bytes - from) bytes fits))
+
+-- the first of a block is the first from an earlier place on, where none is before it
+pub first_of_block : (test : ℕ → Bool) (bytes : List ℕ) (from reached place mask : ℕ) → from ≤ reached → ((k : ℕ) → from ≤ k → k < reached → test (get_or bytes k 0) ≡ false)
+    → IsFirstBlock test bytes reached place mask → 0 < mask → IsFirstPlace test bytes from (place + count_trailing_zeros 64 mask)
+first_of_block test bytes from reached place mask later none first some =
+    first_by_part test bytes from place 32 mask (omega arith) first.within (omega (arith, first.ordered))
+    (λ k from_k below. elim (cases_lt k reached) [
+      | inl earlier ↦ none k from_k earlier
+      | inr behind ↦ first.before k behind below
+    ]) first.is_mask some
+
+pub none_in_blocks : (test : ℕ → Bool) (bytes : List ℕ) (from reached place mask : ℕ) → from ≤ reached → ((k : ℕ) → from ≤ k → k < reached → test (get_or bytes k 0) ≡ false)
+    → IsFirstBlock test bytes reached place mask → mask ≡ 0 → IsFirstPlace test bytes from place
+none_in_blocks test bytes from reached place mask later none first empty = record {
+  ordered = omega (arith, first.ordered);
+  in_range = first.within;
+  before = λ k from_k below. elim (cases_lt k reached) [
+    | inl earlier ↦ none k from_k earlier
+    | inr behind ↦ first.before k behind below
+  ];
+  found = λ inside. absurd (omega (arith, first.none empty));
+}

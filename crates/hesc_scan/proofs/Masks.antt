@@ -1,13 +1,14 @@
 -- The mask of a part of some lanes, from the mask of all of them.
 use Rattle.std.proofs.Common.{◌≡◌, ℕ, suc, ◌+◌, ◌*◌, ◌/◌, ◌%◌, ◌^◌, ◌≤◌, ◌<◌, Bool, List, [], ◌∷◌, ◌++◌, map, take, drop, length, ap, sym, ◌∙◌, arith, ◌-◌, bit_and, bit_or, get_or, inl, inr}
 use Rattle.std.proofs.lemmas.Bool.{cases_lt}
-use Rattle.std.proofs.lemmas.List.{length-map, length-take-le, map-append, take-append-drop}
+use Rattle.std.proofs.lemmas.List.{drop-drop, drop-take, length-drop, length-take, length-map, length-take-le, map-append, take-append-drop}
 use Rattle.std.proofs.lemmas.Nat.{and_mask, mod_low, one_shl, or_shifted, shl_whole, shr_high, shr_le}
 use Rattle.std.proofs.lemmas.Simd.{Each1-get_or, mask_l-lt}
 use Rattle.std.proofs.Math.ListN.{get_or-eq_default}
 use Rattle.std.proofs.Math.Nat.{mul_assoc, mul_comm, pow-suc}
 use Rattle.std.specs.Int.Bits.{mask_lt}
 use Rattle.std.specs.Simd.Lanes.{Each1, mask_l}
+use Rattle.hesc_scan.specs.Blocks.{mask_from}
 
 doubled : (m n : ℕ) → 2 * (m * 2 ^ n) ≡ m * 2 ^ suc n
 doubled m n = mul_comm 2 (m * 2 ^ n) ∙ mul_assoc m (2 ^ n) 2 ∙ ap (λ p. m * p) (sym (pow-suc 2 n))
@@ -64,3 +65,15 @@ byte_at xs below k =
       | inl within ↦ Each1-get_or (λ b. b < 256) xs k 0 within below
       | inr past ↦ omega (arith, get_or-eq_default xs 0 past)
     ]
+
+-- the mask of the bytes from a place on, without those before another place
+pub mask_from-later : (test : ℕ → Bool) (bytes : List ℕ) (start from hits : ℕ) → start ≤ from → from < start + 32 → from ≤ length bytes → hits ≡ mask_from test bytes start
+    → hits / 2 ^ (from - start) ≡ mask_l (map test (take (32 - (from - start)) (drop from bytes)))
+mask_from-later test bytes start from hits after near within masks =
+    let skipped : ℕ = from - start in
+    let there : skipped + (32 - skipped) ≡ 32 = omega arith in
+    ap (λ n. n / 2 ^ skipped) masks
+    ∙ mask_l-drop test (take 32 (drop start bytes)) skipped (omega (arith, length-take 32 (drop start bytes), length-drop start bytes))
+    ∙ ap (λ n. mask_l (map test (drop skipped (take n (drop start bytes))))) (sym there)
+    ∙ ap (λ l. mask_l (map test l)) (drop-take skipped (32 - skipped) (drop start bytes) ∙ ap (take (32 - skipped)) (drop-drop skipped start bytes))
+    ∙ ap (λ n. mask_l (map test (take (32 - skipped) (drop n bytes)))) (omega arith)

@@ -1,11 +1,12 @@
 //! The search for the next place at which an encoder may change something, and at which it does.
-ghost use Rattle.std.specs.Prelude.{◌≡◌, ◌≤◌, ◌<◌, ◌+◌, length};
+ghost use Rattle.std.specs.Prelude.{◌≡◌, ◌≤◌, length};
 ghost use Rattle.hesc_specs.specs.Text.Classes.{in_class};
 ghost use Rattle.hesc_specs.specs.Text.EscapedPlaces.{
   completes_separator as completes,
   escapes_at,
 };
 ghost use Rattle.hesc_specs.specs.Text.FirstPlace.{IsFirstAt, IsFirstPlace};
+ghost use Rattle.hesc_scan.specs.Blocks.{IsFirstBlock};
 
 use crate::block::Block;
 use crate::flags::is_in;
@@ -25,15 +26,30 @@ pub fn first_in(class: Class, bytes: &[u8], from: usize) -> usize
     if from < bytes.len() && is_in(class, bytes[from]) {
         return from;
     }
-    first_by_class(class, bytes, from)
+    first_by_blocks(class, bytes, from)
 }
 
-// Each arm is a loop of the comparisons of its class alone.
-#[inline(never)]
-fn first_by_class(class: Class, bytes: &[u8], from: usize) -> usize
+#[inline(always)]
+fn first_by_blocks(class: Class, bytes: &[u8], from: usize) -> usize
     requires { from ≤ length bytes.now }
     ensures { IsFirstPlace (in_class class) bytes.now from result }
 {
+    let (place, mask) = first_block(class, bytes, from);
+    if mask == 0 {
+        return place;
+    }
+    place + mask.trailing_zeros() as usize
+}
+
+/// The mask of the first bytes at or after `from` among which one is in the class, 32 of them or as
+/// many as there are, and the place where they begin. Where there is none, the length and an empty
+/// mask.
+#[inline(never)]
+pub fn first_block(class: Class, bytes: &[u8], from: usize) -> (usize, u64)
+    requires { from ≤ length bytes.now }
+    ensures { IsFirstBlock (in_class class) bytes.now from result.0 result.1 }
+{
+    // Each arm is a loop of the comparisons of its class alone.
     match class {
         Class::TextMinimal => first_by_lanes(Class::TextMinimal, bytes, from),
         Class::Text => first_by_lanes(Class::Text, bytes, from),
@@ -52,35 +68,24 @@ fn first_by_class(class: Class, bytes: &[u8], from: usize) -> usize
 }
 
 #[inline(always)]
-fn first_by_lanes(class: Class, bytes: &[u8], from: usize) -> usize
+fn first_by_lanes(class: Class, bytes: &[u8], from: usize) -> (usize, u64)
     requires { from ≤ length bytes.now }
-    ensures { IsFirstPlace (in_class class) bytes.now from result }
+    ensures { IsFirstBlock (in_class class) bytes.now from result.0 result.1 }
 {
     let (chunks, _) = bytes[from..].as_chunks::<32>();
     let mut place = from;
     for chunk in chunks {
         let mask = hits(class, u8x32::from_array(*chunk));
         if mask != 0 {
-            return place + mask.trailing_zeros() as usize;
+            return (place, mask);
         }
         place += 32;
     }
-    first_in_rest(class, bytes, place)
-}
-
-// Fewer than 32 bytes are left.
-#[inline(always)]
-fn first_in_rest(class: Class, bytes: &[u8], from: usize) -> usize
-    requires within { from ≤ length bytes.now }
-    requires few { length bytes.now < from + 32 }
-    ensures { IsFirstPlace (in_class class) bytes.now from result }
-{
-    let mask = block_hits(class, &Block::rest(bytes, from));
+    let mask = block_hits(class, &Block::rest(bytes, place));
     if mask == 0 {
-        bytes.len()
-    } else {
-        from + mask.trailing_zeros() as usize
+        return (bytes.len(), 0);
     }
+    (place, mask)
 }
 
 /// The least place at or after `from` where something begins that the encoder of the class
@@ -94,43 +99,27 @@ pub fn first_escaped(class: Class, bytes: &[u8], from: usize) -> usize
     if from < bytes.len() && is_in(class, bytes[from]) && bytes[from] != 0xE2 {
         return from;
     }
-    first_escaped_by_class(class, bytes, from)
+    first_escaped_in(class, bytes, from)
 }
 
-// Each arm is a loop of the comparisons of its class alone.
 #[inline(never)]
-fn first_escaped_by_class(class: Class, bytes: &[u8], from: usize) -> usize
-    requires { from ≤ length bytes.now }
-    ensures { IsFirstAt (escapes_at class bytes.now) from (length bytes.now) result }
-{
-    match class {
-        Class::ScriptSingleQuoted => first_escaped_in(Class::ScriptSingleQuoted, bytes, from),
-        Class::ScriptDoubleQuoted => first_escaped_in(Class::ScriptDoubleQuoted, bytes, from),
-        Class::ScriptQuoted => first_escaped_in(Class::ScriptQuoted, bytes, from),
-        Class::StyleSingleQuoted => first_escaped_in(Class::StyleSingleQuoted, bytes, from),
-        Class::StyleDoubleQuoted => first_escaped_in(Class::StyleDoubleQuoted, bytes, from),
-        Class::StyleQuoted => first_escaped_in(Class::StyleQuoted, bytes, from),
-        _ => first_escaped_in(class, bytes, from),
-    }
-}
-
-#[inline(always)]
 fn first_escaped_in(class: Class, bytes: &[u8], from: usize) -> usize
     requires { from ≤ length bytes.now }
     ensures { IsFirstAt (escapes_at class bytes.now) from (length bytes.now) result }
 {
-    let mut place = first_by_lanes(class, bytes, from);
+    let mut place = first_by_blocks(class, bytes, from);
     'seeking: while place < bytes.len() {
         if bytes[place] != 0xE2 || completes_separator(&bytes[place + 1..]) {
             return place;
         }
-        place = first_by_lanes(class, bytes, place + 1);
+        place = first_by_blocks(class, bytes, place + 1);
     }
     place
 }
 
+/// Whether the bytes after an E2 make a separator of it.
 #[inline(always)]
-fn completes_separator(rest: &[u8]) -> bool
+pub fn completes_separator(rest: &[u8]) -> bool
     ensures { result ≡ completes rest.now }
 {
     matches!(rest, [0x80, 0xA8 | 0xA9, ..])

@@ -4,11 +4,13 @@ ghost use Rattle.std.specs.Str.{IsCharBoundary};
 ghost use Rattle.hesc_specs.specs.Text.Classes.{element_of as element_in_class};
 ghost use Rattle.hesc_specs.specs.Text.Escaped.{escape_changes, escaped};
 ghost use Rattle.hesc_specs.proofs.Text.EscapeChanges.{applied-escape_changes};
+ghost use Rattle.hesc_engine.specs.Ahead.{IsAhead};
 ghost use Rattle.hesc_engine.specs.Next.{IsNext};
 
-use crate::rules::html::escape::next_html_escape;
+use crate::rules::html::escape::{next_html_escape, next_html_escape_ahead};
 use crate::rules::strings::classes::string_class;
-use crate::rules::strings::escape::next_string_escape;
+use crate::rules::strings::escape::{next_string_escape, next_string_escape_ahead};
+use hesc_engine::ahead::Ahead;
 use hesc_engine::found::Found;
 use hesc_engine::rule::Rule;
 use hesc_scan::length::{encoded_length, string_bound};
@@ -26,6 +28,11 @@ impl Rule for Escape {
     #[inline(always)]
     fn next(&self, text: &str, from: usize) -> Option<Found<'_>> {
         next_escape(self.0, text, from)
+    }
+
+    #[inline(always)]
+    fn next_ahead(&self, text: &str, from: usize, ahead: &mut Ahead) -> Option<Found<'_>> {
+        next_escape_ahead(self.0, text, from, ahead)
     }
 
     // That of an HTML encoding needs no search.
@@ -61,6 +68,27 @@ pub fn next_escape(class: Class, text: &str, from: usize) -> Option<Found<'stati
     }
 }
 
+/// The same, by what is known of the bytes ahead, which stays true.
+#[inline(always)]
+pub fn next_escape_ahead(
+    class: Class,
+    text: &str,
+    from: usize,
+    ahead: &mut Ahead,
+) -> Option<Found<'static>>
+    requires boundary { IsCharBoundary text.now from }
+    requires ahead { IsAhead text.now ahead.old }
+    ensures none { IfNone result (escape_changes class text.now from ≡ []) }
+    ensures found { IfSome result (IsNext text.now from (escape_changes class text.now)) }
+    ensures ahead { IsAhead text.now ahead.new }
+{
+    match element_of(class) {
+        Some(element) => next_string_escape_ahead(class, element, text, from, ahead),
+        None => next_html_escape_ahead(class, text, from, ahead),
+    }
+}
+
+#[inline(always)]
 fn element_of(class: Class) -> Option<Element>
     ensures { result ≡ element_in_class class }
 {

@@ -1,8 +1,11 @@
 //! Escaping by a string encoder's class: each character that the encoder replaces becomes its
 //! escape.
-ghost use Rattle.std.specs.Prelude.{◌≡◌, ◌≤◌, ◌<◌, ◌==◌, [], IfNone, IfSome, if◌then◌else◌, take};
+ghost use Rattle.std.specs.Prelude.{◌≡◌, ◌≤◌, ◌<◌, ◌==◌, [], IfNone, IfSome, if◌then◌else◌, length, take};
 ghost use Rattle.std.specs.Str.{IsAscii, IsCharBoundary};
 ghost use Rattle.hesc_specs.specs.Text.Classes.{element_of};
+ghost use Rattle.hesc_specs.specs.Text.EscapedPlaces.{escapes_at};
+ghost use Rattle.hesc_specs.specs.Text.FirstPlace.{IsFirstAt};
+ghost use Rattle.hesc_engine.specs.Ahead.{IsAhead};
 ghost use Rattle.hesc_specs.specs.Text.Escaped.{escape_changes};
 ghost use Rattle.hesc_specs.specs.Strings.Encoding.{
   is_mark as is_mark_of,
@@ -14,10 +17,12 @@ ghost use Rattle.hesc_specs.specs.declared.elements.Element.TheVariants.{Script,
 ghost use Rattle.hesc_engine.specs.Next.{IsNext};
 ghost use Rattle.hesc_engine.specs.Text.{replacement_bytes};
 
+use crate::rules::ahead::next_hit;
 use crate::rules::strings::hex_digits::upper_hex_digit;
+use hesc_engine::ahead::Ahead;
 use hesc_engine::found::{Found, Replacement};
 use hesc_engine::small_text::SmallText;
-use hesc_scan::scan::first_escaped;
+use hesc_scan::scan::{completes_separator, first_escaped};
 use hesc_specs::{Class, Element};
 
 /// The first character at or after `from`, a character boundary, that the encoder of the class
@@ -34,8 +39,65 @@ pub fn next_string_escape(
     ensures none { IfNone result (escape_changes class text.now from ≡ []) }
     ensures found { IfSome result (IsNext text.now from (escape_changes class text.now)) }
 {
+    let start = first_escaped(class, text.as_bytes(), from);
+    string_escape_at(class, element, text, from, start)
+}
+
+/// The same, by what is known of the bytes ahead.
+#[inline(always)]
+pub(crate) fn next_string_escape_ahead(
+    class: Class,
+    element: Element,
+    text: &str,
+    from: usize,
+    ahead: &mut Ahead,
+) -> Option<Found<'static>>
+    requires boundary { IsCharBoundary text.now from }
+    requires element { element_of class ≡ Some element }
+    requires ahead { IsAhead text.now ahead.old }
+    ensures none { IfNone result (escape_changes class text.now from ≡ []) }
+    ensures found { IfSome result (IsNext text.now from (escape_changes class text.now)) }
+    ensures ahead { IsAhead text.now ahead.new }
+{
+    let start = next_escaped(class, text, from, ahead);
+    string_escape_at(class, element, text, from, start)
+}
+
+// The least place at or after `from` where something begins that is replaced, or the length.
+#[inline(always)]
+fn next_escaped(class: Class, text: &str, from: usize, ahead: &mut Ahead) -> usize
+    requires within { from ≤ length text.now }
+    requires ahead { IsAhead text.now ahead.old }
+    ensures first { IsFirstAt (escapes_at class text.now) from (length text.now) result }
+    ensures ahead { IsAhead text.now ahead.new }
+{
     let bytes = text.as_bytes();
-    let start = first_escaped(class, bytes, from);
+    let mut place = next_hit(class, text, from, ahead);
+    'seeking: while place < bytes.len() {
+        if bytes[place] != 0xE2 || completes_separator(&bytes[place + 1..]) {
+            return place;
+        }
+        place = next_hit(class, text, place + 1, ahead);
+    }
+    place
+}
+
+// The change at the first place where something begins that is replaced.
+#[inline(always)]
+fn string_escape_at(
+    class: Class,
+    element: Element,
+    text: &str,
+    from: usize,
+    start: usize,
+) -> Option<Found<'static>>
+    requires boundary { IsCharBoundary text.now from }
+    requires element { element_of class ≡ Some element }
+    requires first { IsFirstAt (escapes_at class text.now) from (length text.now) start }
+    ensures none { IfNone result (escape_changes class text.now from ≡ []) }
+    ensures found { IfSome result (IsNext text.now from (escape_changes class text.now)) }
+{
+    let bytes = text.as_bytes();
     if start == bytes.len() {
         return None;
     }

@@ -1,0 +1,31 @@
+//! What is known of the bytes ahead: at which of them a rule that goes by a class may change
+//! something.
+ghost use Rattle.std.specs.Prelude.{◌≤◌, length};
+ghost use Rattle.hesc_engine.specs.Ahead.{IsAhead};
+
+use hesc_specs::Class;
+
+/// The mask of the bytes from `start` on, 32 of them or as many as the text has: bit `k` of `hits`
+/// is set exactly if byte `start + k` is in the class.
+///
+/// A rule that finds the mask of some bytes keeps it here, and takes its bits one after another.
+#[derive(Clone, Copy)]
+pub struct Ahead {
+    pub class: Class,
+    pub start: usize,
+    pub hits: u64,
+}
+
+impl Ahead {
+    /// Nothing is known of the text.
+    #[inline(always)]
+    pub fn nothing(text: &str) -> Ahead
+        ensures { IsAhead text.now result }
+    {
+        Ahead {
+            class: Class::Text,
+            start: text.len(),
+            hits: 0,
+        }
+    }
+}
