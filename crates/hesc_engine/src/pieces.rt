@@ -104,10 +104,7 @@ impl<'t, R: Rule> Pieces<'t, R> {
         }
         let start = self.from;
         let rest = &self.text.as_bytes()[start..];
-        let mut ahead = self.ahead;
-        let found = self.rule.next_ahead(self.text, start, &mut ahead);
-        self.ahead = ahead;
-        match found {
+        match self.rule.next_ahead(self.text, start, &mut self.ahead) {
             Some(found) => {
                 self.from = found.end;
                 Some(Segment {

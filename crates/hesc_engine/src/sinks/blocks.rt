@@ -7,8 +7,6 @@ ghost use Rattle.hesc_engine.specs.Text.{small_text_bytes};
 use crate::small_text::SmallText;
 use std::alloc::{AllocError, Allocator};
 
-const BLOCK: usize = 16;
-
 /// Appends the first `count` of the bytes, or leaves the output as it was.
 #[inline(always)]
 pub(crate) fn append_first<A: Allocator>(
@@ -22,13 +20,43 @@ pub(crate) fn append_first<A: Allocator>(
     ensures fits { count ≤ vec_room output.old → IsOk result }
     ensures room { OnOk result (vec_room output.old ≤ vec_room output.new + count) }
 {
-    let len = output.len();
-    if count <= BLOCK && BLOCK <= bytes.len() && BLOCK <= output.capacity() - len {
-        output.extend_from_slice(&bytes[..BLOCK])?;
-        output.truncate(len + count);
+    // Where much is replaced, most stretches are empty.
+    if count == 0 {
         return Ok(());
     }
+    let room = output.capacity() - output.len();
+    if count <= 16 && 16 <= bytes.len() && 16 <= room {
+        return append_cut(output, bytes, count, 16);
+    }
+    if count <= 8 && 8 <= bytes.len() && 8 <= room {
+        return append_cut(output, bytes, count, 8);
+    }
+    if count <= 4 && 4 <= bytes.len() && 4 <= room {
+        return append_cut(output, bytes, count, 4);
+    }
     output.extend_from_slice(&bytes[..count])
+}
+
+// Appends a block of the bytes, and cuts it off behind the first `count`.
+#[inline(always)]
+fn append_cut<A: Allocator>(
+    output: &mut Vec<u8, A>,
+    bytes: &[u8],
+    count: usize,
+    block: usize,
+) -> Result<(), AllocError>
+    requires few { count ≤ block }
+    requires there { block ≤ length bytes.now }
+    requires room { block ≤ vec_room output.old }
+    ensures items { output.new.items
+        ≡ (if is_ok result then output.old.items ++ take count bytes.now else output.old.items) }
+    ensures fits { IsOk result }
+    ensures room { OnOk result (vec_room output.old ≤ vec_room output.new + count) }
+{
+    let len = output.len();
+    output.extend_from_slice(&bytes[..block])?;
+    output.truncate(len + count);
+    Ok(())
 }
 
 /// Appends the text, or leaves the output as it was.
