@@ -78,13 +78,27 @@ impl<'t, R: Rule> Pieces<'t, R> {
             ≤ 2 * length (R.changes_from rule.now text.now 0) + 1 }
         ensures at_segment { IsAtSegment result }
     {
+        Pieces::knowing(rule, text, Ahead::nothing(text))
+    }
+
+    /// The same, where something is known of the first bytes.
+    #[inline(always)]
+    pub(crate) fn knowing(rule: &'t R, text: &'t str, ahead: Ahead) -> Pieces<'t, R>
+        requires { IsAhead text.now ahead }
+        ensures pieces { parts_left result ≡ parts text.now 0 (R.changes_from rule.now text.now 0) }
+        ensures joined { joined (parts text.now 0 (R.changes_from rule.now text.now 0))
+            ≡ R.made rule.now text.now }
+        ensures few { length (parts text.now 0 (R.changes_from rule.now text.now 0))
+            ≤ 2 * length (R.changes_from rule.now text.now 0) + 1 }
+        ensures at_segment { IsAtSegment result }
+    {
         Pieces {
             rule,
             text,
             from: 0,
             pending: None,
             is_done: false,
-            ahead: Ahead::nothing(text),
+            ahead,
         }
     }
 

@@ -1,6 +1,7 @@
 //! A rule's text as a text that is borrowed where nothing changes.
 ghost use Rattle.hesc_engine.specs.Forms.{AnswersText};
 
+use crate::ahead::Ahead;
 use crate::forms::made::Made;
 use crate::forms::parts::append_parts_to_vec;
 use crate::rule::Rule;
@@ -17,11 +18,12 @@ pub fn to_cow<'t, R: Rule, A: Allocator>(
     ensures { AnswersText text.now (R.made rule.now text.now)
         (R.changes_from rule.now text.now 0) result }
 {
-    if rule.next(text, 0).is_none() {
+    let mut ahead = Ahead::nothing(text);
+    if rule.next_ahead(text, 0, &mut ahead).is_none() {
         return Ok(CowStr::Borrowed(text));
     }
     let mut bytes = Vec::new(alloc);
-    append_parts_to_vec(&mut bytes, &Made { rule, text })?;
+    append_parts_to_vec(&mut bytes, &Made { rule, text, ahead })?;
     // What is made of a text is a text.
     Ok(CowStr::Owned(unsafe { String::from_utf8_unchecked(bytes) }))
 }

@@ -1,16 +1,21 @@
 //! What a rule makes of a text, as parts.
-use crate::engine::run;
+ghost use Rattle.hesc_engine.specs.Ahead.{IsAhead};
+
+use crate::ahead::Ahead;
+use crate::engine::run_knowing;
 use crate::forms::measure::room_for;
 use crate::forms::parts::Parts;
 use crate::rule::Rule;
 use crate::sink::Sink;
 use crate::sinks::counter::CountOverflow;
 
-/// What `rule` makes of `text`.
+/// What `rule` makes of `text`, and what is known of the first bytes.
 #[derive(Drop)]
 pub struct Made<'m, R: Rule> {
     pub rule: &'m R,
     pub text: &'m str,
+    pub ahead: Ahead,
+    pub ghost known: { IsAhead text.now ahead },
 }
 
 impl<R: Rule> Parts for Made<'_, R> {
@@ -18,7 +23,7 @@ impl<R: Rule> Parts for Made<'_, R> {
 
     #[inline(always)]
     fn put_into<S: Sink>(&self, sink: &mut S) -> Result<(), S::Fault> {
-        run(self.rule, self.text, sink)
+        run_knowing(self.rule, self.text, self.ahead, sink)
     }
 
     #[inline(always)]

@@ -5,6 +5,7 @@ ghost use Rattle.std.specs.Str.{IsCharBoundary};
 ghost use Rattle.std.specs.String.{string_bytes};
 ghost use Rattle.hesc_engine.specs.Forms.{AnswersPart, Appended, StringAppended, string_room};
 
+use crate::ahead::Ahead;
 use crate::forms::made::Made;
 use crate::forms::parts::append_parts;
 use crate::rule::Rule;
@@ -23,14 +24,16 @@ pub fn append_to_string<R: Rule, A: Allocator>(
     ensures fits { length (R.made rule.now text.now) ≤ string_room output.old → IsOk result }
 {
     // Most texts stay as they are, and that is found out once.
-    if rule.next(text, 0).is_none() {
+    let mut ahead = Ahead::nothing(text);
+    if rule.next_ahead(text, 0, &mut ahead).is_none() {
         let unchanged = Made {
             rule: &Unchanged,
             text,
+            ahead,
         };
         return append_parts(output, &unchanged);
     }
-    append_parts(output, &Made { rule, text })
+    append_parts(output, &Made { rule, text, ahead })
 }
 
 /// Appends what `rule` makes of `text`, and answers the part that was added. On a refusal the

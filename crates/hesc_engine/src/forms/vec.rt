@@ -4,6 +4,7 @@ ghost use Rattle.std.specs.Borrow.{sem};
 ghost use Rattle.std.specs.Str.{IsUtf8};
 ghost use Rattle.hesc_engine.specs.Forms.{AnswersPart, Appended, VecAppended, vec_room};
 
+use crate::ahead::Ahead;
 use crate::forms::made::Made;
 use crate::forms::parts::append_parts_to_vec;
 use crate::rule::Rule;
@@ -23,14 +24,16 @@ pub fn append_to_vec<R: Rule, A: Allocator>(
     ensures utf8 { OnOk result (IsUtf8 (R.made rule.now text.now)) }
 {
     // Most texts stay as they are, and that is found out once.
-    if rule.next(text, 0).is_none() {
+    let mut ahead = Ahead::nothing(text);
+    if rule.next_ahead(text, 0, &mut ahead).is_none() {
         let unchanged = Made {
             rule: &Unchanged,
             text,
+            ahead,
         };
         return append_parts_to_vec(output, &unchanged);
     }
-    append_parts_to_vec(output, &Made { rule, text })
+    append_parts_to_vec(output, &Made { rule, text, ahead })
 }
 
 /// Appends what `rule` makes of `text`, and answers the part that was added. On a refusal the

@@ -1,10 +1,10 @@
 use Rattle.std.proofs.Common.{◌∙◌}
 use Rattle.std.proofs.lemmas.Str.{IsCharBoundary-start}
 use Rattle.hesc_specs.proofs.Text.Parts.{parts-joined, parts-few}
-use Rattle.hesc_engine.proofs.pieces.Pieces.new.Goals as goal
+use Rattle.hesc_engine.proofs.pieces.Pieces.knowing.Goals as goal
 
 pub invariant_of-result : goal.invariant_of-result
-invariant_of-result g c = record { boundary = IsCharBoundary-start _ c.utf8.text; known = c.nothing.ensures }
+invariant_of-result g c = record { boundary = IsCharBoundary-start _ c.utf8.text; known = c.requires }
 
 pub returns-clause-joined : goal.returns-clause-joined
 returns-clause-joined g c = parts-joined c.args.text.now 0 (g.R.Rule.changes_from c.args.rule.now c.args.text.now 0) ∙ g.met.R.Rule.makes c.args.rule.now c.args.text.now c.utf8.text

@@ -2,7 +2,7 @@ use Rattle.std.proofs.Common.{◌≡◌, ◌≤◌, ◌+◌, length}
 use Rattle.hesc_specs.specs.Text.Parts.{joined}
 use Rattle.hesc_engine.specs.Pieces.{IsAtSegment, parts_left, segments_left}
 use Rattle.hesc_engine.proofs.Progress.{Progress}
-use Rattle.hesc_engine.proofs.engine.run.Given as goal
+use Rattle.hesc_engine.proofs.engine.run_knowing.Given as goal
 
 abbrev pub invariant-putting : goal.invariant-putting
 invariant-putting g l = record {
