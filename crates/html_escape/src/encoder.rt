@@ -1,7 +1,8 @@
 //! The encoders by name.
 ghost use Rattle.std.specs.Prelude.{◌≡◌, ℕ, List, [], IfNone, IfSome};
 ghost use Rattle.std.specs.Str.{IsCharBoundary};
-ghost use Rattle.hesc_specs.specs.Text.Escaped.{escaped};
+ghost use Rattle.hesc_specs.specs.Text.Escaped.{escape_changes, escaped};
+ghost use Rattle.hesc_engine.specs.Ahead.{IsAhead};
 ghost use Rattle.hesc_engine.specs.Next.{IsNext};
 ghost use Rattle.html_escape.specs.Encoders.{
   IsBodyEncoder,
@@ -10,8 +11,10 @@ ghost use Rattle.html_escape.specs.Encoders.{
   encoder_changes,
 };
 
+use hesc_core::rules::escape::next_escape_ahead;
 use hesc_core::rules::{Escape, next_body_escape, next_escape};
 use hesc_core::{Class, Element, Found, Rule};
+use hesc_engine::ahead::Ahead;
 use hesc_scan::length::body_bound;
 
 /// An encoder by its name.
@@ -58,6 +61,10 @@ impl Rule for Encoder {
         next_encoded(*self, text, from)
     }
 
+    fn next_ahead(&self, text: &str, from: usize, ahead: &mut Ahead) -> Option<Found<'_>> {
+        next_encoded_ahead(*self, text, from, ahead)
+    }
+
     // That of the rule that the name stands for.
     fn total(&self, text: &str) -> Option<usize> {
         match class_of(*self) {
@@ -79,6 +86,8 @@ impl Rule for Encoder {
 // The class of an encoder of HTML or of strings; bodies have none.
 fn class_of(encoder: Encoder) -> Option<Class>
     ensures some { IfSome result (λ class. (text : List ℕ) → encoded encoder text ≡ escaped class text) }
+    ensures changes { IfSome result (λ class. (text : List ℕ) (from : ℕ) →
+        encoder_changes encoder text from ≡ escape_changes class text from) }
     ensures none { IfNone result (IsBodyEncoder encoder) }
 {
     match encoder {
@@ -121,5 +130,24 @@ pub fn next_encoded(encoder: Encoder, text: &str, from: usize) -> Option<Found<'
         Encoder::StyleSingleQuoted => next_escape(Class::StyleSingleQuoted, text, from),
         Encoder::StyleDoubleQuoted => next_escape(Class::StyleDoubleQuoted, text, from),
         Encoder::StyleQuoted => next_escape(Class::StyleQuoted, text, from),
+    }
+}
+
+/// The same, by what is known of the bytes ahead, which stays true.
+fn next_encoded_ahead(
+    encoder: Encoder,
+    text: &str,
+    from: usize,
+    ahead: &mut Ahead,
+) -> Option<Found<'static>>
+    requires boundary { IsCharBoundary text.now from }
+    requires ahead { IsAhead text.now ahead.old }
+    ensures none { IfNone result (encoder_changes encoder text.now from ≡ []) }
+    ensures found { IfSome result (IsNext text.now from (encoder_changes encoder text.now)) }
+    ensures ahead { IsAhead text.now ahead.new }
+{
+    match class_of(encoder) {
+        Some(class) => next_escape_ahead(class, text, from, ahead),
+        None => next_encoded(encoder, text, from),
     }
 }

@@ -11,6 +11,7 @@ ghost use Rattle.html_escape.specs.Operations.{
 use crate::decoder::{Decoder, next_decoded};
 use crate::encoder::{Encoder, next_encoded};
 use hesc_core::{Found, Pieces, Rule};
+use hesc_engine::ahead::Ahead;
 
 /// An operation: an encoder or a decoder. References are decoded by the built-in table.
 #[derive(Clone, Copy, Debug, PartialEq, Eq)]
@@ -28,6 +29,13 @@ impl Rule for Operation {
         match *self {
             Operation::Encode(encoder) => next_encoded(encoder, text, from),
             Operation::Decode(decoder) => next_decoded(decoder, text, from),
+        }
+    }
+
+    fn next_ahead(&self, text: &str, from: usize, ahead: &mut Ahead) -> Option<Found<'_>> {
+        match self {
+            Operation::Encode(encoder) => encoder.next_ahead(text, from, ahead),
+            Operation::Decode(decoder) => decoder.next_ahead(text, from, ahead),
         }
     }
 

@@ -24,6 +24,9 @@ pub(crate) fn next_hit(class: Class, text: &str, from: usize, ahead: &mut Ahead)
     if left != 0 {
         return from + left.trailing_zeros() as usize;
     }
+    if reached == bytes.len() {
+        return reached;
+    }
     let (start, hits) = first_block(class, bytes, reached);
     *ahead = Ahead { class, start, hits };
     if hits == 0 {
