@@ -13,8 +13,8 @@ pub joined_steps : (element : Element) (held piece held' added next held'' more 
     → IsStep element held (piece ++ next) held'' (added ++ more)
 joined_steps element held piece held' added next held'' more first second = (
   λ rest.
-    ap (λ x. body_encoding element (held ++ x)) (append_assoc piece next rest)
-    ∙ (first.0 (next ++ rest) ∙ (ap (λ x. added ++ x) (second.0 rest) ∙ sym (append_assoc added more (body_encoding element (held'' ++ rest))))),
+      ap (λ x. body_encoding element (held ++ x)) (append_assoc piece next rest)
+      ∙ (first.0 (next ++ rest) ∙ (ap (λ x. added ++ x) (second.0 rest) ∙ sym (append_assoc added more (body_encoding element (held'' ++ rest))))),
   second.1,
 )
 
