@@ -20,13 +20,13 @@ pub(crate) fn append_first<A: Allocator>(
     ensures fits { count ≤ vec_room output.old → IsOk result }
     ensures room { OnOk result (vec_room output.old ≤ vec_room output.new + count) }
 {
-    // Where much is replaced, most stretches are empty.
-    if count == 0 {
-        return Ok(());
-    }
+    // A block for all short stretches, empty ones too, needs no guess of how long the next is.
     let room = output.capacity() - output.len();
     if count <= 16 && 16 <= bytes.len() && 16 <= room {
         return append_cut(output, bytes, count, 16);
+    }
+    if count == 0 {
+        return Ok(());
     }
     if count <= 8 && 8 <= bytes.len() && 8 <= room {
         return append_cut(output, bytes, count, 8);
