@@ -9,6 +9,7 @@ ghost use Rattle.hesc_specs.proofs.Bodies.DecodingChanges.{applied-body_decoding
 ghost use Rattle.hesc_specs.proofs.Bodies.EncodingChanges.{applied-body_encoding_changes};
 ghost use Rattle.hesc_engine.specs.Next.{IsNext};
 
+use hesc_engine::ahead::Ahead;
 use hesc_engine::found::{Found, Replacement};
 use hesc_engine::rule::Rule;
 use hesc_engine::small_text::SmallText;
@@ -43,6 +44,12 @@ impl Rule for EncodeScript {
     }
 
     #[inline(always)]
+    fn next_ahead(&self, text: &str, from: usize, ahead: &mut Ahead) -> Option<Found<'_>> {
+        let _known = *ahead;
+        self.next(text, from)
+    }
+
+    #[inline(always)]
     fn bound(&self, text: &str) -> Option<usize> {
         body_bound(text.as_bytes())
     }
@@ -58,6 +65,12 @@ impl Rule for EncodeStyle {
     #[inline(always)]
     fn next(&self, text: &str, from: usize) -> Option<Found<'_>> {
         next_body_escape(Element::Style, text, from)
+    }
+
+    #[inline(always)]
+    fn next_ahead(&self, text: &str, from: usize, ahead: &mut Ahead) -> Option<Found<'_>> {
+        let _known = *ahead;
+        self.next(text, from)
     }
 
     #[inline(always)]
@@ -78,6 +91,12 @@ impl Rule for DecodeScript {
         next_body_unescape(Element::Script, text, from)
     }
 
+    #[inline(always)]
+    fn next_ahead(&self, text: &str, from: usize, ahead: &mut Ahead) -> Option<Found<'_>> {
+        let _known = *ahead;
+        self.next(text, from)
+    }
+
     /// The source's length: nothing is put in.
     #[inline(always)]
     fn bound(&self, text: &str) -> Option<usize> {
@@ -95,6 +114,12 @@ impl Rule for DecodeStyle {
     #[inline(always)]
     fn next(&self, text: &str, from: usize) -> Option<Found<'_>> {
         next_body_unescape(Element::Style, text, from)
+    }
+
+    #[inline(always)]
+    fn next_ahead(&self, text: &str, from: usize, ahead: &mut Ahead) -> Option<Found<'_>> {
+        let _known = *ahead;
+        self.next(text, from)
     }
 
     /// The source's length: nothing is put in.

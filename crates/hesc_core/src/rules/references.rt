@@ -11,6 +11,7 @@ mod values;
 
 use crate::rules::references::values::value_of_body;
 use crate::table::EntityTable;
+use hesc_engine::ahead::Ahead;
 use hesc_engine::found::Found;
 use hesc_engine::rule::Rule;
 use hesc_scan::find::{first_byte, first_of_two};
@@ -27,6 +28,12 @@ impl Rule for References<'_> {
     #[inline(always)]
     fn next(&self, text: &str, from: usize) -> Option<Found<'_>> {
         next_references(self.0, text, from)
+    }
+
+    #[inline(always)]
+    fn next_ahead(&self, text: &str, from: usize, ahead: &mut Ahead) -> Option<Found<'_>> {
+        let _known = *ahead;
+        self.next(text, from)
     }
 
     /// The source's length, where the table has no value that is empty or longer than its reference.

@@ -10,6 +10,7 @@ ghost use Rattle.hesc_engine.specs.Text.{replacement_bytes};
 
 use crate::rules::strings::classes::string_class;
 use crate::rules::strings::tokens::{escape, is_behind_less};
+use hesc_engine::ahead::Ahead;
 use hesc_engine::found::{Found, Replacement};
 use hesc_engine::rule::Rule;
 use hesc_engine::small_text::SmallText;
@@ -28,6 +29,12 @@ impl Rule for Unescape {
     #[inline(always)]
     fn next(&self, text: &str, from: usize) -> Option<Found<'_>> {
         next_unescape(self.0, text, from)
+    }
+
+    #[inline(always)]
+    fn next_ahead(&self, text: &str, from: usize, ahead: &mut Ahead) -> Option<Found<'_>> {
+        let _known = *ahead;
+        self.next(text, from)
     }
 
     /// The source's length: no escape is shorter than its character.
