@@ -104,9 +104,7 @@ pub extern "C" fn hesc_copy(alloc: Global, number: u32, text: &[u8], buffer: &mu
     }
 }
 
-// The operation of a number. Each is looked up within the call, so that little but the call is
-// measured.
-#[inline(always)]
+// The operation of a number.
 fn measured(number: u32) -> Option<Operation>
     ensures { result ≡ operation_of number }
 {
@@ -114,7 +112,6 @@ fn measured(number: u32) -> Option<Operation>
 }
 
 // By the function of the operation's own name, which is what is measured.
-#[inline(always)]
 fn cow_of(
     alloc: Global,
     operation: Operation,
@@ -143,7 +140,6 @@ fn cow_of(
 }
 
 // The length of the part that is appended, `None` where there is none.
-#[inline(always)]
 fn append(operation: Operation, text: &str, output: &mut String<Global>) -> Option<usize>
     ensures count { IfSome result (λ count. count ≡ length (operation_text operation text.now)) }
     ensures empty { is_measured operation ≡ true → operation_text operation text.now ≡ []
@@ -173,7 +169,6 @@ fn append(operation: Operation, text: &str, output: &mut String<Global>) -> Opti
     }
 }
 
-#[inline(always)]
 fn length_of(part: Result<&str, AllocError>) -> Option<usize>
     ensures count { IfSome result
         (λ count. MatchResult part.entry (λ text. count ≡ length text.now) (λ _. ⊥)) }
