@@ -5,5 +5,6 @@ pub mod ClassWords
 pub mod HandsOnConstant
 pub mod HandsOnTable
 pub mod NamedTable
+mod NearRows
 mod ReferenceTable
 mod StringEscapes

@@ -1,17 +1,18 @@
 //! Tables of entities: which rows make one, and the value of a name.
 ghost use Rattle.std.specs.Prelude.{◌≡◌, IsTrue};
 ghost use Rattle.std.specs.Option.{option_map};
-ghost use Rattle.hesc_specs.specs.References.Rows.{are_short, value_of};
+ghost use Rattle.hesc_specs.specs.References.Rows.{value_of};
 ghost use Rattle.hesc_specs.specs.References.TableFaults.{is_table};
-ghost use Rattle.hesc_core.specs.Rows.{rows_in};
+ghost use Rattle.hesc_core.specs.Growth.{grow_by};
+ghost use Rattle.hesc_core.specs.Rows.{are_near, rows_in};
 
 pub mod entities;
+pub(crate) mod growth;
 mod row_faults;
-mod short_rows;
 
 use crate::table::entities::NAMED_ENTITIES;
+use crate::table::growth::{Growth, growth_of};
 use crate::table::row_faults::{COMMON_ENTITIES, fault_of_row, first_value};
-use crate::table::short_rows::are_short;
 use hesc_specs::TableFault;
 use std::cmp::Ordering;
 
@@ -20,10 +21,9 @@ use std::cmp::Ordering;
 #[derive(Clone, Copy)]
 pub struct EntityTable<'a> {
     rows: &'a [(&'a [u8], &'a str)],
-    // Whether it is known that no value is empty or longer than its reference.
-    shortens: bool,
+    growth: Growth,
     ghost good: { IsTrue (is_table (rows_in rows.now)) },
-    ghost short: { IsTrue shortens → IsTrue (are_short (rows_in rows.now)) },
+    ghost grows: { IsTrue (grow_by growth (rows_in rows.now)) },
 }
 
 impl EntityTable<'static> {
@@ -36,7 +36,7 @@ impl EntityTable<'static> {
     {
         EntityTable {
             rows: &NAMED_ENTITIES,
-            shortens: true,
+            growth: Growth::Never,
         }
     }
 }
@@ -63,8 +63,8 @@ impl<'a> EntityTable<'a> {
                 return Err(TableFault::MissingCommon(k));
             }
         }
-        let shortens = are_short(rows);
-        Ok(EntityTable { rows, shortens })
+        let growth = growth_of(rows);
+        Ok(EntityTable { rows, growth })
     }
 
     /// The table of rows that are shown to have no fault: nothing is checked when this is called.
@@ -74,7 +74,20 @@ impl<'a> EntityTable<'a> {
     {
         EntityTable {
             rows,
-            shortens: false,
+            growth: Growth::Unknown,
+        }
+    }
+
+    /// The same of rows whose values are also shown to be at most a fifth longer than their
+    /// references, as all of HTML's are: decoding then asks for its room without counting first.
+    pub fn of_near(rows: &'a [(&'a [u8], &'a str)]) -> EntityTable<'a>
+        requires table { IsTrue (is_table (rows_in rows.now)) }
+        requires near { IsTrue (are_near (rows_in rows.now)) }
+        ensures { rows_of result ≡ rows_in rows.now }
+    {
+        EntityTable {
+            rows,
+            growth: Growth::AtMostAFifth,
         }
     }
 
@@ -95,12 +108,11 @@ impl<'a> EntityTable<'a> {
         None
     }
 
-    /// Whether it is known that no value is empty or longer than its reference, so that no decoded
-    /// text is longer than its source.
-    pub(crate) fn shortens(&self) -> bool
-        ensures { IsTrue result → IsTrue (are_short (rows_of self.now)) }
+    /// How much longer than its source a decoded text may be.
+    pub(crate) fn growth(&self) -> Growth
+        ensures { IsTrue (grow_by result (rows_of self.now)) }
     {
-        self.shortens
+        self.growth
     }
 
     /// The rows that the table was made of, in order.

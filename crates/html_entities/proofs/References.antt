@@ -6,12 +6,17 @@ use Rattle.std.specs.Str.{bytes_eq}
 use Rattle.hesc_specs.specs.References.Rows.{Row, value_of}
 use Rattle.hesc_specs.specs.References.TableFaults.{is_table}
 use Rattle.hesc_core.specs.NamedRows.{named_rows}
+use Rattle.hesc_core.specs.Rows.{are_near}
 use Rattle.html_entities.specs.NamedReferences.{named_references}
 use Rattle.html_entities.proofs.GoodRows.{good_rows}
 
 pub references_are_table : is_table named_references ≡ true
 unfolding lib.Utf8.encode
 references_are_table = good_rows named_references refl refl
+
+pub references_are_near : are_near named_references ≡ true
+unfolding lib.Utf8.encode
+references_are_near = refl
 
 abbrev is_value : Option (List ℕ) → List ℕ → Bool
 is_value None value = false

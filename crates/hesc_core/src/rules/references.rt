@@ -11,6 +11,7 @@ mod values;
 
 use crate::rules::references::values::value_of_body;
 use crate::table::EntityTable;
+use crate::table::growth::Growth;
 use hesc_engine::ahead::Ahead;
 use hesc_engine::found::Found;
 use hesc_engine::rule::Rule;
@@ -36,13 +37,13 @@ impl Rule for References<'_> {
         self.next(text, from)
     }
 
-    /// The source's length, where the table has no value that is empty or longer than its reference.
+    /// The source's length, or a fifth more, where the table knows that its values are so short.
     #[inline(always)]
     fn bound(&self, text: &str) -> Option<usize> {
-        if self.0.shortens() {
-            Some(text.len())
-        } else {
-            None
+        match self.0.growth() {
+            Growth::Never => Some(text.len()),
+            Growth::AtMostAFifth => text.len().checked_add(text.len() / 5),
+            Growth::Unknown => None,
         }
     }
 

@@ -1,7 +1,7 @@
 use Rattle.std.proofs.Common.{◌≡◌, drop}
 use Rattle.hesc_specs.specs.References.Rows.{are_short}
 use Rattle.hesc_core.specs.Rows.{rows_in}
-use Rattle.hesc_core.proofs.table.short_rows.are_short.Given as goal
+use Rattle.hesc_core.proofs.table.growth.are_short.Given as goal
 
 -- the rows are short if those that are left are
 abbrev pub invariant-loop-row : goal.invariant-loop-row
