@@ -20,6 +20,8 @@ use std::alloc::{AllocError, Allocator};
 ///
 /// The operation is any rule: an [`Encoder`](crate::Encoder), a [`Decoder`](crate::Decoder), an
 /// [`Operation`](crate::Operation), or `References` over a table of one's own.
+///
+/// `append(&mut page, &Encoder::Text, "a<b")?` appends and answers `a&lt;b`.
 #[inline(always)]
 pub fn append<'o, R: Rule, A: Allocator>(
     output: &'o mut String<A>,
@@ -34,6 +36,8 @@ pub fn append<'o, R: Rule, A: Allocator>(
 }
 
 /// The same for a vector of bytes.
+///
+/// `append_to_vec(&mut bytes, &Encoder::Text, "a<b")?` appends and answers `a&lt;b`.
 #[inline(always)]
 pub fn append_to_vec<'o, R: Rule, A: Allocator>(
     output: &'o mut Vec<u8, A>,

@@ -58,6 +58,8 @@ impl Rule for Operation {
 
 /// The pieces of what the operation makes of `text`, in order and none of them empty: the stretches
 /// of `text` around the changes, as slices, and the changes' replacements. No memory is taken.
+///
+/// Of `Encoder::Text` and `a<b` the pieces are the kept `a`, the new `&lt;` and the kept `b`.
 pub fn pieces<'t>(operation: &'t Operation, text: &'t str) -> Pieces<'t, Operation>
     ensures pieces { parts_left result
         ≡ parts text.now 0 (operation_changes operation.now text.now 0) }

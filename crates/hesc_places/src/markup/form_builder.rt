@@ -18,6 +18,9 @@ use std::alloc::{AllocError, Allocator};
 /// The attributes are good exactly where none of them has a fault
 /// ([`good_attributes_law`](crate::laws::good_attributes_law)), and then by
 /// [`form_law`](crate::laws::form_law) the part is read back, whatever follows it.
+///
+/// With the attribute `value`, unquoted, of value `a b`, and the script string `x`, it is
+/// `<input value=a&#x20;b /><script>alert('x');</script>`.
 pub fn build_form<'o, A: Allocator>(
     attributes: &[Attribute],
     script: &str,

@@ -17,6 +17,8 @@ use std::alloc::{AllocError, Allocator};
 /// was: `EmptyUnquoted` exactly where `a` is empty, else `Memory`.
 ///
 /// By [`page_law`](crate::laws::page_law) the part is read back, whatever follows it.
+///
+/// Of `a`, `b` and `c` it is `<input value=a placeholder="b"/><script>alert('c');</script>`.
 pub fn build_page<'o, A: Allocator>(
     a: &str,
     b: &str,

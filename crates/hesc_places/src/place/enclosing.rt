@@ -42,6 +42,8 @@ impl From<AllocError> for PlaceFault {
 /// Whatever follows the part, the place ends exactly at its closing mark and is read as the text,
 /// with U+FFFD for NUL where the encoder is `UnquotedAttribute` or one of a style's strings, and a
 /// body as its encoding.
+///
+/// `enclose(Encoder::Text, Place::Text, "a<b", &mut page)?` appends and answers `>a&lt;b<`.
 pub fn enclose<'o, A: Allocator>(
     encoder: Encoder,
     place: Place,

@@ -19,6 +19,8 @@ pub struct Reading<A: Allocator = Global> {
 
 /// Reads the bytes after a place's opening mark, up to its closing mark. There is `None` exactly
 /// where the place's grammar has no reading. The bytes need be no UTF-8; where they are, the value is.
+///
+/// In `Place::Text`, `a&lt;b</p>` is read as `a<b`, which ends at byte 6.
 pub fn read_place<A: Allocator>(
     alloc: A,
     place: Place,
@@ -64,6 +66,8 @@ pub fn read_place<A: Allocator>(
 }
 
 /// The end of that reading, where there is one. It takes no memory, and a time linear in the bytes.
+///
+/// In `Place::Text`, `a&lt;b</p>` ends at byte 6.
 pub fn end_of_place(place: Place, bytes: &[u8]) -> Option<usize>
     ensures { result ≡ option_map end_of (reading place bytes.now) }
 {

@@ -19,6 +19,8 @@ use html_escape::Encoder;
 /// | `StyleDouble` | `StyleDoubleQuoted`, `StyleQuoted` |
 /// | `ScriptBody` | `Script` |
 /// | `StyleBody` | `Style` |
+///
+/// `suits(Encoder::Text, Place::Text)`, and not `suits(Encoder::Text, Place::ScriptBody)`.
 pub fn suits(encoder: Encoder, place: Place) -> bool
     ensures { result ≡ suits encoder place }
 {

@@ -1,6 +1,7 @@
 //! The operations in all their forms, their pieces, and what they stand on.
 pub mod answers;
 pub mod calls;
+pub mod examples;
 pub mod parts;
 pub mod pieces;
 pub mod references;

@@ -12,6 +12,8 @@ use std::alloc::{AllocError, Allocator};
 
 /// Appends the encoding of the body that the pieces, joined, are, and answers that part. They may be
 /// cut anywhere. On a refusal `output` is as it was.
+///
+/// `encode_pieces(&mut page, BodyKind::Script, &["</scr", "ipt>"])?` answers `<\/script>`.
 pub fn encode_pieces<'o, A: Allocator>(
     output: &'o mut String<A>,
     kind: Element,

@@ -48,6 +48,9 @@ impl BodyEncoder {
 
     /// Appends what is decided of the body with this piece, and answers that part. On a refusal the
     /// session and `output` are as they were, and the call can be made again.
+    ///
+    /// After `push("</scr", &mut page)?`, which answers nothing yet, `push("ipt>", &mut page)?`
+    /// appends and answers `<\/script>`.
     pub fn push<'o, A: Allocator>(
         &mut self,
         piece: &str,
@@ -74,6 +77,8 @@ impl BodyEncoder {
     /// Ends the body: appends the encoding of what is held, and answers that part. The session is
     /// then as new. On a refusal the session and `output` are as they were, and the call can be made
     /// again.
+    ///
+    /// After `push("a<", &mut page)?`, `finish(&mut page)?` appends and answers `<`.
     pub fn finish<'o, A: Allocator>(
         &mut self,
         output: &'o mut String<A>,

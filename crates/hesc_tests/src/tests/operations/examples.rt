@@ -1,0 +1,49 @@
+//! The examples of the documents that are not rows of an operation.
+use hesc_places::{Place, append_enclosed, end_of_place, read_place, suits};
+use html_escape::{
+    BodyEncoder, BodyKind, Encoder, Operation, append, append_to_vec, encode_pieces, pieces,
+};
+use std::process::Abort;
+use std::test::Fail;
+
+#[test]
+fn values_and_sessions_append_as_they_are_said_to(rt: HostRuntime) -> Result<(), Fail> {
+    let mut page = String::from_str(rt.alloc(), "x")?;
+    assert_eq!(rt; append(&mut page, &Encoder::Text, "a<b")?, "a&lt;b");
+    let script = ["</scr", "ipt>"];
+    assert_eq!(rt;
+        encode_pieces(&mut page, BodyKind::Script, &script)?,
+        "<\\/script>"
+    );
+    let mut session = BodyEncoder::new(BodyKind::Script);
+    assert_eq!(rt; session.push("</scr", &mut page)?, "");
+    assert_eq!(rt; session.push("ipt>", &mut page)?, "<\\/script>");
+    assert_eq!(rt; session.push("a<", &mut page)?, "a");
+    assert_eq!(rt; session.finish(&mut page)?, "<");
+    assert_eq!(rt; page.as_str(), "xa&lt;b<\\/script><\\/script>a<");
+    let mut bytes = b"x".to_vec(rt.alloc())?;
+    assert_eq!(rt;
+        append_to_vec(&mut bytes, &Encoder::Text, "a<b")?,
+        b"a&lt;b".as_slice()
+    );
+    let operation = Operation::Encode(Encoder::Text);
+    assert_eq!(rt; pieces(&operation, "a<b").count(), 3);
+    Ok(())
+}
+
+#[test]
+fn places_are_read_as_they_are_said_to_be(rt: HostRuntime) -> Result<(), Fail> {
+    let mut page = String::new(rt.alloc());
+    let Ok(part) = append_enclosed(&mut page, Encoder::Text, Place::Text, "a<b") else {
+        panic!(rt; "the encoder suits the place");
+    };
+    assert_eq!(rt; part, ">a&lt;b<");
+    let Some(reading) = read_place(rt.alloc(), Place::Text, b"a&lt;b</p>")? else {
+        panic!(rt; "the text has an end");
+    };
+    assert_eq!(rt; reading.value.as_slice(), b"a<b".as_slice());
+    assert_eq!(rt; reading.end, 6);
+    assert_eq!(rt; end_of_place(Place::Text, b"a&lt;b</p>"), Some(6));
+    assert!(rt; suits(Encoder::Text, Place::Text) && !suits(Encoder::Text, Place::ScriptBody));
+    Ok(())
+}
