@@ -31,6 +31,8 @@ impl EntityTable<'static> {
     ghost use Rattle.hesc_core.specs.Table.{rows_of};
 
     /// The table of [`NAMED_ENTITIES`].
+    ///
+    /// `built_in().get(b"AElig")` is `Some("\u{C6}")`.
     pub fn built_in() -> EntityTable<'static>
         ensures { rows_of result ≡ named_rows }
     {
@@ -49,6 +51,8 @@ impl<'a> EntityTable<'a> {
 
     /// The table of these rows, or their first fault: the rows are checked in order, at each row
     /// the faults in the order of `TableFault`, and at last whether a common name is missing.
+    ///
+    /// Of the one row `(b"amp", "&")` the fault is `MissingCommon(1)`.
     pub fn new(rows: &'a [(&'a [u8], &'a str)]) -> Result<EntityTable<'a>, TableFault>
         ensures made { IfOk result (λ table. rows_of table ≡ rows_in rows.now) }
         ensures fault { result_err result ≡ first_fault (rows_in rows.now) }
@@ -68,6 +72,9 @@ impl<'a> EntityTable<'a> {
     }
 
     /// The table of rows that are shown to have no fault: nothing is checked when this is called.
+    ///
+    /// A crate `use_table` has a caller: with the row `(b"hearts", "\u{2665}")` among the common ones,
+    /// `I &hearts; &lt;b&gt;` is decoded to `I \u{2665} <b>`.
     pub fn of(rows: &'a [(&'a [u8], &'a str)]) -> EntityTable<'a>
         requires { IsTrue (is_table (rows_in rows.now)) }
         ensures { rows_of result ≡ rows_in rows.now }
@@ -92,6 +99,8 @@ impl<'a> EntityTable<'a> {
     }
 
     /// The value of exactly this name, found by halving the rows.
+    ///
+    /// Of the built-in table, `get(b"amp")` is `Some("&")`, and `get(b"copy")` is `None`.
     pub fn get(&self, name: &[u8]) -> Option<&'a str>
         ensures { option_map (λ value. value.now) result ≡ value_of (rows_of self.now) name.now }
     {

@@ -20,6 +20,8 @@ impl SmallText {
     ghost use Rattle.hesc_engine.specs.Text.{small_text_bytes};
 
     /// The text, which has at most six bytes.
+    ///
+    /// `SmallText::new("&#x2F;").as_str()` is `&#x2F;`.
     #[inline(always)]
     pub fn new(text: &str) -> SmallText
         requires { length text.now ≤ 6 }
@@ -34,6 +36,8 @@ impl SmallText {
     }
 
     /// The text of one character.
+    ///
+    /// `SmallText::from_char('\u{C6}').len()` is 2.
     #[inline(always)]
     pub fn from_char(character: char) -> SmallText
         ensures { small_text_bytes result ≡ encode_utf8 character }

@@ -17,6 +17,8 @@ use std::simd::prelude::*;
 
 /// The least place at or after `from` whose byte is in the class, or the length where there is
 /// none.
+///
+/// `first_in(Class::Text, b"a<b", 0)` is 1, and from 2 on it is 3.
 #[inline(always)]
 pub fn first_in(class: Class, bytes: &[u8], from: usize) -> usize
     requires { from ≤ length bytes.now }

@@ -29,6 +29,8 @@ pub enum Fault {
 
 impl Fault {
     /// The status that the program ends with.
+    ///
+    /// `Fault::Usage.status()` is 2.
     pub fn status(&self) -> u8
         ensures { result ≡ status_of self.now }
     {
@@ -46,6 +48,8 @@ impl Fault {
     }
 
     /// The line that the program prints to standard error, without its line feed.
+    ///
+    /// `Fault::NoPage.line()` is `hesc: no page`.
     pub fn line(&self) -> &'static str
         ensures { result.now ≡ line_of self.now }
     {

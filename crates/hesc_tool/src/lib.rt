@@ -30,6 +30,8 @@ use std::io::{Read, Write};
 ///
 /// Nothing is written before all else has succeeded, so only `Fault::Write` leaves anything after,
 /// a beginning of the text. A reader that never ends comes to `Fault::Memory`.
+///
+/// Of the words `encode_text` and the input `a<b` it writes `a&lt;b`.
 #[tactic(auto, using(crate::proofs::Ran::ran))]
 pub fn run<A: Allocator, R: Read, W: Write>(
     alloc: A,

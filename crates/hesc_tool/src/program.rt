@@ -21,6 +21,9 @@ use std::io::{self, Read, Write};
 /// could not be had, as where one of them is not UTF-8. After success the output is flushed, once.
 /// A fault's line goes to `errors`; where that fails the line is cut off, and the status stays the
 /// fault's.
+///
+/// Of `hesc encode_text` and the input `a<b` the output gets `a&lt;b`, and the status is 0; of `hesc`
+/// alone the error stream gets the line of `Fault::Usage`, and the status is 2.
 pub fn serve<A: Allocator, B: Allocator, R: Read, W: Write, E: Write>(
     alloc: A,
     args: io::Result<Args<B>>,

@@ -36,6 +36,9 @@ impl<'a, A: Allocator + Copy> Template<'a, A> {
 
     /// The template of these parts. On a fault it is the first, part by part; `Unfinished` comes
     /// where each part alone has none.
+    ///
+    /// Of `<p title="`, a slot and `">` it stands in a value in double quotes; of `<p `, a slot and `>`
+    /// the fault is `NoPlace(1)`.
     #[tactic(auto, using(crate::proofs::Pieces::parts_more, crate::proofs::Pieces::parts_all))]
     pub fn new(alloc: A, parts: &[Part<'a>]) -> Result<Template<'a, A>, TemplateFault>
         ensures parts { IfOk result (λ template.
@@ -59,6 +62,8 @@ impl<'a, A: Allocator + Copy> Template<'a, A> {
     ///
     /// Whatever follows the page, it is tokenized as the template is, with each text handed to its
     /// slot whole.
+    ///
+    /// Of `<p title="`, a slot and `">`, the page of `a"` is `<p title="a&quot;">`.
     #[tactic(auto, using(crate::proofs::Structure::is_read_as))]
     pub fn append<B: Allocator>(
         &self,

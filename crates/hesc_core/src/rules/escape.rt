@@ -56,6 +56,8 @@ impl Rule for Escape {
 }
 
 /// The first change of the encoder of the class at or after `from`, a character boundary.
+///
+/// In `a<b` from 0, of `Class::Text`, it is the byte 1, which becomes `&lt;`.
 #[inline(always)]
 pub fn next_escape(class: Class, text: &str, from: usize) -> Option<Found<'static>>
     requires { IsCharBoundary text.now from }

@@ -54,6 +54,8 @@ impl Rule for References<'_> {
 ///
 /// Each `&` is judged by itself: what follows it goes up to the next `&` or `;`, and no byte is
 /// looked at more than twice for either.
+///
+/// In `a&lt;b` from 0 it is the bytes 1 to 5, which become `<`.
 #[inline(always)]
 pub fn next_references<'a>(table: &EntityTable<'a>, text: &str, from: usize) -> Option<Found<'a>>
     requires { IsCharBoundary text.now from }

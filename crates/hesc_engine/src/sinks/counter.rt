@@ -31,6 +31,8 @@ impl Counter {
     }
 
     /// The number of bytes taken.
+    ///
+    /// After `put("ab")?` and `put("\u{E9}")?` it is 4.
     #[inline(always)]
     pub fn count(&self) -> usize
         ensures { result ≡ length (counted self.now) }

@@ -33,6 +33,8 @@ pub struct Form<A: Allocator = Global> {
 /// Reads a form from the front of the bytes: an input's tag with any attributes, no two of one name,
 /// and a script that hands one string to `alert`. There is `None` exactly where there is no reading,
 /// and `AllocError` where memory, or a copy of `alloc`, is refused. The bytes need be no UTF-8.
+///
+/// Of `<input/><script>alert('x');</script>` it has no attributes, and the script string `x`.
 #[tactic(auto, unfolding(crate::specs::Pages::FormReadings::form_reading))]
 pub fn read_form<A: Allocator + Clone>(
     alloc: A,

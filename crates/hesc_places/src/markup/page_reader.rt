@@ -25,6 +25,8 @@ pub struct Page<A: Allocator = Global> {
 /// names and quoting, and a script that hands one string to `alert`. There is `None` exactly where
 /// there is no reading, and `AllocError` where memory, or a copy of `alloc`, is refused. The bytes
 /// need be no UTF-8.
+///
+/// Of the page of `a`, `b` and `c` it has these three; of `abc` there is none.
 #[tactic(auto, unfolding(crate::specs::Pages::PageReadings::page_reading))]
 pub fn read_page<A: Allocator + Clone>(
     alloc: A,

@@ -1,7 +1,10 @@
 //! The examples of the documents that are not rows of an operation.
+use hesc_core::rules::{next_escape, next_references};
+use hesc_core::scan::first_in;
 use hesc_places::{Place, append_enclosed, end_of_place, read_place, suits};
 use html_escape::{
-    BodyEncoder, BodyKind, Encoder, Operation, append, append_to_vec, encode_pieces, pieces,
+    BodyEncoder, BodyKind, Class, Encoder, EntityTable, Operation, SmallText, append,
+    append_to_vec, encode_pieces, pieces,
 };
 use std::process::Abort;
 use std::test::Fail;
@@ -46,4 +49,25 @@ fn places_are_read_as_they_are_said_to_be(rt: HostRuntime) -> Result<(), Fail> {
     assert_eq!(rt; end_of_place(Place::Text, b"a&lt;b</p>"), Some(6));
     assert!(rt; suits(Encoder::Text, Place::Text) && !suits(Encoder::Text, Place::ScriptBody));
     Ok(())
+}
+
+#[test]
+fn tables_searches_and_rules_answer_as_they_are_said_to(rt: HostRuntime) {
+    let table = EntityTable::built_in();
+    assert_eq!(rt; table.get(b"AElig"), Some("\u{C6}"));
+    assert_eq!(rt; table.get(b"amp"), Some("&"));
+    assert_eq!(rt; table.get(b"copy"), None);
+    assert_eq!(rt; first_in(Class::Text, b"a<b", 0), 1);
+    assert_eq!(rt; first_in(Class::Text, b"a<b", 2), 3);
+    assert_eq!(rt; SmallText::from_char('\u{C6}').len(), 2);
+    let Some(found) = next_escape(Class::Text, "a<b", 0) else {
+        panic!(rt; "`<` is replaced");
+    };
+    assert!(rt; found.start == 1 && found.end == 2);
+    assert_eq!(rt; found.replacement.as_str(), "&lt;");
+    let Some(found) = next_references(&table, "a&lt;b", 0) else {
+        panic!(rt; "the reference has a value");
+    };
+    assert!(rt; found.start == 1 && found.end == 5);
+    assert_eq!(rt; found.replacement.as_str(), "<");
 }
