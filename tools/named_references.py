@@ -104,7 +104,7 @@ def by_character(text):
     named.sort(key=lambda row: (row[1], row[0]))
     lines, line = [], "    "
     for name, points in named:
-        entry = f"{'+'.join(f'{point:X}' for point in points)} {name},"
+        entry = f"{'+'.join(f'{point:04X}' for point in points)} {name},"
         if len(line) + len(entry) > 98:
             lines.append(line + "\\")
             line = "     "

@@ -3,80 +3,87 @@
 
 /// The code points of 1511 characters, each with a name of it, by rising code points.
 pub const NAMES: &str = "\
-    9 Tab,A NewLine,21 excl,22 quot,23 num,24 dollar,25 percnt,26 amp,27 apos,28 lpar,29 rpar,\
-     2A ast,2B plus,2C comma,2E period,2F sol,3A colon,3B semi,3C lt,3C+20D2 nvlt,3D equals,\
-     3D+20E5 bne,3E gt,3E+20D2 nvgt,3F quest,40 commat,5B lbrack,5C bsol,5D rsqb,5E Hat,5F lowbar,\
-     60 grave,66+6A fjlig,7B lbrace,7C vert,7D rcub,A0 nbsp,A1 iexcl,A2 cent,A3 pound,A4 curren,\
-     A5 yen,A6 brvbar,A7 sect,A8 DoubleDot,A9 copy,AA ordf,AB laquo,AC not,AD shy,AE reg,AF macr,\
-     B0 deg,B1 plusmn,B2 sup2,B3 sup3,B4 DiacriticalAcute,B5 micro,B6 para,B7 CenterDot,\
-     B8 Cedilla,B9 sup1,BA ordm,BB raquo,BC frac14,BD half,BE frac34,BF iquest,C0 Agrave,\
-     C1 Aacute,C2 Acirc,C3 Atilde,C4 Auml,C5 Aring,C6 AElig,C7 Ccedil,C8 Egrave,C9 Eacute,\
-     CA Ecirc,CB Euml,CC Igrave,CD Iacute,CE Icirc,CF Iuml,D0 ETH,D1 Ntilde,D2 Ograve,D3 Oacute,\
-     D4 Ocirc,D5 Otilde,D6 Ouml,D7 times,D8 Oslash,D9 Ugrave,DA Uacute,DB Ucirc,DC Uuml,DD Yacute,\
-     DE THORN,DF szlig,E0 agrave,E1 aacute,E2 acirc,E3 atilde,E4 auml,E5 aring,E6 aelig,E7 ccedil,\
-     E8 egrave,E9 eacute,EA ecirc,EB euml,EC igrave,ED iacute,EE icirc,EF iuml,F0 eth,F1 ntilde,\
-     F2 ograve,F3 oacute,F4 ocirc,F5 otilde,F6 ouml,F7 divide,F8 oslash,F9 ugrave,FA uacute,\
-     FB ucirc,FC uuml,FD yacute,FE thorn,FF yuml,100 Amacr,101 amacr,102 Abreve,103 abreve,\
-     104 Aogon,105 aogon,106 Cacute,107 cacute,108 Ccirc,109 ccirc,10A Cdot,10B cdot,10C Ccaron,\
-     10D ccaron,10E Dcaron,10F dcaron,110 Dstrok,111 dstrok,112 Emacr,113 emacr,116 Edot,117 edot,\
-     118 Eogon,119 eogon,11A Ecaron,11B ecaron,11C Gcirc,11D gcirc,11E Gbreve,11F gbreve,120 Gdot,\
-     121 gdot,122 Gcedil,124 Hcirc,125 hcirc,126 Hstrok,127 hstrok,128 Itilde,129 itilde,\
-     12A Imacr,12B imacr,12E Iogon,12F iogon,130 Idot,131 inodot,132 IJlig,133 ijlig,134 Jcirc,\
-     135 jcirc,136 Kcedil,137 kcedil,138 kgreen,139 Lacute,13A lacute,13B Lcedil,13C lcedil,\
-     13D Lcaron,13E lcaron,13F Lmidot,140 lmidot,141 Lstrok,142 lstrok,143 Nacute,144 nacute,\
-     145 Ncedil,146 ncedil,147 Ncaron,148 ncaron,149 napos,14A ENG,14B eng,14C Omacr,14D omacr,\
-     150 Odblac,151 odblac,152 OElig,153 oelig,154 Racute,155 racute,156 Rcedil,157 rcedil,\
-     158 Rcaron,159 rcaron,15A Sacute,15B sacute,15C Scirc,15D scirc,15E Scedil,15F scedil,\
-     160 Scaron,161 scaron,162 Tcedil,163 tcedil,164 Tcaron,165 tcaron,166 Tstrok,167 tstrok,\
-     168 Utilde,169 utilde,16A Umacr,16B umacr,16C Ubreve,16D ubreve,16E Uring,16F uring,\
-     170 Udblac,171 udblac,172 Uogon,173 uogon,174 Wcirc,175 wcirc,176 Ycirc,177 ycirc,178 Yuml,\
-     179 Zacute,17A zacute,17B Zdot,17C zdot,17D Zcaron,17E zcaron,192 fnof,1B5 imped,1F5 gacute,\
-     237 jmath,2C6 circ,2C7 Hacek,2D8 Breve,2D9 dot,2DA ring,2DB ogon,2DC DiacriticalTilde,\
-     2DD DiacriticalDoubleAcute,311 DownBreve,391 Alpha,392 Beta,393 Gamma,394 Delta,395 Epsilon,\
-     396 Zeta,397 Eta,398 Theta,399 Iota,39A Kappa,39B Lambda,39C Mu,39D Nu,39E Xi,39F Omicron,\
-     3A0 Pi,3A1 Rho,3A3 Sigma,3A4 Tau,3A5 Upsilon,3A6 Phi,3A7 Chi,3A8 Psi,3A9 Omega,3B1 alpha,\
-     3B2 beta,3B3 gamma,3B4 delta,3B5 epsi,3B6 zeta,3B7 eta,3B8 theta,3B9 iota,3BA kappa,\
-     3BB lambda,3BC mu,3BD nu,3BE xi,3BF omicron,3C0 pi,3C1 rho,3C2 sigmav,3C3 sigma,3C4 tau,\
-     3C5 upsi,3C6 phi,3C7 chi,3C8 psi,3C9 omega,3D1 thetasym,3D2 upsih,3D5 straightphi,3D6 piv,\
-     3DC Gammad,3DD gammad,3F0 varkappa,3F1 rhov,3F5 straightepsilon,3F6 backepsilon,401 IOcy,\
-     402 DJcy,403 GJcy,404 Jukcy,405 DScy,406 Iukcy,407 YIcy,408 Jsercy,409 LJcy,40A NJcy,\
-     40B TSHcy,40C KJcy,40E Ubrcy,40F DZcy,410 Acy,411 Bcy,412 Vcy,413 Gcy,414 Dcy,415 IEcy,\
-     416 ZHcy,417 Zcy,418 Icy,419 Jcy,41A Kcy,41B Lcy,41C Mcy,41D Ncy,41E Ocy,41F Pcy,420 Rcy,\
-     421 Scy,422 Tcy,423 Ucy,424 Fcy,425 KHcy,426 TScy,427 CHcy,428 SHcy,429 SHCHcy,42A HARDcy,\
-     42B Ycy,42C SOFTcy,42D Ecy,42E YUcy,42F YAcy,430 acy,431 bcy,432 vcy,433 gcy,434 dcy,\
-     435 iecy,436 zhcy,437 zcy,438 icy,439 jcy,43A kcy,43B lcy,43C mcy,43D ncy,43E ocy,43F pcy,\
-     440 rcy,441 scy,442 tcy,443 ucy,444 fcy,445 khcy,446 tscy,447 chcy,448 shcy,449 shchcy,\
-     44A hardcy,44B ycy,44C softcy,44D ecy,44E yucy,44F yacy,451 iocy,452 djcy,453 gjcy,454 jukcy,\
-     455 dscy,456 iukcy,457 yicy,458 jsercy,459 ljcy,45A njcy,45B tshcy,45C kjcy,45E ubrcy,\
-     45F dzcy,2002 ensp,2003 emsp,2004 emsp13,2005 emsp14,2007 numsp,2008 puncsp,2009 ThinSpace,\
-     200A hairsp,200B ZeroWidthSpace,200C zwnj,200D zwj,200E lrm,200F rlm,2010 hyphen,2013 ndash,\
-     2014 mdash,2015 horbar,2016 Verbar,2018 OpenCurlyQuote,2019 rsquo,201A sbquo,\
-     201C OpenCurlyDoubleQuote,201D rdquo,201E bdquo,2020 dagger,2021 Dagger,2022 bull,2025 nldr,\
-     2026 hellip,2030 permil,2031 pertenk,2032 prime,2033 Prime,2034 tprime,2035 backprime,\
-     2039 lsaquo,203A rsaquo,203E oline,2041 caret,2043 hybull,2044 frasl,204F bsemi,2057 qprime,\
-     205F MediumSpace,205F+200A ThickSpace,2060 NoBreak,2061 af,2062 InvisibleTimes,2063 ic,\
-     20AC euro,20DB TripleDot,20DC DotDot,2102 complexes,2105 incare,210A gscr,210B HilbertSpace,\
-     210C Hfr,210D Hopf,210E planckh,210F planck,2110 imagline,2111 Ifr,2112 lagran,2113 ell,\
-     2115 naturals,2116 numero,2117 copysr,2118 wp,2119 primes,211A rationals,211B realine,\
-     211C Rfr,211D Ropf,211E rx,2122 trade,2124 Zopf,2127 mho,2128 Zfr,2129 iiota,212C Bscr,\
-     212D Cfr,212F escr,2130 expectation,2131 Fouriertrf,2133 Mellintrf,2134 orderof,2135 aleph,\
-     2136 beth,2137 gimel,2138 daleth,2145 CapitalDifferentialD,2146 DifferentialD,\
-     2147 exponentiale,2148 ImaginaryI,2153 frac13,2154 frac23,2155 frac15,2156 frac25,\
-     2157 frac35,2158 frac45,2159 frac16,215A frac56,215B frac18,215C frac38,215D frac58,\
-     215E frac78,2190 larr,2191 uarr,2192 srarr,2193 darr,2194 harr,2195 UpDownArrow,2196 nwarrow,\
-     2197 UpperRightArrow,2198 LowerRightArrow,2199 swarr,219A nleftarrow,219B nrarr,219D rarrw,\
-     219D+338 nrarrw,219E Larr,219F Uarr,21A0 twoheadrightarrow,21A1 Darr,21A2 larrtl,21A3 rarrtl,\
-     21A4 LeftTeeArrow,21A5 UpTeeArrow,21A6 map,21A7 DownTeeArrow,21A9 larrhk,21AA rarrhk,\
-     21AB larrlp,21AC looparrowright,21AD harrw,21AE nleftrightarrow,21B0 Lsh,21B1 rsh,21B2 ldsh,\
-     21B3 rdsh,21B5 crarr,21B6 curvearrowleft,21B7 curarr,21BA olarr,21BB orarr,\
-     21BC leftharpoonup,21BD leftharpoondown,21BE RightUpVector,21BF uharl,21C0 rharu,21C1 rhard,\
+    0009 Tab,000A NewLine,0021 excl,0022 quot,0023 num,0024 dollar,0025 percnt,0026 amp,0027 apos,\
+     0028 lpar,0029 rpar,002A ast,002B plus,002C comma,002E period,002F sol,003A colon,003B semi,\
+     003C lt,003C+20D2 nvlt,003D equals,003D+20E5 bne,003E gt,003E+20D2 nvgt,003F quest,\
+     0040 commat,005B lbrack,005C bsol,005D rsqb,005E Hat,005F lowbar,0060 grave,0066+006A fjlig,\
+     007B lbrace,007C vert,007D rcub,00A0 nbsp,00A1 iexcl,00A2 cent,00A3 pound,00A4 curren,\
+     00A5 yen,00A6 brvbar,00A7 sect,00A8 DoubleDot,00A9 copy,00AA ordf,00AB laquo,00AC not,\
+     00AD shy,00AE reg,00AF macr,00B0 deg,00B1 plusmn,00B2 sup2,00B3 sup3,00B4 DiacriticalAcute,\
+     00B5 micro,00B6 para,00B7 CenterDot,00B8 Cedilla,00B9 sup1,00BA ordm,00BB raquo,00BC frac14,\
+     00BD half,00BE frac34,00BF iquest,00C0 Agrave,00C1 Aacute,00C2 Acirc,00C3 Atilde,00C4 Auml,\
+     00C5 Aring,00C6 AElig,00C7 Ccedil,00C8 Egrave,00C9 Eacute,00CA Ecirc,00CB Euml,00CC Igrave,\
+     00CD Iacute,00CE Icirc,00CF Iuml,00D0 ETH,00D1 Ntilde,00D2 Ograve,00D3 Oacute,00D4 Ocirc,\
+     00D5 Otilde,00D6 Ouml,00D7 times,00D8 Oslash,00D9 Ugrave,00DA Uacute,00DB Ucirc,00DC Uuml,\
+     00DD Yacute,00DE THORN,00DF szlig,00E0 agrave,00E1 aacute,00E2 acirc,00E3 atilde,00E4 auml,\
+     00E5 aring,00E6 aelig,00E7 ccedil,00E8 egrave,00E9 eacute,00EA ecirc,00EB euml,00EC igrave,\
+     00ED iacute,00EE icirc,00EF iuml,00F0 eth,00F1 ntilde,00F2 ograve,00F3 oacute,00F4 ocirc,\
+     00F5 otilde,00F6 ouml,00F7 divide,00F8 oslash,00F9 ugrave,00FA uacute,00FB ucirc,00FC uuml,\
+     00FD yacute,00FE thorn,00FF yuml,0100 Amacr,0101 amacr,0102 Abreve,0103 abreve,0104 Aogon,\
+     0105 aogon,0106 Cacute,0107 cacute,0108 Ccirc,0109 ccirc,010A Cdot,010B cdot,010C Ccaron,\
+     010D ccaron,010E Dcaron,010F dcaron,0110 Dstrok,0111 dstrok,0112 Emacr,0113 emacr,0116 Edot,\
+     0117 edot,0118 Eogon,0119 eogon,011A Ecaron,011B ecaron,011C Gcirc,011D gcirc,011E Gbreve,\
+     011F gbreve,0120 Gdot,0121 gdot,0122 Gcedil,0124 Hcirc,0125 hcirc,0126 Hstrok,0127 hstrok,\
+     0128 Itilde,0129 itilde,012A Imacr,012B imacr,012E Iogon,012F iogon,0130 Idot,0131 inodot,\
+     0132 IJlig,0133 ijlig,0134 Jcirc,0135 jcirc,0136 Kcedil,0137 kcedil,0138 kgreen,0139 Lacute,\
+     013A lacute,013B Lcedil,013C lcedil,013D Lcaron,013E lcaron,013F Lmidot,0140 lmidot,\
+     0141 Lstrok,0142 lstrok,0143 Nacute,0144 nacute,0145 Ncedil,0146 ncedil,0147 Ncaron,\
+     0148 ncaron,0149 napos,014A ENG,014B eng,014C Omacr,014D omacr,0150 Odblac,0151 odblac,\
+     0152 OElig,0153 oelig,0154 Racute,0155 racute,0156 Rcedil,0157 rcedil,0158 Rcaron,\
+     0159 rcaron,015A Sacute,015B sacute,015C Scirc,015D scirc,015E Scedil,015F scedil,\
+     0160 Scaron,0161 scaron,0162 Tcedil,0163 tcedil,0164 Tcaron,0165 tcaron,0166 Tstrok,\
+     0167 tstrok,0168 Utilde,0169 utilde,016A Umacr,016B umacr,016C Ubreve,016D ubreve,016E Uring,\
+     016F uring,0170 Udblac,0171 udblac,0172 Uogon,0173 uogon,0174 Wcirc,0175 wcirc,0176 Ycirc,\
+     0177 ycirc,0178 Yuml,0179 Zacute,017A zacute,017B Zdot,017C zdot,017D Zcaron,017E zcaron,\
+     0192 fnof,01B5 imped,01F5 gacute,0237 jmath,02C6 circ,02C7 Hacek,02D8 Breve,02D9 dot,\
+     02DA ring,02DB ogon,02DC DiacriticalTilde,02DD DiacriticalDoubleAcute,0311 DownBreve,\
+     0391 Alpha,0392 Beta,0393 Gamma,0394 Delta,0395 Epsilon,0396 Zeta,0397 Eta,0398 Theta,\
+     0399 Iota,039A Kappa,039B Lambda,039C Mu,039D Nu,039E Xi,039F Omicron,03A0 Pi,03A1 Rho,\
+     03A3 Sigma,03A4 Tau,03A5 Upsilon,03A6 Phi,03A7 Chi,03A8 Psi,03A9 Omega,03B1 alpha,03B2 beta,\
+     03B3 gamma,03B4 delta,03B5 epsi,03B6 zeta,03B7 eta,03B8 theta,03B9 iota,03BA kappa,\
+     03BB lambda,03BC mu,03BD nu,03BE xi,03BF omicron,03C0 pi,03C1 rho,03C2 sigmav,03C3 sigma,\
+     03C4 tau,03C5 upsi,03C6 phi,03C7 chi,03C8 psi,03C9 omega,03D1 thetasym,03D2 upsih,\
+     03D5 straightphi,03D6 piv,03DC Gammad,03DD gammad,03F0 varkappa,03F1 rhov,\
+     03F5 straightepsilon,03F6 backepsilon,0401 IOcy,0402 DJcy,0403 GJcy,0404 Jukcy,0405 DScy,\
+     0406 Iukcy,0407 YIcy,0408 Jsercy,0409 LJcy,040A NJcy,040B TSHcy,040C KJcy,040E Ubrcy,\
+     040F DZcy,0410 Acy,0411 Bcy,0412 Vcy,0413 Gcy,0414 Dcy,0415 IEcy,0416 ZHcy,0417 Zcy,0418 Icy,\
+     0419 Jcy,041A Kcy,041B Lcy,041C Mcy,041D Ncy,041E Ocy,041F Pcy,0420 Rcy,0421 Scy,0422 Tcy,\
+     0423 Ucy,0424 Fcy,0425 KHcy,0426 TScy,0427 CHcy,0428 SHcy,0429 SHCHcy,042A HARDcy,042B Ycy,\
+     042C SOFTcy,042D Ecy,042E YUcy,042F YAcy,0430 acy,0431 bcy,0432 vcy,0433 gcy,0434 dcy,\
+     0435 iecy,0436 zhcy,0437 zcy,0438 icy,0439 jcy,043A kcy,043B lcy,043C mcy,043D ncy,043E ocy,\
+     043F pcy,0440 rcy,0441 scy,0442 tcy,0443 ucy,0444 fcy,0445 khcy,0446 tscy,0447 chcy,\
+     0448 shcy,0449 shchcy,044A hardcy,044B ycy,044C softcy,044D ecy,044E yucy,044F yacy,\
+     0451 iocy,0452 djcy,0453 gjcy,0454 jukcy,0455 dscy,0456 iukcy,0457 yicy,0458 jsercy,\
+     0459 ljcy,045A njcy,045B tshcy,045C kjcy,045E ubrcy,045F dzcy,2002 ensp,2003 emsp,\
+     2004 emsp13,2005 emsp14,2007 numsp,2008 puncsp,2009 ThinSpace,200A hairsp,\
+     200B ZeroWidthSpace,200C zwnj,200D zwj,200E lrm,200F rlm,2010 hyphen,2013 ndash,2014 mdash,\
+     2015 horbar,2016 Verbar,2018 OpenCurlyQuote,2019 rsquo,201A sbquo,201C OpenCurlyDoubleQuote,\
+     201D rdquo,201E bdquo,2020 dagger,2021 Dagger,2022 bull,2025 nldr,2026 hellip,2030 permil,\
+     2031 pertenk,2032 prime,2033 Prime,2034 tprime,2035 backprime,2039 lsaquo,203A rsaquo,\
+     203E oline,2041 caret,2043 hybull,2044 frasl,204F bsemi,2057 qprime,205F MediumSpace,\
+     205F+200A ThickSpace,2060 NoBreak,2061 af,2062 InvisibleTimes,2063 ic,20AC euro,\
+     20DB TripleDot,20DC DotDot,2102 complexes,2105 incare,210A gscr,210B HilbertSpace,210C Hfr,\
+     210D Hopf,210E planckh,210F planck,2110 imagline,2111 Ifr,2112 lagran,2113 ell,2115 naturals,\
+     2116 numero,2117 copysr,2118 wp,2119 primes,211A rationals,211B realine,211C Rfr,211D Ropf,\
+     211E rx,2122 trade,2124 Zopf,2127 mho,2128 Zfr,2129 iiota,212C Bscr,212D Cfr,212F escr,\
+     2130 expectation,2131 Fouriertrf,2133 Mellintrf,2134 orderof,2135 aleph,2136 beth,2137 gimel,\
+     2138 daleth,2145 CapitalDifferentialD,2146 DifferentialD,2147 exponentiale,2148 ImaginaryI,\
+     2153 frac13,2154 frac23,2155 frac15,2156 frac25,2157 frac35,2158 frac45,2159 frac16,\
+     215A frac56,215B frac18,215C frac38,215D frac58,215E frac78,2190 larr,2191 uarr,2192 srarr,\
+     2193 darr,2194 harr,2195 UpDownArrow,2196 nwarrow,2197 UpperRightArrow,2198 LowerRightArrow,\
+     2199 swarr,219A nleftarrow,219B nrarr,219D rarrw,219D+0338 nrarrw,219E Larr,219F Uarr,\
+     21A0 twoheadrightarrow,21A1 Darr,21A2 larrtl,21A3 rarrtl,21A4 LeftTeeArrow,21A5 UpTeeArrow,\
+     21A6 map,21A7 DownTeeArrow,21A9 larrhk,21AA rarrhk,21AB larrlp,21AC looparrowright,\
+     21AD harrw,21AE nleftrightarrow,21B0 Lsh,21B1 rsh,21B2 ldsh,21B3 rdsh,21B5 crarr,\
+     21B6 curvearrowleft,21B7 curarr,21BA olarr,21BB orarr,21BC leftharpoonup,\
+     21BD leftharpoondown,21BE RightUpVector,21BF uharl,21C0 rharu,21C1 rhard,\
      21C2 RightDownVector,21C3 dharl,21C4 rightleftarrows,21C5 udarr,21C6 lrarr,21C7 llarr,\
      21C8 upuparrows,21C9 rrarr,21CA downdownarrows,21CB leftrightharpoons,21CC rightleftharpoons,\
      21CD nLeftarrow,21CE nhArr,21CF nrArr,21D0 DoubleLeftArrow,21D1 DoubleUpArrow,21D2 Implies,\
      21D3 Downarrow,21D4 hArr,21D5 Updownarrow,21D6 nwArr,21D7 neArr,21D8 seArr,21D9 swArr,\
      21DA lAarr,21DB rAarr,21DD zigrarr,21E4 LeftArrowBar,21E5 RightArrowBar,\
      21F5 DownArrowUpArrow,21FD loarr,21FE roarr,21FF hoarr,2200 forall,2201 comp,2202 part,\
-     2202+338 npart,2203 Exists,2204 nexist,2205 empty,2207 nabla,2208 isinv,2209 notin,\
+     2202+0338 npart,2203 Exists,2204 nexist,2205 empty,2207 nabla,2208 isinv,2209 notin,\
      220B ReverseElement,220C notniva,220F prod,2210 Coproduct,2211 sum,2212 minus,2213 MinusPlus,\
      2214 plusdo,2216 ssetmn,2217 lowast,2218 compfn,221A Sqrt,221D prop,221E infin,221F angrt,\
      2220 angle,2220+20D2 nang,2221 angmsd,2222 angsph,2223 mid,2224 nshortmid,2225 shortparallel,\
@@ -84,24 +91,24 @@ pub const NAMES: &str = "\
      222B Integral,222C Int,222D tint,222E ContourIntegral,222F DoubleContourIntegral,\
      2230 Cconint,2231 cwint,2232 cwconint,2233 awconint,2234 there4,2235 Because,2236 ratio,\
      2237 Colon,2238 minusd,223A mDDot,223B homtht,223C sim,223C+20D2 nvsim,223D bsim,\
-     223D+331 race,223E ac,223E+333 acE,223F acd,2240 wr,2241 NotTilde,2242 esim,2242+338 nesim,\
-     2243 simeq,2244 nsime,2245 TildeFullEqual,2246 simne,2247 ncong,2248 approx,2249 napprox,\
-     224A ape,224B apid,224B+338 napid,224C bcong,224D CupCap,224D+20D2 nvap,224E bump,\
-     224E+338 nbump,224F HumpEqual,224F+338 nbumpe,2250 esdot,2250+338 nedot,2251 doteqdot,\
-     2252 fallingdotseq,2253 risingdotseq,2254 coloneq,2255 eqcolon,2256 ecir,2257 circeq,\
-     2259 wedgeq,225A veeeq,225C triangleq,225F equest,2260 NotEqual,2261 Congruent,\
+     223D+0331 race,223E ac,223E+0333 acE,223F acd,2240 wr,2241 NotTilde,2242 esim,\
+     2242+0338 nesim,2243 simeq,2244 nsime,2245 TildeFullEqual,2246 simne,2247 ncong,2248 approx,\
+     2249 napprox,224A ape,224B apid,224B+0338 napid,224C bcong,224D CupCap,224D+20D2 nvap,\
+     224E bump,224E+0338 nbump,224F HumpEqual,224F+0338 nbumpe,2250 esdot,2250+0338 nedot,\
+     2251 doteqdot,2252 fallingdotseq,2253 risingdotseq,2254 coloneq,2255 eqcolon,2256 ecir,\
+     2257 circeq,2259 wedgeq,225A veeeq,225C triangleq,225F equest,2260 NotEqual,2261 Congruent,\
      2261+20E5 bnequiv,2262 NotCongruent,2264 leq,2264+20D2 nvle,2265 ge,2265+20D2 nvge,2266 lE,\
-     2266+338 nlE,2267 geqq,2267+338 NotGreaterFullEqual,2268 lneqq,2268+FE00 lvertneqq,\
-     2269 gneqq,2269+FE00 gvertneqq,226A ll,226A+338 nLtv,226A+20D2 nLt,226B gg,\
-     226B+338 NotGreaterGreater,226B+20D2 nGt,226C between,226D NotCupCap,226E NotLess,226F ngtr,\
+     2266+0338 nlE,2267 geqq,2267+0338 NotGreaterFullEqual,2268 lneqq,2268+FE00 lvertneqq,\
+     2269 gneqq,2269+FE00 gvertneqq,226A ll,226A+0338 nLtv,226A+20D2 nLt,226B gg,\
+     226B+0338 NotGreaterGreater,226B+20D2 nGt,226C between,226D NotCupCap,226E NotLess,226F ngtr,\
      2270 NotLessEqual,2271 ngeq,2272 LessTilde,2273 GreaterTilde,2274 nlsim,2275 ngsim,\
      2276 lessgtr,2277 gl,2278 ntlg,2279 NotGreaterLess,227A prec,227B succ,\
      227C PrecedesSlantEqual,227D succcurlyeq,227E precsim,227F SucceedsTilde,\
-     227F+338 NotSucceedsTilde,2280 npr,2281 NotSucceeds,2282 sub,2282+20D2 vnsub,2283 sup,\
+     227F+0338 NotSucceedsTilde,2280 npr,2281 NotSucceeds,2282 sub,2282+20D2 vnsub,2283 sup,\
      2283+20D2 nsupset,2284 nsub,2285 nsup,2286 SubsetEqual,2287 supe,2288 NotSubsetEqual,\
      2289 NotSupersetEqual,228A subsetneq,228A+FE00 vsubne,228B supsetneq,228B+FE00 vsupne,\
-     228D cupdot,228E UnionPlus,228F sqsub,228F+338 NotSquareSubset,2290 sqsupset,\
-     2290+338 NotSquareSuperset,2291 SquareSubsetEqual,2292 SquareSupersetEqual,2293 sqcap,\
+     228D cupdot,228E UnionPlus,228F sqsub,228F+0338 NotSquareSubset,2290 sqsupset,\
+     2290+0338 NotSquareSuperset,2291 SquareSubsetEqual,2292 SquareSupersetEqual,2293 sqcap,\
      2293+FE00 sqcaps,2294 sqcup,2294+FE00 sqcups,2295 CirclePlus,2296 ominus,2297 CircleTimes,\
      2298 osol,2299 CircleDot,229A ocir,229B oast,229D odash,229E boxplus,229F boxminus,\
      22A0 timesb,22A1 sdotb,22A2 vdash,22A3 dashv,22A4 DownTee,22A5 perp,22A7 models,\
@@ -112,13 +119,13 @@ pub const NAMES: &str = "\
      22C1 xvee,22C2 bigcap,22C3 bigcup,22C4 diamond,22C5 sdot,22C6 Star,22C7 divonx,22C8 bowtie,\
      22C9 ltimes,22CA rtimes,22CB lthree,22CC rthree,22CD backsimeq,22CE curlyvee,22CF curlywedge,\
      22D0 Sub,22D1 Supset,22D2 Cap,22D3 Cup,22D4 pitchfork,22D5 epar,22D6 lessdot,22D7 gtrdot,\
-     22D8 Ll,22D8+338 nLl,22D9 Gg,22D9+338 nGg,22DA lesseqgtr,22DA+FE00 lesg,22DB gtreqless,\
+     22D8 Ll,22D8+0338 nLl,22D9 Gg,22D9+0338 nGg,22DA lesseqgtr,22DA+FE00 lesg,22DB gtreqless,\
      22DB+FE00 gesl,22DE curlyeqprec,22DF cuesc,22E0 NotPrecedesSlantEqual,\
      22E1 NotSucceedsSlantEqual,22E2 NotSquareSubsetEqual,22E3 NotSquareSupersetEqual,22E6 lnsim,\
      22E7 gnsim,22E8 precnsim,22E9 scnsim,22EA nltri,22EB ntriangleright,22EC nltrie,\
      22ED NotRightTriangleEqual,22EE vellip,22EF ctdot,22F0 utdot,22F1 dtdot,22F2 disin,\
-     22F3 isinsv,22F4 isins,22F5 isindot,22F5+338 notindot,22F6 notinvc,22F7 notinvb,22F9 isinE,\
-     22F9+338 notinE,22FA nisd,22FB xnis,22FC nis,22FD notnivc,22FE notnivb,2305 barwed,\
+     22F3 isinsv,22F4 isins,22F5 isindot,22F5+0338 notindot,22F6 notinvc,22F7 notinvb,22F9 isinE,\
+     22F9+0338 notinE,22FA nisd,22FB xnis,22FC nis,22FD notnivc,22FE notnivb,2305 barwed,\
      2306 doublebarwedge,2308 lceil,2309 RightCeiling,230A LeftFloor,230B RightFloor,230C drcrop,\
      230D dlcrop,230E urcrop,230F ulcrop,2310 bnot,2312 profline,2313 profsurf,2315 telrec,\
      2316 target,231C ulcorner,231D urcorner,231E llcorner,231F drcorn,2322 frown,2323 smile,\
@@ -145,7 +152,7 @@ pub const NAMES: &str = "\
      290E lBarr,290F dbkarow,2910 drbkarow,2911 DDotrahd,2912 UpArrowBar,2913 DownArrowBar,\
      2916 Rarrtl,2919 latail,291A ratail,291B lAtail,291C rAtail,291D larrfs,291E rarrfs,\
      291F larrbfs,2920 rarrbfs,2923 nwarhk,2924 nearhk,2925 searhk,2926 swarhk,2927 nwnear,\
-     2928 toea,2929 seswar,292A swnwar,2933 rarrc,2933+338 nrarrc,2935 cudarrr,2936 ldca,\
+     2928 toea,2929 seswar,292A swnwar,2933 rarrc,2933+0338 nrarrc,2935 cudarrr,2936 ldca,\
      2937 rdca,2938 cudarrl,2939 larrpl,293C curarrm,293D cularrp,2945 rarrpl,2948 harrcir,\
      2949 Uarrocir,294A lurdshar,294B ldrushar,294E LeftRightVector,294F RightUpDownVector,\
      2950 DownLeftRightVector,2951 LeftUpDownVector,2952 LeftVectorBar,2953 RightVectorBar,\
@@ -164,7 +171,7 @@ pub const NAMES: &str = "\
      29B2 cemptyv,29B3 raemptyv,29B4 laemptyv,29B5 ohbar,29B6 omid,29B7 opar,29B9 operp,\
      29BB olcross,29BC odsold,29BE olcir,29BF ofcir,29C0 olt,29C1 ogt,29C2 cirscir,29C3 cirE,\
      29C4 solb,29C5 bsolb,29C9 boxbox,29CD trisb,29CE rtriltri,29CF LeftTriangleBar,\
-     29CF+338 NotLeftTriangleBar,29D0 RightTriangleBar,29D0+338 NotRightTriangleBar,29DC iinfin,\
+     29CF+0338 NotLeftTriangleBar,29D0 RightTriangleBar,29D0+0338 NotRightTriangleBar,29DC iinfin,\
      29DD infintie,29DE nvinfin,29E3 eparsl,29E4 smeparsl,29E5 eqvparsl,29EB lozf,\
      29F4 RuleDelayed,29F6 dsol,2A00 xodot,2A01 bigoplus,2A02 bigotimes,2A04 biguplus,\
      2A06 bigsqcup,2A0C iiiint,2A0D fpartint,2A10 cirfnint,2A11 awint,2A12 rppolint,2A13 scpolint,\
@@ -175,21 +182,21 @@ pub const NAMES: &str = "\
      2A3F amalg,2A40 capdot,2A42 ncup,2A43 ncap,2A44 capand,2A45 cupor,2A46 cupcap,2A47 capcup,\
      2A48 cupbrcap,2A49 capbrcup,2A4A cupcup,2A4B capcap,2A4C ccups,2A4D ccaps,2A50 ccupssm,\
      2A53 And,2A54 Or,2A55 andand,2A56 oror,2A57 orslope,2A58 andslope,2A5A andv,2A5B orv,\
-     2A5C andd,2A5D ord,2A5F wedbar,2A66 sdote,2A6A simdot,2A6D congdot,2A6D+338 ncongdot,\
-     2A6E easter,2A6F apacir,2A70 apE,2A70+338 napE,2A71 eplus,2A72 pluse,2A73 Esim,2A74 Colone,\
+     2A5C andd,2A5D ord,2A5F wedbar,2A66 sdote,2A6A simdot,2A6D congdot,2A6D+0338 ncongdot,\
+     2A6E easter,2A6F apacir,2A70 apE,2A70+0338 napE,2A71 eplus,2A72 pluse,2A73 Esim,2A74 Colone,\
      2A75 Equal,2A77 ddotseq,2A78 equivDD,2A79 ltcir,2A7A gtcir,2A7B ltquest,2A7C gtquest,\
-     2A7D les,2A7D+338 nles,2A7E ges,2A7E+338 nges,2A7F lesdot,2A80 gesdot,2A81 lesdoto,\
+     2A7D les,2A7D+0338 nles,2A7E ges,2A7E+0338 nges,2A7F lesdot,2A80 gesdot,2A81 lesdoto,\
      2A82 gesdoto,2A83 lesdotor,2A84 gesdotol,2A85 lap,2A86 gap,2A87 lne,2A88 gne,2A89 lnap,\
      2A8A gnap,2A8B lesseqqgtr,2A8C gEl,2A8D lsime,2A8E gsime,2A8F lsimg,2A90 gsiml,2A91 lgE,\
      2A92 glE,2A93 lesges,2A94 gesles,2A95 els,2A96 egs,2A97 elsdot,2A98 egsdot,2A99 el,2A9A eg,\
-     2A9D siml,2A9E simg,2A9F simlE,2AA0 simgE,2AA1 LessLess,2AA1+338 NotNestedLessLess,\
-     2AA2 GreaterGreater,2AA2+338 NotNestedGreaterGreater,2AA4 glj,2AA5 gla,2AA6 ltcc,2AA7 gtcc,\
+     2A9D siml,2A9E simg,2A9F simlE,2AA0 simgE,2AA1 LessLess,2AA1+0338 NotNestedLessLess,\
+     2AA2 GreaterGreater,2AA2+0338 NotNestedGreaterGreater,2AA4 glj,2AA5 gla,2AA6 ltcc,2AA7 gtcc,\
      2AA8 lescc,2AA9 gescc,2AAA smt,2AAB lat,2AAC smte,2AAC+FE00 smtes,2AAD late,2AAD+FE00 lates,\
-     2AAE bumpE,2AAF preceq,2AAF+338 NotPrecedesEqual,2AB0 SucceedsEqual,\
-     2AB0+338 NotSucceedsEqual,2AB3 prE,2AB4 scE,2AB5 precneqq,2AB6 scnE,2AB7 precapprox,\
+     2AAE bumpE,2AAF preceq,2AAF+0338 NotPrecedesEqual,2AB0 SucceedsEqual,\
+     2AB0+0338 NotSucceedsEqual,2AB3 prE,2AB4 scE,2AB5 precneqq,2AB6 scnE,2AB7 precapprox,\
      2AB8 succapprox,2AB9 precnapprox,2ABA succnapprox,2ABB Pr,2ABC Sc,2ABD subdot,2ABE supdot,\
      2ABF subplus,2AC0 supplus,2AC1 submult,2AC2 supmult,2AC3 subedot,2AC4 supedot,2AC5 subE,\
-     2AC5+338 nsubE,2AC6 supseteqq,2AC6+338 nsupseteqq,2AC7 subsim,2AC8 supsim,2ACB subsetneqq,\
+     2AC5+0338 nsubE,2AC6 supseteqq,2AC6+0338 nsupseteqq,2AC7 subsim,2AC8 supsim,2ACB subsetneqq,\
      2ACB+FE00 vsubnE,2ACC supnE,2ACC+FE00 varsupsetneqq,2ACF csub,2AD0 csup,2AD1 csube,\
      2AD2 csupe,2AD3 subsup,2AD4 supsub,2AD5 subsub,2AD6 supsup,2AD7 suphsub,2AD8 supdsub,\
      2AD9 forkv,2ADA topfork,2ADB mlcp,2AE4 Dashv,2AE6 Vdashl,2AE7 Barv,2AE8 vBar,2AE9 vBarv,\
