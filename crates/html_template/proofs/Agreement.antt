@@ -18,10 +18,10 @@ use Rattle.html_template.specs.declared.parts.SlotPlace.TheVariants as slot
 use Rattle.hesc_specs.specs.declared.classes.Class.TheVariants as class
 use Rattle.hesc_places.specs.declared.place.places.Place.TheVariants as place
 use Rattle.hesc_places.specs.Places.Readings.{reading}
-use Rattle.html_template.specs.Actions.{read_byte}
-use Rattle.html_template.specs.States.{In, Ordinary, at}
-use Rattle.html_template.specs.Tokenization.{consume}
-use Rattle.html_template.specs.Transitions.{keeps}
+use Rattle.html_template.specs.Tokenizer.Actions.{read_byte}
+use Rattle.html_template.specs.Tokenizer.States.{In, Ordinary, at}
+use Rattle.html_template.specs.Tokenizer.Tokenization.{consume}
+use Rattle.html_template.specs.Tokenizer.Transitions.{keeps}
 use Rattle.html_template.specs.Agreement.{Agrees}
 use Rattle.html_template.proofs.Passing.{Passes, passes_none, passes_both, passes_byte}
 use Rattle.html_template.proofs.HtmlSlots.{ReadsHtml, passes_character, text_reads, double_reads, single_reads}

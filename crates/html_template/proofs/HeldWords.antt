@@ -2,8 +2,8 @@
 use Rattle.std.proofs.Common.{ℕ, ◌≡◌, List, refl}
 use Rattle.html_template.specs.declared.tokenizer.states.Kind.{Kind}
 use Rattle.html_template.specs.declared.tokenizer.states.Kind.TheVariants.{Ordinary, Forbidden, Scheme, AfterScheme, AfterSlash, AfterSlashes, Host, ScriptType}
-use Rattle.html_template.specs.Names.{reference_read}
-use Rattle.html_template.specs.Phases.{attribute_in}
+use Rattle.html_template.specs.Tokenizer.Names.{reference_read}
+use Rattle.html_template.specs.Tokenizer.Phases.{attribute_in}
 
 pub reference_read_held : (kind : Kind) (before word : List ℕ) →
     reference_read (attribute_in kind before) ≡ reference_read (attribute_in kind word)

@@ -19,11 +19,11 @@ use Rattle.hesc_places.proofs.Grammars.ReferenceImages.{IsRead, reference_to_is_
 use Rattle.html_template.specs.declared.parts.SlotPlace.{SlotPlace}
 use Rattle.html_template.specs.declared.parts.SlotPlace.TheVariants as place
 use Rattle.html_template.specs.declared.tokenizer.states.Content.{Content}
-use Rattle.html_template.specs.Actions.{read_byte}
-use Rattle.html_template.specs.States.{State, In, Within, BeforeValue, Ordinary, at}
-use Rattle.html_template.specs.Tokenization.{consume}
-use Rattle.html_template.specs.Transitions.{goes, keeps}
-use Rattle.html_template.specs.Values.{reference_byte}
+use Rattle.html_template.specs.Tokenizer.Actions.{read_byte}
+use Rattle.html_template.specs.Tokenizer.States.{State, In, Within, BeforeValue, Ordinary, at}
+use Rattle.html_template.specs.Tokenizer.Tokenization.{consume}
+use Rattle.html_template.specs.Tokenizer.Transitions.{goes, keeps}
+use Rattle.html_template.specs.Tokenizer.Values.{reference_byte}
 use Rattle.html_template.proofs.Passing.{Passes, passes_none, passes_both, passes_byte, passes_one}
 
 -- in the state a value begins or goes on that has references, and each byte outside of the class is kept

@@ -1,9 +1,9 @@
 -- Bytes from one state of the tokenizer to another.
 use Rattle.std.proofs.Common.{ℕ, ◌≡◌, List, [], ◌∷◌, ◌++◌, refl, ap, ◌∙◌, sym, append_assoc, append-nil}
-use Rattle.html_template.specs.Actions.{Action}
-use Rattle.html_template.specs.States.{Tokenizer}
-use Rattle.html_template.specs.Tokenization.{consume, state_after, actions_of}
-use Rattle.html_template.specs.Transitions.{Transition, moves}
+use Rattle.html_template.specs.Tokenizer.Actions.{Action}
+use Rattle.html_template.specs.Tokenizer.States.{Tokenizer}
+use Rattle.html_template.specs.Tokenizer.Tokenization.{consume, state_after, actions_of}
+use Rattle.html_template.specs.Tokenizer.Transitions.{Transition, moves}
 
 -- the bytes lead from one state to the other, with these actions
 pub record Passes (t : Tokenizer) (bytes : List ℕ) (done : List Action) (u : Tokenizer) : Type 0 where

@@ -13,11 +13,11 @@ use Rattle.hesc_places.proofs.Grammars.HexEscapes.{is_digit-hex_digit, digits_va
 use Rattle.html_template.specs.declared.parts.SlotPlace.{SlotPlace}
 use Rattle.html_template.specs.declared.parts.SlotPlace.TheVariants as place
 use Rattle.html_template.specs.declared.tokenizer.states.Content.{Content}
-use Rattle.html_template.specs.Actions.{Action, read_byte}
-use Rattle.html_template.specs.CodeStrings.{ends_line, script_escape_byte}
-use Rattle.html_template.specs.States.{In, Within, Ordinary, at}
-use Rattle.html_template.specs.Tokenization.{consume}
-use Rattle.html_template.specs.Transitions.{goes}
+use Rattle.html_template.specs.Tokenizer.Actions.{Action, read_byte}
+use Rattle.html_template.specs.Tokenizer.CodeStrings.{ends_line, script_escape_byte}
+use Rattle.html_template.specs.Tokenizer.States.{In, Within, Ordinary, at}
+use Rattle.html_template.specs.Tokenizer.Tokenization.{consume}
+use Rattle.html_template.specs.Tokenizer.Transitions.{goes}
 use Rattle.html_template.proofs.Passing.{Passes, passes_none, passes_both, passes_byte, passes_one}
 use Rattle.html_template.proofs.StringSlots.{ReadsString, StaysIn, ascii_stays, begins_escape, high_stays}
 

@@ -6,11 +6,11 @@ use Rattle.hesc_specs.specs.Text.Ascii.{backslash, less_than}
 use Rattle.hesc_specs.proofs.Strings.CharacterBytes.{encode_two, encode_three, encode_four}
 use Rattle.html_template.specs.declared.parts.SlotPlace.{SlotPlace}
 use Rattle.html_template.specs.declared.tokenizer.states.Content.{Content}
-use Rattle.html_template.specs.Actions.{Action, read_byte}
-use Rattle.html_template.specs.CodeStrings.{string_byte}
-use Rattle.html_template.specs.States.{Tokenizer, In, Within, Ordinary, at}
-use Rattle.html_template.specs.Tokenization.{consume}
-use Rattle.html_template.specs.Transitions.{goes, keeps}
+use Rattle.html_template.specs.Tokenizer.Actions.{Action, read_byte}
+use Rattle.html_template.specs.Tokenizer.CodeStrings.{string_byte}
+use Rattle.html_template.specs.Tokenizer.States.{Tokenizer, In, Within, Ordinary, at}
+use Rattle.html_template.specs.Tokenizer.Tokenization.{consume}
+use Rattle.html_template.specs.Tokenizer.Transitions.{goes, keeps}
 use Rattle.html_template.proofs.Passing.{Passes, passes_none, passes_byte}
 
 -- a string that this mark ends, and in which these bytes may not stand

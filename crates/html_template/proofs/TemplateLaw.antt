@@ -8,10 +8,10 @@ use Rattle.html_template.specs.declared.parts.SlotPlace.{SlotPlace}
 use Rattle.html_template.specs.declared.parts.SlotPlace.TheVariants as place
 use Rattle.html_template.specs.declared.tokenizer.states.Content.{Content}
 use Rattle.html_template.specs.declared.tokenizer.states.Content.TheVariants.{Normal, Title, Textarea, Script, DataBlock, Style}
-use Rattle.html_template.specs.Actions.{read_byte}
-use Rattle.html_template.specs.States.{State, Attribute, Ordinary, Tokenizer, In, BeforeValue, Refused, InCode, at, at_value, refused, data_state}
+use Rattle.html_template.specs.Tokenizer.Actions.{read_byte}
+use Rattle.html_template.specs.Tokenizer.States.{State, Attribute, Ordinary, Tokenizer, In, BeforeValue, Refused, InCode, at, at_value, refused, data_state}
 use Rattle.html_template.specs.Templates.{Chunk, Markup, Slot, encoder_for, in_code, standing_in, standing, stands, state_after_slot, state_after_all, page, actions_all, MayFill, Fill}
-use Rattle.html_template.specs.Tokenization.{consume, state_after}
+use Rattle.html_template.specs.Tokenizer.Tokenization.{consume, state_after}
 use Rattle.html_template.proofs.HtmlSlots.{text_stays, double_stays, single_stays, unquoted_stays, first_stays}
 use Rattle.html_template.proofs.Passing.{Passes, passes_itself, passes_both}
 use Rattle.html_template.proofs.ScriptSlots.{script_stays, script_single_reads, script_double_reads}

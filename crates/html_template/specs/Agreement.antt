@@ -4,9 +4,9 @@ use Rattle.hesc_places.specs.Places.Readings.{reading}
 use Rattle.hesc_places.specs.declared.place.places.Place.{Place}
 use Rattle.html_template.specs.declared.parts.SlotPlace.{SlotPlace}
 use Rattle.html_template.specs.declared.tokenizer.states.Content.{Content}
-use Rattle.html_template.specs.Actions.{read_byte}
-use Rattle.html_template.specs.States.{In, at}
-use Rattle.html_template.specs.Tokenization.{state_after, actions_of}
+use Rattle.html_template.specs.Tokenizer.Actions.{read_byte}
+use Rattle.html_template.specs.Tokenizer.States.{In, at}
+use Rattle.html_template.specs.Tokenizer.Tokenization.{state_after, actions_of}
 
 -- up to the mark at which a place's reading ends, the tokenizer stays in the value, and its actions
 -- are at the value that the place's reading found

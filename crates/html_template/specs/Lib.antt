@@ -1,13 +1,3 @@
-pub mod States
-pub mod Actions
-pub mod Names
-pub mod Transitions
-pub mod Tags
-pub mod Values
-pub mod Comments
-pub mod CodeStrings
-pub mod CodeBytes
-pub mod Tokenization
 pub mod Templates
 pub mod TemplateFaults
 pub mod FillFaults
@@ -15,4 +5,4 @@ pub mod Structure
 pub mod Tokens
 pub mod Agreement
 pub mod TemplatePieces
-pub mod Phases
+pub mod Tokenizer

@@ -8,9 +8,9 @@ use Rattle.html_template.specs.declared.tokenizer.reader.Standing.{Standing}
 use Rattle.html_template.specs.declared.tokenizer.reader.Standing.TheVariants.{Stands, Nowhere, Barred}
 use Rattle.html_template.specs.declared.tokenizer.states.Content.{Content}
 use Rattle.html_template.specs.declared.tokenizer.states.Content.TheVariants.{Normal}
-use Rattle.html_template.specs.States.{State, Attribute, Ordinary, Tokenizer, In, Refused}
+use Rattle.html_template.specs.Tokenizer.States.{State, Attribute, Ordinary, Tokenizer, In, Refused}
 use Rattle.html_template.specs.Templates.{Given, GivenMarkup, GivenSlot, standing, state_after_slot}
-use Rattle.html_template.specs.Tokenization.{state_after}
+use Rattle.html_template.specs.Tokenizer.Tokenization.{state_after}
 
 abbrev pub is_refused : State → Bool
 is_refused Refused = true

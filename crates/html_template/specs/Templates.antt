@@ -15,10 +15,10 @@ use Rattle.html_template.specs.declared.tokenizer.reader.Standing.{Standing}
 use Rattle.html_template.specs.declared.tokenizer.reader.Standing.TheVariants.{Stands, Nowhere, Barred}
 use Rattle.html_template.specs.declared.tokenizer.states.Content.{Content}
 use Rattle.html_template.specs.declared.tokenizer.states.Content.TheVariants as content
-use Rattle.html_template.specs.Actions.{Action, read_byte}
-use Rattle.html_template.specs.States as state
-use Rattle.html_template.specs.States.{State, Attribute, Tokenizer, at, refused}
-use Rattle.html_template.specs.Tokenization.{state_after, actions_of}
+use Rattle.html_template.specs.Tokenizer.Actions.{Action, read_byte}
+use Rattle.html_template.specs.Tokenizer.States as state
+use Rattle.html_template.specs.Tokenizer.States.{State, Attribute, Tokenizer, at, refused}
+use Rattle.html_template.specs.Tokenizer.Tokenization.{state_after, actions_of}
 
 -- a piece of a template
 pub data Chunk : Type 0 where

@@ -3,7 +3,7 @@
 -- with the code of scripts and styles byte by byte, and their strings.
 use Rattle.std.specs.Prelude.{ℕ, Bool, true, false, List, [], ◌∷◌, ◌++◌, map}
 use Rattle.std.specs.List.{filter}
-use Rattle.html_template.specs.Actions.{Action, EmitDoctype, NewComment, CommentByte, EmitComment, EmitByte, NewStartTag, NewEndTag, TagNameByte, NewAttribute, NameByte, ValueByte, SetSelfClosing, EmitTag, CodeByte, StringStart, StringByte, StringEnd}
+use Rattle.html_template.specs.Tokenizer.Actions.{Action, EmitDoctype, NewComment, CommentByte, EmitComment, EmitByte, NewStartTag, NewEndTag, TagNameByte, NewAttribute, NameByte, ValueByte, SetSelfClosing, EmitTag, CodeByte, StringStart, StringByte, StringEnd}
 
 pub record Attribute : Type 0 where
   pub name : List ℕ

@@ -2,7 +2,7 @@
 ghost use Rattle.std.specs.Prelude.{◌≡◌, ◌++◌, map};
 ghost use Rattle.std.specs.List.{AllByRecursion};
 ghost use Rattle.std.specs.Str.{IsUtf8};
-ghost use Rattle.html_template.specs.States.{data_state};
+ghost use Rattle.html_template.specs.Tokenizer.States.{data_state};
 ghost use Rattle.html_template.specs.Structure.{IsReadAs, structure};
 ghost use Rattle.html_template.specs.Templates.{
   Fill,
@@ -12,7 +12,7 @@ ghost use Rattle.html_template.specs.Templates.{
   state_after_all,
   texts_of,
 };
-ghost use Rattle.html_template.specs.Tokenization.{actions_of};
+ghost use Rattle.html_template.specs.Tokenizer.Tokenization.{actions_of};
 ghost use Rattle.hesc_specs.specs.Text.Ascii.{double_quote, less_than, single_quote};
 ghost use Rattle.hesc_places.specs.declared.place.places.Place.TheVariants as place;
 ghost use Rattle.html_template.specs.Agreement.{AgreesWith};

@@ -3,8 +3,8 @@ ghost use Rattle.std.specs.Prelude.{◌≡◌, ◌++◌, ◌∷◌, [], ◌≤�
 ghost use Rattle.std.specs.String.{string_bytes};
 ghost use Rattle.hesc_engine.specs.Forms.{Appended, string_room};
 ghost use Rattle.html_template.specs.FillFaults.{AnswersFill, fill_fault};
-ghost use Rattle.html_template.specs.Phases.{tokenizer_of};
-ghost use Rattle.html_template.specs.States.{data_state};
+ghost use Rattle.html_template.specs.Tokenizer.Phases.{tokenizer_of};
+ghost use Rattle.html_template.specs.Tokenizer.States.{data_state};
 ghost use Rattle.html_template.specs.Structure.{IsReadAs};
 ghost use Rattle.html_template.specs.TemplateFaults.{AnswersFault, TakesPart, fault_from};
 ghost use Rattle.html_template.specs.Templates.{

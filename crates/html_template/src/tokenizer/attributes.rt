@@ -1,7 +1,7 @@
 //! What the names of elements and attributes, and the values of some attributes, mean.
 ghost use Rattle.std.specs.Prelude.{◌≡◌, ℕ, List, [], ◌==◌, if◌then◌else◌};
 ghost use Rattle.hesc_specs.specs.Text.Ascii.{slash};
-ghost use Rattle.html_template.specs.Names.{
+ghost use Rattle.html_template.specs.Tokenizer.Names.{
   attribute_of,
   begins_path,
   content_behind,
@@ -17,7 +17,7 @@ ghost use Rattle.html_template.specs.Names.{
   value_byte_read,
   value_of,
 };
-ghost use Rattle.html_template.specs.Phases.{attribute_in, moved, word_after};
+ghost use Rattle.html_template.specs.Tokenizer.Phases.{attribute_in, moved, word_after};
 ghost use Rattle.html_template.specs.declared.tokenizer.states.Kind.TheVariants as kind;
 
 use crate::tokenizer::states::{Content, Kind, Move, Phase, Word};

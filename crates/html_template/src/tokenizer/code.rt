@@ -1,6 +1,6 @@
 //! What a byte does in the code of a script or a style, outside of strings.
 ghost use Rattle.std.specs.Prelude.{◌≡◌, ℕ, List};
-ghost use Rattle.html_template.specs.CodeBytes.{
+ghost use Rattle.html_template.specs.Tokenizer.CodeBytes.{
   behind_less,
   block_byte,
   block_star_byte,
@@ -18,7 +18,7 @@ ghost use Rattle.html_template.specs.CodeBytes.{
   url_byte,
   url_open_byte,
 };
-ghost use Rattle.html_template.specs.Phases.{moved};
+ghost use Rattle.html_template.specs.Tokenizer.Phases.{moved};
 
 use crate::parts::SlotPlace;
 use crate::tokenizer::states::{Code, Content, Kind, Move, Phase, Word, refuses, to};

@@ -1,6 +1,6 @@
 //! What a byte does in a comment and in a DOCTYPE.
 ghost use Rattle.std.specs.Prelude.{◌≡◌, ℕ, List, []};
-ghost use Rattle.html_template.specs.Comments.{
+ghost use Rattle.html_template.specs.Tokenizer.Comments.{
   after_doctype_byte,
   before_doctype_byte,
   comment_byte,
@@ -11,8 +11,8 @@ ghost use Rattle.html_template.specs.Comments.{
   declaration_byte,
   doctype_byte,
 };
-ghost use Rattle.html_template.specs.Phases.{moved, state_of};
-ghost use Rattle.html_template.specs.States.{at};
+ghost use Rattle.html_template.specs.Tokenizer.Phases.{moved, state_of};
+ghost use Rattle.html_template.specs.Tokenizer.States.{at};
 ghost use Rattle.html_template.specs.declared.tokenizer.states.Content.TheVariants.{Normal};
 
 use crate::parts::SlotPlace;

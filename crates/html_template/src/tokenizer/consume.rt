@@ -1,8 +1,8 @@
 //! What the tokenizer does at a byte.
 ghost use Rattle.std.specs.Prelude.{◌≡◌};
-ghost use Rattle.html_template.specs.Names.{reference_read};
-ghost use Rattle.html_template.specs.Phases.{IsNoScriptEscape, attribute_in, moved, state_of};
-ghost use Rattle.html_template.specs.Tokenization.{byte_in, value_byte, within_byte};
+ghost use Rattle.html_template.specs.Tokenizer.Names.{reference_read};
+ghost use Rattle.html_template.specs.Tokenizer.Phases.{IsNoScriptEscape, attribute_in, moved, state_of};
+ghost use Rattle.html_template.specs.Tokenizer.Tokenization.{byte_in, value_byte, within_byte};
 ghost use Rattle.html_template.specs.declared.tokenizer.states.Phase.TheVariants as phase;
 
 use crate::parts::SlotPlace;

@@ -1,12 +1,12 @@
 //! The running tokenizer.
 ghost use Rattle.std.specs.Prelude.{◌≡◌, ◌++◌, ◌∷◌, [], ◌↔◌, OnOk, IsTrue};
-ghost use Rattle.html_template.specs.CodeStrings.{script_escape_byte};
-ghost use Rattle.html_template.specs.Names.{reference_read};
-ghost use Rattle.html_template.specs.Phases.{attribute_in, moved, tokenizer_of};
-ghost use Rattle.html_template.specs.States.{data_state};
+ghost use Rattle.html_template.specs.Tokenizer.CodeStrings.{script_escape_byte};
+ghost use Rattle.html_template.specs.Tokenizer.Names.{reference_read};
+ghost use Rattle.html_template.specs.Tokenizer.Phases.{attribute_in, moved, tokenizer_of};
+ghost use Rattle.html_template.specs.Tokenizer.States.{data_state};
 ghost use Rattle.html_template.specs.TemplateFaults.{is_refused, may_end};
 ghost use Rattle.html_template.specs.Templates.{AfterStanding, standing};
-ghost use Rattle.html_template.specs.Tokenization.{consume, state_after};
+ghost use Rattle.html_template.specs.Tokenizer.Tokenization.{consume, state_after};
 
 use crate::parts::SlotPlace;
 use crate::tokenizer::consume::byte_in;
@@ -76,7 +76,7 @@ impl<A: Allocator> Reader<A> {
         self.go(next)
     }
 
-    #[tactic(auto, unfolding(crate::specs::Tokenization::consume))]
+    #[tactic(auto, unfolding(crate::specs::Tokenizer::Tokenization::consume))]
     fn step(&mut self, byte: u8) -> Result<(), AllocError>
         ensures { OnOk result (tokenizer_of self.new
             ≡ (consume (tokenizer_of self.old) byte).next) }

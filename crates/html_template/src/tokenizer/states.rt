@@ -1,7 +1,7 @@
 //! The tokenizer's states as they run: without the word that some of them hold, which stands beside.
 ghost use Rattle.std.specs.Prelude.{◌≡◌, ℕ, List, []};
-ghost use Rattle.html_template.specs.Phases.{moved, state_of, word_after};
-ghost use Rattle.html_template.specs.States.{at, refused};
+ghost use Rattle.html_template.specs.Tokenizer.Phases.{moved, state_of, word_after};
+ghost use Rattle.html_template.specs.Tokenizer.States.{at, refused};
 
 use crate::parts::SlotPlace;
 

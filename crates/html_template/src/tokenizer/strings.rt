@@ -1,6 +1,6 @@
 //! What a byte does in a string of a script or a style.
 ghost use Rattle.std.specs.Prelude.{◌≡◌, ℕ, List};
-ghost use Rattle.html_template.specs.CodeStrings.{
+ghost use Rattle.html_template.specs.Tokenizer.CodeStrings.{
   character_of_escape,
   script_escape_byte,
   script_string_byte,
@@ -8,11 +8,11 @@ ghost use Rattle.html_template.specs.CodeStrings.{
   style_escape_byte,
   style_string_byte,
 };
-ghost use Rattle.html_template.specs.Names.{reference_read};
-ghost use Rattle.html_template.specs.Phases.{attribute_in, moved};
-ghost use Rattle.html_template.specs.States.{at_value};
-ghost use Rattle.html_template.specs.States as state;
-ghost use Rattle.html_template.specs.Transitions.{Transition};
+ghost use Rattle.html_template.specs.Tokenizer.Names.{reference_read};
+ghost use Rattle.html_template.specs.Tokenizer.Phases.{attribute_in, moved};
+ghost use Rattle.html_template.specs.Tokenizer.States.{at_value};
+ghost use Rattle.html_template.specs.Tokenizer.States as state;
+ghost use Rattle.html_template.specs.Tokenizer.Transitions.{Transition};
 
 use crate::parts::SlotPlace;
 use crate::tokenizer::attributes::reference_read;

@@ -1,8 +1,8 @@
 //! What a byte does in a tag.
 ghost use Rattle.std.specs.Prelude.{◌≡◌, ℕ, List};
-ghost use Rattle.html_template.specs.Phases.{moved, state_of};
-ghost use Rattle.html_template.specs.States.{State, at};
-ghost use Rattle.html_template.specs.Tags.{
+ghost use Rattle.html_template.specs.Tokenizer.Phases.{moved, state_of};
+ghost use Rattle.html_template.specs.Tokenizer.States.{State, at};
+ghost use Rattle.html_template.specs.Tokenizer.Tags.{
   after_name_byte,
   after_value_byte,
   attribute_name_byte,
@@ -23,7 +23,7 @@ ghost use Rattle.html_template.specs.Tags.{
   tag_name_byte,
   tag_open_byte,
 };
-ghost use Rattle.html_template.specs.Transitions.{Transition};
+ghost use Rattle.html_template.specs.Tokenizer.Transitions.{Transition};
 
 use crate::parts::SlotPlace;
 use crate::tokenizer::attributes::{content_of, ends_content, value_of};

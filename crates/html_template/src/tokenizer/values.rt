@@ -1,9 +1,9 @@
 //! What a byte does in text and in the value of an attribute.
 ghost use Rattle.std.specs.Prelude.{◌≡◌, ℕ, List};
-ghost use Rattle.html_template.specs.Names.{reference_read};
-ghost use Rattle.html_template.specs.Phases.{attribute_in, moved};
-ghost use Rattle.html_template.specs.Transitions.{keeps};
-ghost use Rattle.html_template.specs.Values.{
+ghost use Rattle.html_template.specs.Tokenizer.Names.{reference_read};
+ghost use Rattle.html_template.specs.Tokenizer.Phases.{attribute_in, moved};
+ghost use Rattle.html_template.specs.Tokenizer.Transitions.{keeps};
+ghost use Rattle.html_template.specs.Tokenizer.Values.{
   before_value_byte,
   begins_character,
   quoted_byte,

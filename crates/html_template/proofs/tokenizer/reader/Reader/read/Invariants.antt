@@ -1,6 +1,6 @@
 use Rattle.std.proofs.Common.{◌≡◌, length}
-use Rattle.html_template.specs.Phases.{tokenizer_of}
-use Rattle.html_template.specs.Tokenization.{state_after}
+use Rattle.html_template.specs.Tokenizer.Phases.{tokenizer_of}
+use Rattle.html_template.specs.Tokenizer.Tokenization.{state_after}
 use Rattle.html_template.proofs.tokenizer.reader.Reader.read.Given as goal
 
 abbrev pub invariant-bytes : goal.invariant-bytes

@@ -9,8 +9,8 @@ use Rattle.html_template.specs.declared.tokenizer.states.Phase.{Phase}
 use Rattle.html_template.specs.declared.tokenizer.states.Phase.TheVariants as phase
 use Rattle.html_template.specs.declared.tokenizer.states.Word.{Word}
 use Rattle.html_template.specs.declared.tokenizer.states.Word.TheVariants.{New, Keep, Begin, Add}
-use Rattle.html_template.specs.States as state
-use Rattle.html_template.specs.States.{State, Attribute, Tokenizer, at_value}
+use Rattle.html_template.specs.Tokenizer.States as state
+use Rattle.html_template.specs.Tokenizer.States.{State, Attribute, Tokenizer, at_value}
 
 abbrev pub state_of : Phase → List ℕ → State
 state_of (phase.In p) word = state.In p

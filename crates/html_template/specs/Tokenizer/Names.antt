@@ -5,7 +5,7 @@ use Rattle.hesc_specs.specs.Text.Ascii.{number_sign, slash}
 use Rattle.hesc_specs.specs.Text.Words.{begins}
 use Rattle.html_template.specs.declared.tokenizer.states.Content.{Content}
 use Rattle.html_template.specs.declared.tokenizer.states.Content.TheVariants.{Normal, Title, Textarea, Script, DataBlock, Style}
-use Rattle.html_template.specs.States.{Tokenizer, Attribute, Ordinary, Forbidden, Scheme, AfterScheme, AfterSlash, AfterSlashes, Host, ScriptType, BeforeValue, at_value}
+use Rattle.html_template.specs.Tokenizer.States.{Tokenizer, Attribute, Ordinary, Forbidden, Scheme, AfterScheme, AfterSlash, AfterSlashes, Host, ScriptType, BeforeValue, at_value}
 
 -- elements whose content the tree construction reads in ways of its own (13.2.6), which this profile leaves out
 abbrev pub is_left_out : List ℕ → Bool

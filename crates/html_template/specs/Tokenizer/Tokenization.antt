@@ -4,16 +4,16 @@ use Rattle.hesc_specs.specs.Text.Ascii.{double_quote, single_quote, slash}
 use Rattle.html_template.specs.declared.parts.SlotPlace.{SlotPlace}
 use Rattle.html_template.specs.declared.parts.SlotPlace.TheVariants.{Text, DoubleQuoted, SingleQuoted, Unquoted, ScriptSingle, ScriptDouble, StyleSingle, StyleDouble}
 use Rattle.html_template.specs.declared.tokenizer.states.Content.{Content}
-use Rattle.html_template.specs.Actions.{Action}
-use Rattle.html_template.specs.CodeBytes.{in_code_byte, code_less_byte}
-use Rattle.html_template.specs.CodeStrings.{script_string_byte, style_string_byte, string_less_byte, script_escape_byte, style_escape_byte}
-use Rattle.html_template.specs.Comments.{declaration_byte, before_doctype_byte, doctype_byte, after_doctype_byte, comment_start_byte, comment_start_dash_byte, comment_byte, comment_dash_byte, comment_end_byte}
-use Rattle.html_template.specs.Names.{reference_read}
-use Rattle.html_template.specs.States as state
-use Rattle.html_template.specs.States.{State, Attribute, Tokenizer}
-use Rattle.html_template.specs.Tags.{tag_open_byte, end_tag_open_byte, tag_name_byte, end_tag_name_byte, end_tag_byte, before_name_byte, attribute_name_byte, after_name_byte, after_value_byte, self_closing_byte}
-use Rattle.html_template.specs.Transitions.{Transition, goes, refuses}
-use Rattle.html_template.specs.Values.{text_byte, quoted_byte, unquoted_value_byte, before_value_byte, reference_byte}
+use Rattle.html_template.specs.Tokenizer.Actions.{Action}
+use Rattle.html_template.specs.Tokenizer.CodeBytes.{in_code_byte, code_less_byte}
+use Rattle.html_template.specs.Tokenizer.CodeStrings.{script_string_byte, style_string_byte, string_less_byte, script_escape_byte, style_escape_byte}
+use Rattle.html_template.specs.Tokenizer.Comments.{declaration_byte, before_doctype_byte, doctype_byte, after_doctype_byte, comment_start_byte, comment_start_dash_byte, comment_byte, comment_dash_byte, comment_end_byte}
+use Rattle.html_template.specs.Tokenizer.Names.{reference_read}
+use Rattle.html_template.specs.Tokenizer.States as state
+use Rattle.html_template.specs.Tokenizer.States.{State, Attribute, Tokenizer}
+use Rattle.html_template.specs.Tokenizer.Tags.{tag_open_byte, end_tag_open_byte, tag_name_byte, end_tag_name_byte, end_tag_byte, before_name_byte, attribute_name_byte, after_name_byte, after_value_byte, self_closing_byte}
+use Rattle.html_template.specs.Tokenizer.Transitions.{Transition, goes, refuses}
+use Rattle.html_template.specs.Tokenizer.Values.{text_byte, quoted_byte, unquoted_value_byte, before_value_byte, reference_byte}
 
 -- a byte of a value
 abbrev pub value_byte : SlotPlace → Content → Attribute → ℕ → Transition

@@ -10,13 +10,13 @@ use Rattle.html_template.specs.declared.tokenizer.states.Code.{Code}
 use Rattle.html_template.specs.declared.tokenizer.states.Code.TheVariants as code
 use Rattle.html_template.specs.declared.tokenizer.states.Content.{Content}
 use Rattle.html_template.specs.declared.tokenizer.states.Content.TheVariants.{Script, DataBlock, Style}
-use Rattle.html_template.specs.Actions.{CodeByte, StringStart}
-use Rattle.html_template.specs.CodeStrings.{ends_line}
-use Rattle.html_template.specs.Comments.{dash}
-use Rattle.html_template.specs.States as state
-use Rattle.html_template.specs.States.{Forbidden, at_value}
-use Rattle.html_template.specs.Tags.{exclamation_mark, is_space}
-use Rattle.html_template.specs.Transitions.{Transition, goes, moves, refuses, reconsumes}
+use Rattle.html_template.specs.Tokenizer.Actions.{CodeByte, StringStart}
+use Rattle.html_template.specs.Tokenizer.CodeStrings.{ends_line}
+use Rattle.html_template.specs.Tokenizer.Comments.{dash}
+use Rattle.html_template.specs.Tokenizer.States as state
+use Rattle.html_template.specs.Tokenizer.States.{Forbidden, at_value}
+use Rattle.html_template.specs.Tokenizer.Tags.{exclamation_mark, is_space}
+use Rattle.html_template.specs.Tokenizer.Transitions.{Transition, goes, moves, refuses, reconsumes}
 
 abbrev pub asterisk : ℕ
 asterisk = 42

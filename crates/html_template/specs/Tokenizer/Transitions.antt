@@ -2,9 +2,9 @@
 use Rattle.std.specs.Prelude.{ℕ, List, [], ◌∷◌, ◌++◌}
 use Rattle.html_template.specs.declared.parts.SlotPlace.{SlotPlace}
 use Rattle.html_template.specs.declared.tokenizer.states.Content.{Content}
-use Rattle.html_template.specs.Actions.{Action, read_byte}
-use Rattle.html_template.specs.Names.{value_byte_read}
-use Rattle.html_template.specs.States.{State, In, Attribute, Tokenizer, at, at_value, refused}
+use Rattle.html_template.specs.Tokenizer.Actions.{Action, read_byte}
+use Rattle.html_template.specs.Tokenizer.Names.{value_byte_read}
+use Rattle.html_template.specs.Tokenizer.States.{State, In, Attribute, Tokenizer, at, at_value, refused}
 
 -- the tokenizer behind a byte, and its actions at it
 pub record Transition : Type 0 where

@@ -8,12 +8,12 @@ use Rattle.hesc_places.specs.Grammars.References.{body_character}
 use Rattle.html_template.specs.declared.parts.SlotPlace.{SlotPlace}
 use Rattle.html_template.specs.declared.parts.SlotPlace.TheVariants.{Text, DoubleQuoted, SingleQuoted, Unquoted}
 use Rattle.html_template.specs.declared.tokenizer.states.Content.{Content}
-use Rattle.html_template.specs.Actions.{read_byte}
-use Rattle.html_template.specs.Names.{content_behind, reference_read}
-use Rattle.html_template.specs.States as state
-use Rattle.html_template.specs.States.{Attribute, at_value}
-use Rattle.html_template.specs.Tags.{is_space, opened}
-use Rattle.html_template.specs.Transitions.{Transition, goes, moves, refuses, keeps}
+use Rattle.html_template.specs.Tokenizer.Actions.{read_byte}
+use Rattle.html_template.specs.Tokenizer.Names.{content_behind, reference_read}
+use Rattle.html_template.specs.Tokenizer.States as state
+use Rattle.html_template.specs.Tokenizer.States.{Attribute, at_value}
+use Rattle.html_template.specs.Tokenizer.Tags.{is_space, opened}
+use Rattle.html_template.specs.Tokenizer.Transitions.{Transition, goes, moves, refuses, keeps}
 
 -- at a `&`, which begins a reference, or a `\`, which begins an escape
 abbrev pub begins_character : SlotPlace → Content → Attribute → Transition

@@ -10,11 +10,11 @@ use Rattle.html_template.specs.declared.parts.SlotPlace.TheVariants as place
 use Rattle.html_template.specs.declared.tokenizer.states.Code.TheVariants.{Plain}
 use Rattle.html_template.specs.declared.tokenizer.states.Content.{Content}
 use Rattle.html_template.specs.declared.tokenizer.states.Content.TheVariants.{Normal, Title, Textarea, Script, DataBlock, Style}
-use Rattle.html_template.specs.Actions.{NewStartTag, NewEndTag, TagNameByte, NewAttribute, NameByte, SetSelfClosing, EmitTag}
-use Rattle.html_template.specs.Names.{content_of, ends_content, value_of}
-use Rattle.html_template.specs.States as state
-use Rattle.html_template.specs.States.{State, Attribute, at_value}
-use Rattle.html_template.specs.Transitions.{Transition, goes, moves, refuses}
+use Rattle.html_template.specs.Tokenizer.Actions.{NewStartTag, NewEndTag, TagNameByte, NewAttribute, NameByte, SetSelfClosing, EmitTag}
+use Rattle.html_template.specs.Tokenizer.Names.{content_of, ends_content, value_of}
+use Rattle.html_template.specs.Tokenizer.States as state
+use Rattle.html_template.specs.Tokenizer.States.{State, Attribute, at_value}
+use Rattle.html_template.specs.Tokenizer.Transitions.{Transition, goes, moves, refuses}
 
 -- white space, where a carriage return is a line feed
 abbrev pub is_space : ℕ → Bool

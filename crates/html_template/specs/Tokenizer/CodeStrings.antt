@@ -13,12 +13,12 @@ use Rattle.hesc_places.specs.declared.grammar.Step.TheVariants as step
 use Rattle.html_template.specs.declared.parts.SlotPlace.{SlotPlace}
 use Rattle.html_template.specs.declared.tokenizer.states.Code.TheVariants.{Plain}
 use Rattle.html_template.specs.declared.tokenizer.states.Content.{Content}
-use Rattle.html_template.specs.Actions.{StringByte, StringEnd, read_byte}
-use Rattle.html_template.specs.States as state
-use Rattle.html_template.specs.States.{Attribute, at_value}
-use Rattle.html_template.specs.Tags.{exclamation_mark}
-use Rattle.html_template.specs.Transitions.{Transition, goes, moves, refuses, reconsumes, keeps}
-use Rattle.html_template.specs.Values.{begins_character, character_read}
+use Rattle.html_template.specs.Tokenizer.Actions.{StringByte, StringEnd, read_byte}
+use Rattle.html_template.specs.Tokenizer.States as state
+use Rattle.html_template.specs.Tokenizer.States.{Attribute, at_value}
+use Rattle.html_template.specs.Tokenizer.Tags.{exclamation_mark}
+use Rattle.html_template.specs.Tokenizer.Transitions.{Transition, goes, moves, refuses, reconsumes, keeps}
+use Rattle.html_template.specs.Tokenizer.Values.{begins_character, character_read}
 
 -- a byte that no string holds as it stands
 abbrev pub ends_line : ℕ → Bool

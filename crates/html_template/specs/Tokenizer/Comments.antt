@@ -7,11 +7,11 @@ use Rattle.std.specs.Char.{is_ascii_alphabetic, to_ascii_lowercase}
 use Rattle.hesc_specs.specs.Text.Ascii.{greater_than}
 use Rattle.html_template.specs.declared.parts.SlotPlace.TheVariants as place
 use Rattle.html_template.specs.declared.tokenizer.states.Content.TheVariants.{Normal}
-use Rattle.html_template.specs.Actions.{Action, EmitDoctype, NewComment, CommentByte, EmitComment}
-use Rattle.html_template.specs.States as state
-use Rattle.html_template.specs.States.{State}
-use Rattle.html_template.specs.Tags.{exclamation_mark, is_space}
-use Rattle.html_template.specs.Transitions.{Transition, goes, refuses, reconsumes}
+use Rattle.html_template.specs.Tokenizer.Actions.{Action, EmitDoctype, NewComment, CommentByte, EmitComment}
+use Rattle.html_template.specs.Tokenizer.States as state
+use Rattle.html_template.specs.Tokenizer.States.{State}
+use Rattle.html_template.specs.Tokenizer.Tags.{exclamation_mark, is_space}
+use Rattle.html_template.specs.Tokenizer.Transitions.{Transition, goes, refuses, reconsumes}
 
 abbrev pub dash : ℕ
 dash = 45

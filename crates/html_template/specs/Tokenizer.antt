@@ -1,0 +1,11 @@
+pub mod Actions
+pub mod CodeBytes
+pub mod CodeStrings
+pub mod Comments
+pub mod Names
+pub mod Phases
+pub mod States
+pub mod Tags
+pub mod Tokenization
+pub mod Transitions
+pub mod Values
