@@ -1,8 +1,0 @@
-//! What is asked of memory: how often, how many bytes, and each request refused in turn.
-pub mod amounts;
-pub mod builders;
-pub mod place_amounts;
-pub mod refusals;
-pub mod refused_memory;
-pub mod refusing;
-pub mod tool_amounts;

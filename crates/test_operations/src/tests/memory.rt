@@ -1,0 +1,3 @@
+//! What is asked of memory: how many bytes, and each request refused in turn.
+pub mod amounts;
+pub mod refused_memory;

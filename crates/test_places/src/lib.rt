@@ -1,0 +1,5 @@
+//! Tests of the places: what is enclosed, what is read, pages and forms.
+#![tactic(auto)]
+
+#[cfg(test)]
+mod tests;

@@ -1,0 +1,95 @@
+//! Long and hostile texts in places: the readings are right, and come in time that grows with the
+//! length alone.
+use hesc_places::{End, Place, end_of_place, read_place};
+use std::process::Abort;
+use std::test::Fail;
+use test_support::long::{Long, MANY, MILLION, TRAPS, long_text};
+use test_support::places::PLACES;
+
+// A place, the text after its opening mark, its value, and the closing mark.
+const READ: [(Place, Long, Long, &str); 8] = [
+    (
+        Place::Text,
+        ("&lt", ";&lt", MANY - 1, ";"),
+        ("", "<", MANY, ""),
+        "<",
+    ),
+    (
+        Place::DoubleAttribute,
+        ("&#", "0", MILLION, "65;"),
+        ("A", "", 0, ""),
+        "\"",
+    ),
+    (
+        Place::SingleAttribute,
+        ("&amp", ";&amp", MANY - 1, ";"),
+        ("", "&", MANY, ""),
+        "'",
+    ),
+    (
+        Place::UnquotedAttribute(End::Space),
+        ("", "a", MILLION, ""),
+        ("", "a", MILLION, ""),
+        " ",
+    ),
+    (
+        Place::ScriptSingle,
+        ("", "\\\\", MILLION, ""),
+        ("", "\\", MILLION, ""),
+        "'",
+    ),
+    (
+        Place::StyleDouble,
+        ("", "\\\\", MILLION, ""),
+        ("", "\\", MILLION, ""),
+        "\"",
+    ),
+    (
+        Place::ScriptBody,
+        ("", "</scrip", MANY, ""),
+        ("", "</scrip", MANY, ""),
+        "</script>",
+    ),
+    (
+        Place::StyleBody,
+        ("", "</styl", MANY, ""),
+        ("", "</styl", MANY, ""),
+        "</style>",
+    ),
+];
+
+#[test]
+fn long_texts_are_read(rt: HostRuntime) -> Result<(), Fail> {
+    for (place, text, value, mark) in READ {
+        let mut text = long_text(rt.alloc(), text)?;
+        let value = long_text(rt.alloc(), value)?;
+        let end = text.len();
+        text.push_str(mark)?;
+        let bytes = text.as_bytes();
+        assert_eq!(rt; end_of_place(place, bytes), Some(end), "{place:?}");
+        match read_place(rt.alloc(), place, bytes)? {
+            Some(found) => {
+                assert_eq!(rt; found.end, end, "{place:?}");
+                assert!(rt; found.value.as_slice() == value.as_bytes(), "{place:?}");
+            }
+            None => panic!(rt; "{place:?} has no reading"),
+        }
+    }
+    Ok(())
+}
+
+#[test]
+fn every_reader_ends(rt: HostRuntime) -> Result<(), Fail> {
+    for trap in TRAPS {
+        let text = long_text(rt.alloc(), trap)?;
+        for place in PLACES {
+            let end = end_of_place(place, text.as_bytes());
+            let found = match read_place(rt.alloc(), place, text.as_bytes())? {
+                Some(found) => Some(found.end),
+                None => None,
+            };
+            assert_eq!(rt; found, end, "{place:?} of {trap:?}");
+        }
+    }
+    Ok(())
+}
