@@ -1,4 +1,5 @@
-//! The operations of the two crates beside each other: GB of input a second, and the ratio.
+//! The operations of the two crates beside each other, by sizes and forms: ratios of their times, and
+//! of ours to that of a plain copy.
 mod corpora;
 mod ours;
 
@@ -8,7 +9,15 @@ use std::borrow::Cow;
 use std::hint::black_box;
 use std::time::{Duration, Instant};
 
-const TURNS: usize = 15;
+const SIZES: [usize; 5] = [16, 64, 1 << 10, 16 << 10, corpora::LENGTH];
+
+/// How much is appended to one page.
+const PAGE: usize = 64 << 10;
+
+const TURNS: usize = 25;
+
+/// The least time of a turn: below it the calls of a turn are doubled.
+const LEAST: Duration = Duration::from_micros(100);
 
 struct Operation {
     name: &'static str,
@@ -60,64 +69,141 @@ fn main() {
     keep_memory();
     let wanted: Vec<String> = std::env::args().skip(1).collect();
     let corpora = corpora::all();
-    println!("GB/s of the source, ours / the Rust crate's = ratio; least of {TURNS} turns");
+    println!("Their time / ours, at 16 B, 64 B, 1 KB, 16 KB, 16 MB; least of {TURNS} turns.");
+    println!("Last: the time of a plain copy / ours, at 16 KB, for each text.");
     println!();
     print!("| operation, form |");
     for corpus in &corpora {
         print!(" {} |", corpus.name);
     }
-    println!("\n|---|{}", "---|".repeat(corpora.len()));
+    println!(" beside a copy |\n|---|{}---|", "---|".repeat(corpora.len()));
+    let (mut cells, mut below) = (0, 0);
     for operation in &OPERATIONS {
         if wanted.is_empty() || wanted.iter().any(|name| name == operation.name) {
-            measure(operation, &corpora);
+            for form in [Form::Borrowed, Form::String, Form::Appended] {
+                let ratios = measure(operation, form, &corpora);
+                cells += ratios.len();
+                below += ratios.iter().filter(|ratio| **ratio < 1.0).count();
+            }
         }
     }
+    println!("\n{cells} cells, {below} below 1.0");
 }
 
-fn measure(operation: &Operation, corpora: &[Corpus]) {
-    let mut borrowed = format!("| `{}`, borrowed |", operation.name);
-    let mut string = format!("| `{}`, string |", operation.name);
+#[derive(Clone, Copy, PartialEq)]
+enum Form {
+    /// The text is borrowed where nothing changes.
+    Borrowed,
+    /// A new string for each text.
+    String,
+    /// One page that grows, to which the text is appended again and again.
+    Appended,
+}
+
+/// Prints the row of the form, and returns its ratios.
+fn measure(operation: &Operation, form: Form, corpora: &[Corpus]) -> Vec<f64> {
+    let word = match form {
+        Form::Borrowed => "borrowed",
+        Form::String => "string",
+        Form::Appended => "appended",
+    };
+    let mut row = format!("| `{}`, {word} |", operation.name);
+    let (mut ratios, mut copies) = (Vec::new(), Vec::new());
     for corpus in corpora {
-        let text = (operation.source)(&corpus.text);
-        compare(operation, corpus.name, &text);
-        let (ours, theirs) = race(
-            || ours::cow(operation.number, &text),
-            || (operation.cow)(black_box(&text)).len(),
-        );
-        borrowed += &cell(text.len(), ours, theirs);
-        let (ours, theirs) = race(
-            || ours::string(operation.number, &text),
-            || {
-                let mut output = String::new();
-                (operation.string)(black_box(&text), &mut output);
-                output.len()
-            },
-        );
-        string += &cell(text.len(), ours, theirs);
+        let mut cells = Vec::new();
+        for size in SIZES {
+            if form == Form::Appended && size > PAGE {
+                continue;
+            }
+            let text = (operation.source)(part(&corpus.text, size));
+            compare(operation, corpus.name, &text);
+            let [ours, theirs, copy] = race(operation, form, &text);
+            cells.push(format!("{:.2}", theirs / ours));
+            ratios.push(theirs / ours);
+            if size == 16 << 10 {
+                copies.push(format!("{:.2}", copy / ours));
+            }
+        }
+        row += &format!(" {} |", cells.join(" "));
     }
-    println!("{borrowed}\n{string}");
+    println!("{row} {} |", copies.join(" "));
+    ratios
 }
 
-/// The least time of each side, turn by turn.
-fn race(ours: impl Fn() -> usize, theirs: impl Fn() -> usize) -> (Duration, Duration) {
-    let mut least = (Duration::MAX, Duration::MAX);
+/// So many bytes of the text or some more; short parts from its middle, where something may change.
+fn part(text: &str, size: usize) -> &str {
+    let boundary = |mut at: usize| {
+        while !text.is_char_boundary(at) {
+            at += 1;
+        }
+        at
+    };
+    if size >= text.len() {
+        return text;
+    }
+    let start = boundary(text.len() / 2);
+    &text[start..boundary(start + size)]
+}
+
+/// The least times of a call in nanoseconds, turn by turn: ours, theirs, and a plain copy.
+fn race(operation: &Operation, form: Form, text: &str) -> [f64; 3] {
+    let times = PAGE / text.len() + 1;
+    let their_cow = || (operation.cow)(black_box(text)).len();
+    let their_string = |times: usize| {
+        let mut page = String::new();
+        for _ in 0..times {
+            (operation.string)(black_box(text), &mut page);
+        }
+        page.len()
+    };
+    let copy = |times: usize| {
+        let mut page = String::new();
+        for _ in 0..times {
+            page.push_str(black_box(text));
+        }
+        page.len()
+    };
+    match form {
+        Form::Borrowed => {
+            least([&|| ours::cow(operation.number, text), &their_cow, &|| copy(1)])
+        }
+        Form::String => least([
+            &|| ours::string(operation.number, text),
+            &|| their_string(1),
+            &|| copy(1),
+        ]),
+        Form::Appended => least([
+            &|| ours::append(operation.number, times, text),
+            &|| their_string(times),
+            &|| copy(times),
+        ]),
+    }
+}
+
+fn least(runs: [&dyn Fn() -> usize; 3]) -> [f64; 3] {
+    let calls = runs.map(|run| {
+        let mut calls = 1u32;
+        while time(run, calls) < LEAST {
+            calls *= 2;
+        }
+        calls
+    });
+    let mut least = [f64::MAX; 3];
     for _ in 0..TURNS {
-        least.0 = least.0.min(time(&ours));
-        least.1 = least.1.min(time(&theirs));
+        for side in 0..3 {
+            let spent = time(runs[side], calls[side]).as_nanos() as f64;
+            least[side] = least[side].min(spent / f64::from(calls[side]));
+        }
     }
     least
 }
 
-fn time(run: &impl Fn() -> usize) -> Duration {
+fn time(run: &dyn Fn() -> usize, calls: u32) -> Duration {
     let start = Instant::now();
-    black_box(run());
+    for _ in 0..calls {
+        black_box(run());
+    }
     start.elapsed()
-}
-
-fn cell(length: usize, ours: Duration, theirs: Duration) -> String {
-    let speed = |time: Duration| length as f64 / time.as_nanos() as f64;
-    let (a, b) = (speed(ours), speed(theirs));
-    format!(" {a:.2} / {b:.2} = {:.2} |", a / b)
 }
 
 fn compare(operation: &Operation, corpus: &str, text: &str) {

@@ -1,5 +1,5 @@
 -- The operations that are measured, by their numbers, and what a call answers whose operation is one of them.
-use Rattle.std.specs.Prelude.{◌≡◌, ◌≢◌, ⊤, ℕ, ◌-◌, ◌^◌, ◌==◌, Bool, true, false, List, [], Option, Some, None, if◌then◌else◌, length, take}
+use Rattle.std.specs.Prelude.{◌≡◌, ◌≢◌, ⊤, ℕ, ◌-◌, ◌*◌, ◌^◌, ◌==◌, Bool, true, false, List, [], Option, Some, None, if◌then◌else◌, length, take}
 use Rattle.html_escape.specs.Operations.{operation_changes, operation_text}
 use Rattle.html_escape.specs.declared.decoder.Decoder.TheVariants as decoder
 use Rattle.html_escape.specs.declared.encoder.Encoder.TheVariants as encoder
@@ -41,6 +41,11 @@ refused = 2 ^ 64 - 1
 abbrev pub AnswersLength : Option Operation → List ℕ → ℕ → Type 0
 AnswersLength None text answer = answer ≡ refused
 AnswersLength (Some operation) text answer = answer ≢ refused → answer ≡ length (operation_text operation text)
+
+-- the sum of the lengths of so many parts, each what the operation makes of the text, or that there is none
+abbrev pub AnswersSum : Option Operation → ℕ → List ℕ → ℕ → Type 0
+AnswersSum None times text answer = answer ≡ refused
+AnswersSum (Some operation) times text answer = answer ≢ refused → answer ≡ times * length (operation_text operation text)
 
 -- a text that the operation does not change needs no memory, and its length is answered
 abbrev pub AnswersUnchanged : Option Operation → List ℕ → ℕ → Type 0

@@ -21,6 +21,7 @@ ghost use Rattle.html_escape.specs.Operations.{operation_changes, operation_text
 ghost use Rattle.hesc_speed.specs.Measured.{
   AnswersEmpty,
   AnswersLength,
+  AnswersSum,
   AnswersUnchanged,
   CopiesText,
   is_measured,
@@ -79,6 +80,30 @@ pub extern "C" fn hesc_string(alloc: Global, number: u32, text: &[u8]) -> usize
     let text = unsafe { str::from_utf8_unchecked(text) };
     let mut output = String::new(alloc);
     append(operation, text, &mut output).unwrap_or(REFUSED)
+}
+
+/// Appends so many times to one output, which grows, and answers the sum of the parts' lengths.
+#[unsafe(no_mangle)]
+pub extern "C" fn hesc_append(alloc: Global, number: u32, times: usize, text: &[u8]) -> usize
+    requires { IsUtf8 text.now }
+    ensures { AnswersSum (operation_of number) times text.now result }
+{
+    let Some(operation) = measured(number) else {
+        return REFUSED;
+    };
+    let text = unsafe { str::from_utf8_unchecked(text) };
+    let mut page = String::new(alloc);
+    let mut sum = 0usize;
+    for _ in 0..times {
+        let Some(count) = append(operation, text, &mut page) else {
+            return REFUSED;
+        };
+        let Some(next) = sum.checked_add(count) else {
+            return REFUSED;
+        };
+        sum = next;
+    }
+    sum
 }
 
 /// Makes the text and copies it into a buffer that is long enough.
