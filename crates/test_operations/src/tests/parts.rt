@@ -30,9 +30,8 @@ fn the_first_place_is_found(rt: HostRuntime) {
         assert!(rt; at < 64 && from <= 64);
         let mut bytes = [b'a'; 64];
         bytes[at] = b'<';
-        assert_eq!(rt;
-            first_in(Class::Text, &bytes, from),
-            first,
+        assert!(rt;
+            first_in(Class::Text, &bytes, from) == first,
             "`<` at {at}, from {from}"
         );
     }
@@ -56,9 +55,8 @@ const FIRST_PLACES_IN_BYTES: [(Class, &[u8; 7], usize, usize); 10] = [
 fn the_first_place_is_found_in_any_bytes(rt: HostRuntime) {
     for (class, bytes, from, first) in FIRST_PLACES_IN_BYTES {
         assert!(rt; from <= bytes.len());
-        assert_eq!(rt;
-            first_in(class, bytes, from),
-            first,
+        assert!(rt;
+            first_in(class, bytes, from) == first,
             "{class:?} in {bytes:?} from {from}"
         );
     }
@@ -67,10 +65,10 @@ fn the_first_place_is_found_in_any_bytes(rt: HostRuntime) {
 #[test]
 fn a_count_is_of_bytes(rt: HostRuntime) -> Result<(), Fail> {
     let mut counter = Counter::new();
-    assert_eq!(rt; counter.count(), 0);
+    assert!(rt; counter.count() == 0);
     for (piece, count) in [("ab", 2), ("", 2), ("é", 4)] {
         counter.put(piece)?;
-        assert_eq!(rt; counter.count(), count, "after {piece:?}");
+        assert!(rt; counter.count() == count, "after {piece:?}");
     }
     Ok(())
 }
@@ -79,6 +77,6 @@ fn a_count_is_of_bytes(rt: HostRuntime) -> Result<(), Fail> {
 fn a_small_text_is_the_text(rt: HostRuntime) {
     for text in ["", "x", "é", "&#x2F;"] {
         assert!(rt; text.len() <= 6);
-        assert_eq!(rt; SmallText::new(text).as_str(), text);
+        assert!(rt; SmallText::new(text).as_str() == text);
     }
 }

@@ -7,7 +7,7 @@ use std::test::Fail;
 fn each_name_has_its_value(rt: HostRuntime) {
     let table = EntityTable::built_in();
     for (name, value) in table.rows() {
-        assert_eq!(rt; table.get(name), Some(*value));
+        assert!(rt; table.get(name) == Some(*value));
     }
     for name in [
         b"".as_slice(),
@@ -18,7 +18,7 @@ fn each_name_has_its_value(rt: HostRuntime) {
         b"quou",
         b"zz",
     ] {
-        assert_eq!(rt; table.get(name), None);
+        assert!(rt; table.get(name).is_none());
     }
 }
 
@@ -39,7 +39,7 @@ const FAULTS: [Faulty; 8] = [
 #[test]
 fn rows_have_their_first_fault(rt: HostRuntime) {
     for (rows, fault) in FAULTS {
-        assert_eq!(rt; EntityTable::new(rows).err(), Some(fault));
+        assert!(rt; EntityTable::new(rows).err() == Some(fault));
     }
 }
 
@@ -67,18 +67,15 @@ fn fault_with(at: usize, row: (&'static [u8], &'static str)) -> Option<TableFaul
 fn each_fault_is_found_at_any_row(rt: HostRuntime) {
     assert!(rt; EntityTable::new(&COMMON).is_ok());
     for at in [0usize, 3, 5] {
-        assert_eq!(rt; fault_with(at, (b"", "x")), Some(TableFault::EmptyName(at)));
-        assert_eq!(rt;
-            fault_with(at, (b"a-b", "x")),
-            Some(TableFault::BadName(at))
-        );
+        assert!(rt; fault_with(at, (b"", "x")) == Some(TableFault::EmptyName(at)));
+        assert!(rt; fault_with(at, (b"a-b", "x")) == Some(TableFault::BadName(at)));
         let wrong = Some(TableFault::WrongCommon(at));
-        assert_eq!(rt; fault_with(at, (COMMON[at].0, "x")), wrong);
+        assert!(rt; fault_with(at, (COMMON[at].0, "x")) == wrong);
     }
     for at in [1usize, 3, 5] {
         let unordered = Some(TableFault::NotAscending(at));
-        assert_eq!(rt; fault_with(at, COMMON[at - 1]), unordered);
-        assert_eq!(rt; fault_with(at, (b"ZZ", "x")), unordered);
+        assert!(rt; fault_with(at, COMMON[at - 1]) == unordered);
+        assert!(rt; fault_with(at, (b"ZZ", "x")) == unordered);
     }
 }
 
@@ -88,7 +85,7 @@ fn each_common_name_is_missed(rt: HostRuntime) -> Result<(), Fail> {
         let mut rows = COMMON.to_vec(rt.alloc())?;
         rows.remove(missing);
         let fault = EntityTable::new(rows.as_slice()).err();
-        assert_eq!(rt; fault, Some(TableFault::MissingCommon(missing)));
+        assert!(rt; fault == Some(TableFault::MissingCommon(missing)));
     }
     Ok(())
 }

@@ -231,13 +231,13 @@ fn two_sessions_know_nothing_of_each_other(rt: HostRuntime) -> Result<(), Fail> 
     let mut output = String::new(rt.alloc());
     let mut script = BodyEncoder::new(BodyKind::Script);
     let mut style = BodyEncoder::new(BodyKind::Style);
-    assert_eq!(rt; script.push("</scr", &mut output)?, "");
-    assert_eq!(rt; style.push("</styl", &mut output)?, "");
-    assert_eq!(rt; script.push("ipt", &mut output)?, "");
-    assert_eq!(rt; style.push("e>", &mut output)?, "<\\/style>");
-    assert_eq!(rt; style.finish(&mut output)?, "");
-    assert_eq!(rt; script.finish(&mut output)?, "<\\/script");
-    assert_eq!(rt; output.as_str(), "<\\/style><\\/script");
+    assert!(rt; script.push("</scr", &mut output)?.is_empty());
+    assert!(rt; style.push("</styl", &mut output)?.is_empty());
+    assert!(rt; script.push("ipt", &mut output)?.is_empty());
+    assert!(rt; style.push("e>", &mut output)? == "<\\/style>");
+    assert!(rt; style.finish(&mut output)?.is_empty());
+    assert!(rt; script.finish(&mut output)? == "<\\/script");
+    assert!(rt; output.as_str() == "<\\/style><\\/script");
     Ok(())
 }
 
@@ -256,7 +256,7 @@ fn a_body_may_be_cut_anywhere(rt: HostRuntime) -> Result<(), Fail> {
         session.push(first, &mut output)?;
         session.push(second, &mut output)?;
         session.finish(&mut output)?;
-        assert_eq!(rt; output.as_str(), ENCODED, "cut at {at}");
+        assert!(rt; output.as_str() == ENCODED, "cut at {at}");
     }
     Ok(())
 }
@@ -272,7 +272,7 @@ fn a_body_may_come_by_single_bytes(rt: HostRuntime) -> Result<(), Fail> {
         session.push(piece, &mut output)?;
     }
     session.finish(&mut output)?;
-    assert_eq!(rt; output.as_str(), ENCODED);
+    assert!(rt; output.as_str() == ENCODED);
     Ok(())
 }
 

@@ -155,10 +155,9 @@ fn the_text_stands_between_the_marks(rt: HostRuntime) -> Result<(), Fail> {
         assert!(rt; suits(encoder, place), "{encoder:?} in {place:?}");
         let mut output = String::from_str(rt.alloc(), "x")?;
         let added = enclose(encoder, place, text, &mut output);
-        assert_eq!(rt; added, Ok(enclosed), "{encoder:?} in {place:?}");
-        assert_eq!(rt;
-            output.strip_prefix("x"),
-            Some(enclosed),
+        assert!(rt; added == Ok(enclosed), "{encoder:?} in {place:?}");
+        assert!(rt;
+            output.strip_prefix("x") == Some(enclosed),
             "{encoder:?} in {place:?}"
         );
     }
@@ -172,9 +171,9 @@ fn a_fault_leaves_the_output(rt: HostRuntime) -> Result<(), Fail> {
         let mut output = String::from_str(&heap, "x")?;
         heap.refuse(1);
         let answer = append_enclosed(&mut output, encoder, place, text);
-        assert_eq!(rt; answer, Err(fault), "{encoder:?} in {place:?}");
-        assert_eq!(rt; output.as_str(), "x", "{encoder:?} in {place:?}");
-        assert_eq!(rt; heap.asked(1), 0, "{encoder:?} in {place:?}");
+        assert!(rt; answer == Err(fault), "{encoder:?} in {place:?}");
+        assert!(rt; output.as_str() == "x", "{encoder:?} in {place:?}");
+        assert!(rt; heap.asked(1) == 0, "{encoder:?} in {place:?}");
     }
     Ok(())
 }

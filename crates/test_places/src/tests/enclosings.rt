@@ -48,12 +48,12 @@ fn every_encoder_is_enclosed_and_read_back(rt: HostRuntime) -> Result<(), Fail> 
             if suits(encoder, place) {
                 pairs = pairs.saturating_add(1);
                 let wrong = first_wrong(rt.alloc(), encoder, place)?;
-                assert_eq!(rt; wrong, None, "{encoder:?} in {place:?}");
+                assert!(rt; wrong.is_none(), "{wrong:?}: {encoder:?} in {place:?}");
             }
         }
     }
     // Twenty-six, the one that suits the unquoted place with each of its five endings.
-    assert_eq!(rt; pairs, 30);
+    assert!(rt; pairs == 30);
     Ok(())
 }
 

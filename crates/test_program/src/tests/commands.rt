@@ -22,7 +22,7 @@ fn survives(alloc: Global, wanted: Run<'_>) -> bool {
 fn every_operation_is_a_command(rt: HostRuntime) {
     for operation in OPERATIONS {
         let wrong = first_wrong_text(rt.alloc(), operation);
-        assert_eq!(rt; wrong, None, "{operation:?}");
+        assert!(rt; wrong.is_none(), "{wrong:?}: {operation:?}");
     }
 }
 
@@ -51,7 +51,7 @@ fn every_encoder_encloses_for_every_place_that_suits_it(rt: HostRuntime) -> Resu
         for place in PLACES {
             if suits(encoder, place) {
                 let wrong = first_wrong_enclosing(rt.alloc(), encoder, place)?;
-                assert_eq!(rt; wrong, None, "{encoder:?} in {place:?}");
+                assert!(rt; wrong.is_none(), "{wrong:?}: {encoder:?} in {place:?}");
             }
         }
     }

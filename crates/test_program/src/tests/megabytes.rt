@@ -91,7 +91,7 @@ fn a_megabyte_takes_few_calls(rt: HostRuntime) -> Result<(), Fail> {
             served.reads <= input.len() as u64 / READ_SIZE + 2,
             "{words:?}"
         );
-        assert_eq!(rt; served.output.weak.calls, 1, "{words:?}");
+        assert!(rt; served.output.weak.calls == 1, "{words:?}");
     }
     Ok(())
 }

@@ -5,8 +5,8 @@ use std::test::Fail;
 #[test]
 fn a_long_text_is_as_long_as_it_says(rt: HostRuntime) -> Result<(), Fail> {
     let text = long_text(rt.alloc(), ("ab", "c", MILLION, "def"))?;
-    assert_eq!(rt; text.len(), 1_000_005);
+    assert!(rt; text.len() == 1_000_005);
     let text = long_text(rt.alloc(), ("", "</scrip", MANY, ""))?;
-    assert_eq!(rt; text.len(), 917_504);
+    assert!(rt; text.len() == 917_504);
     Ok(())
 }

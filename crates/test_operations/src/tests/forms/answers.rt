@@ -14,13 +14,13 @@ use test_support::rows::{Held, Row};
 fn every_form_gives_the_rows(rt: HostRuntime) -> Result<(), Fail> {
     for operation in OPERATIONS {
         let wrong = first_wrong(rt.alloc(), Call::Of(operation))?;
-        assert_eq!(rt; wrong, None, "{operation:?}");
+        assert!(rt; wrong.is_none(), "{wrong:?}: {operation:?}");
     }
     let rows = fuller_rows(rt.alloc())?;
     let Ok(table) = EntityTable::new(rows.as_slice()) else {
         panic!(rt; "the fuller rows are a table");
     };
-    assert_eq!(rt; first_wrong(rt.alloc(), Call::By(&table))?, None);
+    assert!(rt; first_wrong(rt.alloc(), Call::By(&table))?.is_none());
     Ok(())
 }
 

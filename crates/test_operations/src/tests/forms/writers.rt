@@ -24,13 +24,13 @@ fn weakness(at: u64, trouble: Trouble) -> Weakness {
 fn a_trouble_at_any_call_is_handed_on(rt: HostRuntime) -> Result<(), Fail> {
     for operation in OPERATIONS {
         let wrong = first_wrong(rt.alloc(), Call::Of(operation));
-        assert_eq!(rt; wrong, None, "{operation:?}");
+        assert!(rt; wrong.is_none(), "{wrong:?}: {operation:?}");
     }
     let rows = fuller_rows(rt.alloc())?;
     let Ok(table) = EntityTable::new(rows.as_slice()) else {
         panic!(rt; "the fuller rows are a table");
     };
-    assert_eq!(rt; first_wrong(rt.alloc(), Call::By(&table)), None);
+    assert!(rt; first_wrong(rt.alloc(), Call::By(&table)).is_none());
     Ok(())
 }
 
@@ -157,12 +157,11 @@ fn a_failed_writer_has_a_beginning(rt: HostRuntime) {
     for (at, gone_out) in GONE_OUT {
         let mut output = WeakWriter::new(rt.alloc(), weakness(at, Trouble::Fails));
         let is_ok = encode_text_to_writer("a > b", &mut output).is_ok();
-        assert_eq!(rt; is_ok, at == 9, "failing at {at}");
-        assert_eq!(rt;
-            output.taken.as_slice(),
-            gone_out.as_bytes(),
+        assert!(rt; is_ok == (at == 9), "failing at {at}");
+        assert!(rt;
+            output.taken.as_slice() == gone_out.as_bytes(),
             "failing at {at}"
         );
-        assert_eq!(rt; output.calls, at.min(8), "failing at {at}");
+        assert!(rt; output.calls == at.min(8), "failing at {at}");
     }
 }

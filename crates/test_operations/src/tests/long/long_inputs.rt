@@ -93,7 +93,7 @@ fn a_table_of_100_000_rows_is_made_and_asked(rt: HostRuntime) -> Result<(), Fail
         assert!(rt; table.get(name.as_bytes()) == Some("x"));
     }
     let decoded = decode_html_entities_with(rt.alloc(), &table, text.as_str())?;
-    assert_eq!(rt; decoded.as_str().len(), 100_000);
+    assert!(rt; decoded.as_str().len() == 100_000);
     Ok(())
 }
 
@@ -105,8 +105,8 @@ fn an_output_of_16_mib_grows_by_short_appends(rt: HostRuntime) -> Result<(), Fai
         encode_text_to_string("sixteen letters.", &mut string)?;
         encode_text_to_vec("twelve &amp;", &mut vec)?;
     }
-    assert_eq!(rt; string.len(), 16_777_216);
-    assert_eq!(rt; vec.len(), 16_777_216);
+    assert!(rt; string.len() == 16_777_216);
+    assert!(rt; vec.len() == 16_777_216);
     Ok(())
 }
 

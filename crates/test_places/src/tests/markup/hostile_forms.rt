@@ -54,7 +54,7 @@ fn form_of(alloc: Global, names: &[String]) -> Result<String, AllocError> {
 #[test]
 fn names_that_differ_are_a_form(rt: HostRuntime) -> Result<(), Fail> {
     let names = names_of_four_letters(rt.alloc())?;
-    assert_eq!(rt; names.len(), 20_000);
+    assert!(rt; names.len() == 20_000);
     let attributes = attributes_of(rt.alloc(), names.as_slice())?;
     let form = form_of(rt.alloc(), names.as_slice())?;
     let mut output = String::new(rt.alloc());

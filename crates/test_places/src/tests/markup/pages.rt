@@ -19,7 +19,7 @@ placeholder=\"The default value is &quot;Hello world!&quot;.\"/>\
 
 #[test]
 fn a_page_is_built_and_read_back(rt: HostRuntime) -> Result<(), Fail> {
-    assert_eq!(rt; PAGE.len(), 163);
+    assert!(rt; PAGE.len() == 163);
     let mut output = String::from_str(rt.alloc(), "x")?;
     let part = build_page(TEXTS[0], TEXTS[1], TEXTS[2], &mut output);
     assert!(rt; part == Ok(PAGE));
