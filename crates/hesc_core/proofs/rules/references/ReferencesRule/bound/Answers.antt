@@ -1,7 +1,7 @@
 use Rattle.std.proofs.Common.{◌≡◌, ◌≤◌, ◌+◌, ◌*◌, ◌/◌, ℕ, Option, Some, None, IfSome, SomeIff, ap, length, arith}
 use Rattle.hesc_specs.proofs.References.Decoded.{decoded-empty, decoded-shorter}
 use Rattle.hesc_core.specs.Table.{rows_of}
-use Rattle.hesc_core.proofs.NearRows.{decoded-nearly, near-empty}
+use Rattle.hesc_core.proofs.NearRows.{decoded-nearly}
 use Rattle.hesc_core.proofs.rules.references.ReferencesRule.bound.Goals as goal
 
 -- what holds of a sum holds of it where it can be had
@@ -23,9 +23,9 @@ returns-in-Never-clause-empty c nothing = ap length (decoded-empty (rows_of c.ar
 
 pub returns-in-AtMostAFifth-clause-enough : goal.returns-in-AtMostAFifth-clause-enough
 returns-in-AtMostAFifth-clause-enough c =
-    of_sum _ _ _ _ c.checked_add.ensures (fifth_more _ (length c.args.text.now) (decoded-nearly (rows_of c.args.self.now.0.now) c.in-AtMostAFifth.ensures c.args.text.now))
+    of_sum _ _ _ _ c.checked_add.ensures (fifth_more _ (length c.args.text.now) (decoded-nearly (rows_of c.args.self.now.0.now) c.in-AtMostAFifth.ensures c.args.text.now).0)
 
 pub returns-in-AtMostAFifth-clause-empty : goal.returns-in-AtMostAFifth-clause-empty
 returns-in-AtMostAFifth-clause-empty c =
     of_sum _ _ _ _ c.checked_add.ensures
-    (λ nothing. no_fifth (length c.args.text.now) (ap length (near-empty (rows_of c.args.self.now.0.now) c.in-AtMostAFifth.ensures c.args.text.now nothing)))
+    (λ nothing. no_fifth (length c.args.text.now) (ap length ((decoded-nearly (rows_of c.args.self.now.0.now) c.in-AtMostAFifth.ensures c.args.text.now).1 nothing)))
