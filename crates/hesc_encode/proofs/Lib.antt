@@ -1,1 +1,1 @@
-mod HandsOnAppends
+mod Families

@@ -1,8 +1,8 @@
 use Rattle.hesc_core.proofs.ClassWords.{script_double_quoted}
-use Rattle.hesc_decode.proofs.HandsOnAppends.{to_string}
+use Rattle.hesc_decode.proofs.Families.{by_family, to_string}
 use Rattle.hesc_decode.proofs.strings.decode_script_double_quoted_text_to_string.Statement.{statement}
 use Rattle.hesc_decode.proofs.strings.decode_script_double_quoted_text_to_string.Code as code
 
 pub decode_script_double_quoted_text_to_string_spec : {M : Type 1} → statement M
 decode_script_double_quoted_text_to_string_spec 𝓤 𝓛 𝓜 𝓡 wired A L alloc d dd met md =
-    to_string script_double_quoted 𝓤 𝓛 𝓜 𝓡 A L alloc d dd met md code.function (code.unfolded 𝓤 𝓛.H 𝓜 𝓡 wired (A, tt) d dd) (code.calls-hesc_decode::appends::decode_onto_string 𝓡.env wired)
+    by_family to_string script_double_quoted 𝓤 𝓛 𝓜 𝓡 A L alloc d dd met md code.function (code.unfolded 𝓤 𝓛.H 𝓜 𝓡 wired (A, tt) d dd) (code.calls-hesc_decode::appends::decode_onto_string 𝓡.env wired)

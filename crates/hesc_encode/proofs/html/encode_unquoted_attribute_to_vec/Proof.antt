@@ -1,8 +1,8 @@
 use Rattle.hesc_core.proofs.ClassWords.{unquoted_attribute}
-use Rattle.hesc_encode.proofs.HandsOnAppends.{to_vec}
+use Rattle.hesc_encode.proofs.Families.{by_family, to_vec}
 use Rattle.hesc_encode.proofs.html.encode_unquoted_attribute_to_vec.Statement.{statement}
 use Rattle.hesc_encode.proofs.html.encode_unquoted_attribute_to_vec.Code as code
 
 pub encode_unquoted_attribute_to_vec_spec : {M : Type 1} → statement M
 encode_unquoted_attribute_to_vec_spec 𝓤 𝓛 𝓜 𝓡 wired A L alloc d dd met md =
-    to_vec unquoted_attribute 𝓤 𝓛 𝓜 𝓡 A L alloc d dd met md code.function (code.unfolded 𝓤 𝓛.H 𝓜 𝓡 wired (A, tt) d dd) (code.calls-hesc_encode::appends::encode_onto_vec 𝓡.env wired)
+    by_family to_vec unquoted_attribute 𝓤 𝓛 𝓜 𝓡 A L alloc d dd met md code.function (code.unfolded 𝓤 𝓛.H 𝓜 𝓡 wired (A, tt) d dd) (code.calls-hesc_encode::appends::encode_onto_vec 𝓡.env wired)
