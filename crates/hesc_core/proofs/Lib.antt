@@ -2,6 +2,7 @@ pub mod Capped
 mod CommonNames
 mod Halving
 pub mod ClassWords
+pub mod ElementWords
 pub mod HandsOnConstant
 pub mod HandsOnTable
 pub mod NamedTable

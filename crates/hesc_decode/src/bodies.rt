@@ -5,7 +5,9 @@ ghost use Rattle.hesc_specs.specs.Bodies.Changes.{body_decoding_changes};
 ghost use Rattle.hesc_specs.specs.declared.elements.Element.TheVariants.{Script, Style};
 ghost use Rattle.hesc_engine.specs.Forms.{AnswersPart, AnswersText, StringAppended, VecAppended, WritesText, string_room, vec_room};
 
-use hesc_core::forms::{onto_string, onto_vec, to_cow, to_writer};
+use crate::appends::{decode_body_onto_string, decode_body_onto_vec};
+use hesc_core::Element;
+use hesc_core::forms::{to_cow, to_writer};
 use hesc_core::rules::{DecodeScript, DecodeStyle};
 use std::alloc::{AllocError, Allocator};
 use std::borrow::CowStr;
@@ -37,7 +39,7 @@ pub fn decode_script_to_string<'o, A: Allocator>(
     ensures* appended { sem 𝓛 (StringAppended A.row A.Allocator output.entry
         (body_decoding Script text.now) result) }
 {
-    decode_script_onto_string(output, text)
+    decode_body_onto_string(output, Element::Script, text)
 }
 
 /// Appends `text` decoded to `output`, and answers the part that was added. On a refusal
@@ -53,7 +55,7 @@ pub fn decode_script_to_vec<'o, A: Allocator>(
     ensures* appended { sem 𝓛 (VecAppended A.row A.Allocator output.entry
         (body_decoding Script text.now) result) }
 {
-    decode_script_onto_vec(output, text)
+    decode_body_onto_vec(output, Element::Script, text)
 }
 
 /// Writes `text` decoded to `output`, or a beginning of it and then the writer's fault.
@@ -64,30 +66,6 @@ pub fn decode_script_to_writer<W: Write>(text: &str, output: &mut W) -> Result<(
         (body_decoding Script text.now) result }
 {
     to_writer(&DecodeScript, text, output)
-}
-
-fn decode_script_onto_string<'o, A: Allocator>(
-    output: &'o mut String<A>,
-    text: &str,
-) -> Result<&'o str, AllocError>
-    ensures part { AnswersPart (string_room output.old)
-        (body_decoding Script text.now) result }
-    ensures* appended { sem 𝓛 (StringAppended A.row A.Allocator output.entry
-        (body_decoding Script text.now) result) }
-{
-    onto_string(output, &DecodeScript, text)
-}
-
-fn decode_script_onto_vec<'o, A: Allocator>(
-    output: &'o mut Vec<u8, A>,
-    text: &str,
-) -> Result<&'o [u8], AllocError>
-    ensures part { AnswersPart (vec_room output.old)
-        (body_decoding Script text.now) result }
-    ensures* appended { sem 𝓛 (VecAppended A.row A.Allocator output.entry
-        (body_decoding Script text.now) result) }
-{
-    onto_vec(output, &DecodeScript, text)
 }
 
 // `decode_style`: each escaped opening of a style's body loses its `\`. So `<\!--` becomes `<!--`,
@@ -116,7 +94,7 @@ pub fn decode_style_to_string<'o, A: Allocator>(
     ensures* appended { sem 𝓛 (StringAppended A.row A.Allocator output.entry
         (body_decoding Style text.now) result) }
 {
-    decode_style_onto_string(output, text)
+    decode_body_onto_string(output, Element::Style, text)
 }
 
 /// Appends `text` decoded to `output`, and answers the part that was added. On a refusal
@@ -132,7 +110,7 @@ pub fn decode_style_to_vec<'o, A: Allocator>(
     ensures* appended { sem 𝓛 (VecAppended A.row A.Allocator output.entry
         (body_decoding Style text.now) result) }
 {
-    decode_style_onto_vec(output, text)
+    decode_body_onto_vec(output, Element::Style, text)
 }
 
 /// Writes `text` decoded to `output`, or a beginning of it and then the writer's fault.
@@ -143,28 +121,4 @@ pub fn decode_style_to_writer<W: Write>(text: &str, output: &mut W) -> Result<()
         (body_decoding Style text.now) result }
 {
     to_writer(&DecodeStyle, text, output)
-}
-
-fn decode_style_onto_string<'o, A: Allocator>(
-    output: &'o mut String<A>,
-    text: &str,
-) -> Result<&'o str, AllocError>
-    ensures part { AnswersPart (string_room output.old)
-        (body_decoding Style text.now) result }
-    ensures* appended { sem 𝓛 (StringAppended A.row A.Allocator output.entry
-        (body_decoding Style text.now) result) }
-{
-    onto_string(output, &DecodeStyle, text)
-}
-
-fn decode_style_onto_vec<'o, A: Allocator>(
-    output: &'o mut Vec<u8, A>,
-    text: &str,
-) -> Result<&'o [u8], AllocError>
-    ensures part { AnswersPart (vec_room output.old)
-        (body_decoding Style text.now) result }
-    ensures* appended { sem 𝓛 (VecAppended A.row A.Allocator output.entry
-        (body_decoding Style text.now) result) }
-{
-    onto_vec(output, &DecodeStyle, text)
 }

@@ -1,12 +1,13 @@
-//! What the encoder of a class makes of a text, appended with the output first: the order in which
-//! the checker follows a loan by itself. The functions of the ported order hand on to these two.
+//! What the encoder of a class, or of a body, makes of a text, appended with the output first: the order
+//! in which the checker follows a loan by itself. The functions of the ported order hand on to these.
 ghost use Rattle.std.specs.Borrow.{sem};
+ghost use Rattle.hesc_specs.specs.Bodies.Encoding.{body_encoding};
 ghost use Rattle.hesc_specs.specs.Text.Escaped.{escaped};
 ghost use Rattle.hesc_engine.specs.Forms.{AnswersPart, StringAppended, VecAppended, string_room, vec_room};
 
-use hesc_core::Class;
 use hesc_core::forms::{onto_string, onto_vec};
-use hesc_core::rules::Escape;
+use hesc_core::rules::{EncodeScript, EncodeStyle, Escape};
+use hesc_core::{Class, Element};
 use std::alloc::{AllocError, Allocator};
 
 #[inline(always)]
@@ -33,4 +34,36 @@ pub(crate) fn encode_onto_vec<'o, A: Allocator>(
         (escaped class text.now) result) }
 {
     onto_vec(output, &Escape(class), text)
+}
+
+#[inline(always)]
+pub(crate) fn encode_body_onto_string<'o, A: Allocator>(
+    output: &'o mut String<A>,
+    element: Element,
+    text: &str,
+) -> Result<&'o str, AllocError>
+    ensures part { AnswersPart (string_room output.old) (body_encoding element text.now) result }
+    ensures* appended { sem 𝓛 (StringAppended A.row A.Allocator output.entry
+        (body_encoding element text.now) result) }
+{
+    match element {
+        Element::Script => onto_string(output, &EncodeScript, text),
+        Element::Style => onto_string(output, &EncodeStyle, text),
+    }
+}
+
+#[inline(always)]
+pub(crate) fn encode_body_onto_vec<'o, A: Allocator>(
+    output: &'o mut Vec<u8, A>,
+    element: Element,
+    text: &str,
+) -> Result<&'o [u8], AllocError>
+    ensures part { AnswersPart (vec_room output.old) (body_encoding element text.now) result }
+    ensures* appended { sem 𝓛 (VecAppended A.row A.Allocator output.entry
+        (body_encoding element text.now) result) }
+{
+    match element {
+        Element::Script => onto_vec(output, &EncodeScript, text),
+        Element::Style => onto_vec(output, &EncodeStyle, text),
+    }
 }

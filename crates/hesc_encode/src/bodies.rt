@@ -5,7 +5,9 @@ ghost use Rattle.hesc_specs.specs.Bodies.Changes.{body_encoding_changes};
 ghost use Rattle.hesc_specs.specs.declared.elements.Element.TheVariants.{Script, Style};
 ghost use Rattle.hesc_engine.specs.Forms.{AnswersPart, AnswersText, StringAppended, VecAppended, WritesText, string_room, vec_room};
 
-use hesc_core::forms::{onto_string, onto_vec, to_cow, to_writer};
+use crate::appends::{encode_body_onto_string, encode_body_onto_vec};
+use hesc_core::Element;
+use hesc_core::forms::{to_cow, to_writer};
 use hesc_core::rules::{EncodeScript, EncodeStyle};
 use std::alloc::{AllocError, Allocator};
 use std::borrow::CowStr;
@@ -37,7 +39,7 @@ pub fn encode_script_to_string<'o, A: Allocator>(
     ensures* appended { sem 𝓛 (StringAppended A.row A.Allocator output.entry
         (body_encoding Script text.now) result) }
 {
-    encode_script_onto_string(output, text)
+    encode_body_onto_string(output, Element::Script, text)
 }
 
 /// Appends the encoding of `text` to `output`, and answers the part that was added. On a refusal
@@ -53,7 +55,7 @@ pub fn encode_script_to_vec<'o, A: Allocator>(
     ensures* appended { sem 𝓛 (VecAppended A.row A.Allocator output.entry
         (body_encoding Script text.now) result) }
 {
-    encode_script_onto_vec(output, text)
+    encode_body_onto_vec(output, Element::Script, text)
 }
 
 /// Writes the encoding of `text` to `output`, or a beginning of it and then the writer's fault.
@@ -64,30 +66,6 @@ pub fn encode_script_to_writer<W: Write>(text: &str, output: &mut W) -> Result<(
         (body_encoding Script text.now) result }
 {
     to_writer(&EncodeScript, text, output)
-}
-
-fn encode_script_onto_string<'o, A: Allocator>(
-    output: &'o mut String<A>,
-    text: &str,
-) -> Result<&'o str, AllocError>
-    ensures part { AnswersPart (string_room output.old)
-        (body_encoding Script text.now) result }
-    ensures* appended { sem 𝓛 (StringAppended A.row A.Allocator output.entry
-        (body_encoding Script text.now) result) }
-{
-    onto_string(output, &EncodeScript, text)
-}
-
-fn encode_script_onto_vec<'o, A: Allocator>(
-    output: &'o mut Vec<u8, A>,
-    text: &str,
-) -> Result<&'o [u8], AllocError>
-    ensures part { AnswersPart (vec_room output.old)
-        (body_encoding Script text.now) result }
-    ensures* appended { sem 𝓛 (VecAppended A.row A.Allocator output.entry
-        (body_encoding Script text.now) result) }
-{
-    onto_vec(output, &EncodeScript, text)
 }
 
 // `encode_style`: a `\` goes into each opening of a style's body, after its `<`. An opening is
@@ -116,7 +94,7 @@ pub fn encode_style_to_string<'o, A: Allocator>(
     ensures* appended { sem 𝓛 (StringAppended A.row A.Allocator output.entry
         (body_encoding Style text.now) result) }
 {
-    encode_style_onto_string(output, text)
+    encode_body_onto_string(output, Element::Style, text)
 }
 
 /// Appends the encoding of `text` to `output`, and answers the part that was added. On a refusal
@@ -132,7 +110,7 @@ pub fn encode_style_to_vec<'o, A: Allocator>(
     ensures* appended { sem 𝓛 (VecAppended A.row A.Allocator output.entry
         (body_encoding Style text.now) result) }
 {
-    encode_style_onto_vec(output, text)
+    encode_body_onto_vec(output, Element::Style, text)
 }
 
 /// Writes the encoding of `text` to `output`, or a beginning of it and then the writer's fault.
@@ -143,28 +121,4 @@ pub fn encode_style_to_writer<W: Write>(text: &str, output: &mut W) -> Result<()
         (body_encoding Style text.now) result }
 {
     to_writer(&EncodeStyle, text, output)
-}
-
-fn encode_style_onto_string<'o, A: Allocator>(
-    output: &'o mut String<A>,
-    text: &str,
-) -> Result<&'o str, AllocError>
-    ensures part { AnswersPart (string_room output.old)
-        (body_encoding Style text.now) result }
-    ensures* appended { sem 𝓛 (StringAppended A.row A.Allocator output.entry
-        (body_encoding Style text.now) result) }
-{
-    onto_string(output, &EncodeStyle, text)
-}
-
-fn encode_style_onto_vec<'o, A: Allocator>(
-    output: &'o mut Vec<u8, A>,
-    text: &str,
-) -> Result<&'o [u8], AllocError>
-    ensures part { AnswersPart (vec_room output.old)
-        (body_encoding Style text.now) result }
-    ensures* appended { sem 𝓛 (VecAppended A.row A.Allocator output.entry
-        (body_encoding Style text.now) result) }
-{
-    onto_vec(output, &EncodeStyle, text)
 }

@@ -1,12 +1,8 @@
-use base.Logic.{id⊢}
-use Rattle.hesc_decode.specs.contracts.bodies.decode_script_to_vec as f
-use Rattle.hesc_decode.specs.contracts.bodies.decode_script_onto_vec as g
-use Rattle.hesc_engine.proofs.HandsOn.{hands_on, vec_form}
+use Rattle.hesc_core.proofs.ElementWords.{script}
+use Rattle.hesc_decode.proofs.Families.{body_to_vec, by_family}
 use Rattle.hesc_decode.proofs.bodies.decode_script_to_vec.Statement.{statement}
 use Rattle.hesc_decode.proofs.bodies.decode_script_to_vec.Code as code
-use Rattle.hesc_decode.proofs.bodies.decode_script_onto_vec.Met as callee
 
 pub decode_script_to_vec_spec : {M : Type 1} → statement M
 decode_script_to_vec_spec 𝓤 𝓛 𝓜 𝓡 wired A L alloc d dd met md =
-    hands_on (vec_form A alloc) 𝓤 𝓛 𝓜 𝓡 (f.clauses A alloc d dd 𝓛 𝓜.mem 𝓡.returns) (g.clauses A alloc d dd 𝓛 𝓜.mem 𝓡.returns) (λ κs a n. n) (λ κs a n. id⊢ 𝓤 _) (λ κs a n r ws. id⊢ 𝓤 _)
-    A d dd code.function f.Key.name g.Key.name (code.unfolded 𝓤 𝓛.H 𝓜 𝓡 wired (A, tt) d dd) (callee.met 𝓤 𝓛 𝓜 𝓡 (code.calls-hesc_decode::bodies::decode_script_onto_vec 𝓡.env wired) A L alloc d dd met md)
+    by_family body_to_vec script 𝓤 𝓛 𝓜 𝓡 A L alloc d dd met md code.function (code.unfolded 𝓤 𝓛.H 𝓜 𝓡 wired (A, tt) d dd) (code.calls-hesc_decode::appends::decode_body_onto_vec 𝓡.env wired)
