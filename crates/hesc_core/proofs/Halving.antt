@@ -51,7 +51,7 @@ module _ (rows : List Row) (good : is_table rows ≡ true) (name : List ℕ) whe
   Above-more middle higher k from within =
       ⊎_elim
       (λ (here : k ≡ middle). rw here higher)
-      (λ (behind : k ≢ middle).
+      (λ (after : k ≢ middle).
       let turned : slice_cmp nat_cmp name (row_at rows middle).0 ≡ Less = nat_list_cmp_total.antisymm name (row_at rows middle).0 ∙ ap ordering_reverse higher in
       let on : slice_cmp nat_cmp name (row_at rows k).0 ≡ Less =
       nat_list_cmp_total.trans name (row_at rows middle).0 (row_at rows k).0 turned (ascending rows good middle k (omega arith) within) in

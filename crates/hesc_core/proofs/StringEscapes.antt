@@ -6,7 +6,7 @@ use Rattle.hesc_specs.specs.Text.Classes.{element_of, separator_lead, string_cla
 use Rattle.hesc_specs.specs.Text.Escaped.{escape_changes}
 use Rattle.hesc_specs.specs.Text.EscapedPlaces.{escapes_at}
 use Rattle.hesc_specs.specs.Text.FirstPlace.{IsFirstAt}
-use Rattle.hesc_specs.specs.Strings.Changes.{behind}
+use Rattle.hesc_specs.specs.Strings.Changes.{character_end}
 use Rattle.hesc_specs.specs.Strings.Encoding.{line_separator, paragraph_separator, string_escape}
 use Rattle.hesc_specs.specs.declared.classes.Class.{Class}
 use Rattle.hesc_specs.specs.declared.elements.Element.{Element}
@@ -21,7 +21,7 @@ use Rattle.hesc_engine.specs.declared.found.Replacement.{Replacement}
 -- what was found is the change of the first replaced character
 is_next : (class : Class) (element : Element) (quotes : Quotes) → string_class class ≡ Some (element, quotes)
     → (source : List ℕ) (from at end : ℕ) (replacement : Replacement) (first : FirstEscaped element quotes source from at) → from ≤ at → at < end
-    → behind at first.character ≡ end → replacement_bytes replacement ≡ string_escape element first.character
+    → character_end at first.character ≡ end → replacement_bytes replacement ≡ string_escape element first.character
     → IsNext source from (escape_changes class source) record { start = at; end = end; replacement = replacement }
 is_next class element quotes is source from at end replacement first after moves ends escapes = record {
   after = after;

@@ -10,7 +10,7 @@ ghost use Rattle.hesc_tool.specs.declared.faults.Fault.{Fault};
 use crate::faults::Fault;
 use crate::run;
 use crate::steps::write_whole;
-use crate::words::{lent, without_words, words_behind_name};
+use crate::words::{lent, without_words, words_after_name};
 use std::alloc::Allocator;
 use std::env::Args;
 use std::io::{self, Read, Write};
@@ -53,7 +53,7 @@ fn outcome_of<A: Allocator, B: Allocator, R: Read, W: Write>(
         Ok(args) => args,
         Err(error) => return Err(without_words(error)),
     };
-    let Ok(words) = words_behind_name(&alloc, args) else {
+    let Ok(words) = words_after_name(&alloc, args) else {
         return Err(Fault::Memory);
     };
     let Ok(words) = lent(&alloc, words.as_slice()) else {

@@ -10,7 +10,7 @@ use std::env::Args;
 use std::io::{self, ErrorKind};
 
 /// The words after the program's name.
-pub fn words_behind_name<A: Allocator, B: Allocator>(
+pub fn words_after_name<A: Allocator, B: Allocator>(
     alloc: A,
     args: Args<B>,
 ) -> Result<Vec<String<B>, A>, AllocError>

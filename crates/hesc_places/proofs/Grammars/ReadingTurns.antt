@@ -12,7 +12,7 @@ use Rattle.hesc_places.proofs.Grammars.Takes.{after-nothing, after-after}
 -- over all the bytes, what was read and the reading of the rest are the reading of the whole
 pub record Follows (place : Place) (bytes value : List ℕ) (mode : Mode) (rest : List ℕ) : Type 0 where
   pub shorter : length rest ≤ length bytes
-  pub told : after value (length bytes - length rest) (reading_after (step_of place) 0 mode rest) ≡ reading place bytes
+  pub known : after value (length bytes - length rest) (reading_after (step_of place) 0 mode rest) ≡ reading place bytes
 
 -- what the bytes begin with decides
 turned : (step : Mode → List ℕ → Step) (mode : Mode) (rest : List ℕ) → length rest ≢ 0 →
@@ -26,9 +26,9 @@ passed : (step : Mode → List ℕ → Step) (mode : Mode) (more : ℕ) (rest : 
 passed step mode zero rest within = sym (after-nothing (reading_after step 0 mode rest))
 passed step mode (suc more) [] within = absurd (omega arith)
 passed step mode (suc more) (b ∷ rest) within =
-    let behind : Option (List ℕ × ℕ) = reading_after step 0 mode (drop more rest) in
+    let following : Option (List ℕ × ℕ) = reading_after step 0 mode (drop more rest) in
     ap (after [] 1) (passed step mode more rest (omega arith)) ∙
-    (after-after [] [] 1 more behind ∙ ap (λ n. after [] n behind) (omega arith))
+    (after-after [] [] 1 more following ∙ ap (λ n. after [] n following) (omega arith))
 
 -- where they are not all there, there is no reading
 unfinished : (step : Mode → List ℕ → Step) (mode : Mode) (more : ℕ) (rest : List ℕ) → length rest < more →
@@ -46,18 +46,18 @@ pub ends : {place : Place} {bytes value : List ℕ} {mode : Mode} {rest : List �
     Close ≡ step_of place mode rest → Some (value, length bytes - length rest) ≡ reading place bytes
 ends {place} {bytes} {value} {mode} {rest} follows full close =
     let whole : after value (length bytes - length rest) (taken Close (λ more next. reading_after (step_of place) more next (drop 1 rest))) ≡ reading place bytes =
-    rw (turned (step_of place) mode rest full, sym close) at follows.told in
+    rw (turned (step_of place) mode rest full, sym close) at follows.known in
     rw (append-nil value, add-zero (length bytes - length rest)) at whole
 
 -- where nothing begins there is no reading
 pub knows_nothing : {place : Place} {bytes value : List ℕ} {mode : Mode} {rest : List ℕ} → Follows place bytes value mode rest → length rest ≢ 0 →
     Nothing ≡ step_of place mode rest → None ≡ reading place bytes
-knows_nothing {place} {mode = mode} {rest} follows full nothing = rw (turned (step_of place) mode rest full, sym nothing) at follows.told
+knows_nothing {place} {mode = mode} {rest} follows full nothing = rw (turned (step_of place) mode rest full, sym nothing) at follows.known
 
 -- nor where the bytes have run out
 pub runs_out : {place : Place} {bytes value : List ℕ} {mode : Mode} {rest : List ℕ} → Follows place bytes value mode rest → length rest ≡ 0 →
     None ≡ reading place bytes
-runs_out {rest = []} follows empty = follows.told
+runs_out {rest = []} follows empty = follows.known
 runs_out {rest = b ∷ rest} follows empty = absurd (omega arith)
 
 -- nor where an item is not all there
@@ -70,14 +70,14 @@ lacks {place} {mode = mode} {next} {rest} found more item is_item follows full i
       sym is,
       is_item (λ more next. reading_after (step_of place) more next (drop 1 rest)),
       none,
-    ) at follows.told
+    ) at follows.known
 
 -- an item is read, and the reading goes on after it
-goes_past : {place : Place} {bytes value items : List ℕ} {mode next : Mode} {rest behind : List ℕ} (found : Step) (more : ℕ) (item : List ℕ) → IsItem found more item next →
+goes_past : {place : Place} {bytes value items : List ℕ} {mode next : Mode} {rest following : List ℕ} (found : Step) (more : ℕ) (item : List ℕ) → IsItem found more item next →
     Follows place bytes value mode rest → length rest ≢ 0 → found ≡ step_of place mode rest → more < length rest →
-    items ≡ value ++ item → behind ≡ drop (more + 1) rest → Follows place bytes items next behind
-goes_past {place} {bytes} {value} {items} {mode} {next} {rest} {behind} found more item is_item follows full is within added dropped =
-    let shorter : length behind ≡ length rest - (more + 1) = ap length dropped ∙ length-drop (more + 1) rest in
+    items ≡ value ++ item → following ≡ drop (more + 1) rest → Follows place bytes items next following
+goes_past {place} {bytes} {value} {items} {mode} {next} {rest} {following} found more item is_item follows full is within added dropped =
+    let shorter : length following ≡ length rest - (more + 1) = ap length dropped ∙ length-drop (more + 1) rest in
     let last : Option (List ℕ × ℕ) = reading_after (step_of place) 0 next (drop more (drop 1 rest)) in
     let whole : after value (length bytes - length rest) (after item 1 (after [] more last)) ≡ reading place bytes =
     rw (
@@ -85,14 +85,14 @@ goes_past {place} {bytes} {value} {items} {mode} {next} {rest} {behind} found mo
       sym is,
       is_item (λ more next. reading_after (step_of place) more next (drop 1 rest)),
       passed (step_of place) next more (drop 1 rest) (omega (arith, length-drop 1 rest)),
-    ) at follows.told in
-    let count : (length bytes - length rest) + (1 + more) ≡ length bytes - length behind = omega (arith, shorter, follows.shorter) in
-    let place_behind : drop more (drop 1 rest) ≡ behind = drop-drop more 1 rest ∙ (ap (λ n. drop n rest) (omega arith) ∙ sym dropped) in
+    ) at follows.known in
+    let count : (length bytes - length rest) + (1 + more) ≡ length bytes - length following = omega (arith, shorter, follows.shorter) in
+    let place_after : drop more (drop 1 rest) ≡ following = drop-drop more 1 rest ∙ (ap (λ n. drop n rest) (omega arith) ∙ sym dropped) in
     let joined : after (value ++ item) ((length bytes - length rest) + (1 + more)) last ≡ reading place bytes =
     rw (after-after item [] 1 more last, append-nil item, after-after value item (length bytes - length rest) (1 + more) last) at whole in
     record {
       shorter = omega (arith, shorter, follows.shorter);
-      told = rw (added, sym count, sym place_behind) joined;
+      known = rw (added, sym count, sym place_after) joined;
     }
 
 pub lacks_byte : {place : Place} {bytes value : List ℕ} {mode next : Mode} {rest : List ℕ} {more b : ℕ} →
@@ -103,12 +103,12 @@ pub lacks_character : {place : Place} {bytes value : List ℕ} {mode next : Mode
     Follows place bytes value mode rest → length rest ≢ 0 → Character more c next ≡ step_of place mode rest → length rest ≤ more → None ≡ reading place bytes
 lacks_character {next = next} {more = more} {c} = lacks (Character more c next) more (encode_utf8 c) (λ go_on. refl)
 
-pub goes_past_byte : {place : Place} {bytes value items : List ℕ} {mode next : Mode} {rest behind : List ℕ} {more b : ℕ} →
+pub goes_past_byte : {place : Place} {bytes value items : List ℕ} {mode next : Mode} {rest following : List ℕ} {more b : ℕ} →
     Follows place bytes value mode rest → length rest ≢ 0 → Byte more b next ≡ step_of place mode rest → more < length rest →
-    items ≡ value ++ b ∷ [] → behind ≡ drop (more + 1) rest → Follows place bytes items next behind
+    items ≡ value ++ b ∷ [] → following ≡ drop (more + 1) rest → Follows place bytes items next following
 goes_past_byte {next = next} {more = more} {b} = goes_past (Byte more b next) more (b ∷ []) (λ go_on. refl)
 
-pub goes_past_character : {place : Place} {bytes value items : List ℕ} {mode next : Mode} {rest behind : List ℕ} {more c : ℕ} →
+pub goes_past_character : {place : Place} {bytes value items : List ℕ} {mode next : Mode} {rest following : List ℕ} {more c : ℕ} →
     Follows place bytes value mode rest → length rest ≢ 0 → Character more c next ≡ step_of place mode rest → more < length rest →
-    items ≡ value ++ encode_utf8 c → behind ≡ drop (more + 1) rest → Follows place bytes items next behind
+    items ≡ value ++ encode_utf8 c → following ≡ drop (more + 1) rest → Follows place bytes items next following
 goes_past_character {next = next} {more = more} {c} = goes_past (Character more c next) more (encode_utf8 c) (λ go_on. refl)

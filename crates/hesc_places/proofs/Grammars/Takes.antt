@@ -19,9 +19,9 @@ passes_over : (step : Mode → List ℕ → Step) (mode : Mode) (tail rest : Lis
     reading_after step (length tail) mode (tail ++ rest) ≡ after [] (length tail) (reading_after step 0 mode rest)
 passes_over step mode [] rest = sym (after-nothing (reading_after step 0 mode rest))
 passes_over step mode (b ∷ tail) rest =
-    let behind : Option (List ℕ × ℕ) = reading_after step 0 mode rest in
+    let following : Option (List ℕ × ℕ) = reading_after step 0 mode rest in
     ap (after [] 1) (passes_over step mode tail rest) ∙
-    (after-after [] [] 1 (length tail) behind ∙ ap (λ n. after [] n behind) (omega arith))
+    (after-after [] [] 1 (length tail) following ∙ ap (λ n. after [] n following) (omega arith))
 
 -- whatever follows, the piece is read as the value, and the reading goes on in the next mode
 pub record Takes (step : Mode → List ℕ → Step) (mode : Mode) (piece value : List ℕ) (next : Mode) : Type 0 where
@@ -54,10 +54,10 @@ takes_byte found = record { goes_on = λ rest. rw (found rest) refl }
 pub takes_byte_before : {step : Mode → List ℕ → Step} {mode next end : Mode} {b c : ℕ} {tail value : List ℕ} →
     ((rest : List ℕ) → step mode (b ∷ tail ++ rest) ≡ Byte 0 c next) →
     Takes step next tail value end → Takes step mode (b ∷ tail) (c ∷ value) end
-takes_byte_before {step} {end = end} {c = c} {tail} {value} found behind = record {
+takes_byte_before {step} {end = end} {c = c} {tail} {value} found following = record {
   goes_on = λ rest.
       let further : Option (List ℕ × ℕ) = reading_after step 0 end rest in
-      rw (found rest, behind.goes_on rest, after-after (c ∷ []) value 1 (length tail) further)
+      rw (found rest, following.goes_on rest, after-after (c ∷ []) value 1 (length tail) further)
       (ap (λ n. after (c ∷ value) n further) (omega arith));
 }
 
@@ -74,14 +74,14 @@ pub takes_character : {step : Mode → List ℕ → Step} {mode next : Mode} {b 
     Takes step mode (b ∷ tail) (encode_utf8 c) next
 takes_character {step} {next = next} {tail = tail} c found = record {
   goes_on = λ rest.
-      let behind : Option (List ℕ × ℕ) = reading_after step 0 next rest in
+      let following : Option (List ℕ × ℕ) = reading_after step 0 next rest in
       rw (
         found rest,
         passes_over step next tail rest,
-        after-after (encode_utf8 c) [] 1 (length tail) behind,
+        after-after (encode_utf8 c) [] 1 (length tail) following,
         append-nil (encode_utf8 c),
       )
-      (ap (λ n. after (encode_utf8 c) n behind) (omega arith));
+      (ap (λ n. after (encode_utf8 c) n following) (omega arith));
 }
 
 -- images, of which each is taken

@@ -1,4 +1,4 @@
--- What a grammar takes of a text: an item begins at a byte of ASCII and ends behind one, or is one byte.
+-- What a grammar takes of a text: an item begins at a byte of ASCII and ends after one, or is one byte.
 use Rattle.std.proofs.Common.{ℕ, zero, suc, ◌≡◌, ◌≢◌, ◌≤◌, ◌<◌, ◌+◌, ◌-◌, ◌⊎◌, inl, inr, Bool, true, false, ◌&&◌, ◌==◌, List, [], ◌∷◌, Option, Some, None, length, take, refl, arith, ne_eqb}
 use Rattle.std.proofs.lemmas.Bool.{and_parts, cases_Bool, cases_eq, cases_lt, le-ltb}
 use Rattle.std.proofs.lemmas.Bool.Decides.{nat_tests}
@@ -196,10 +196,10 @@ script_string_item mark mode b bytes ascii =
       ])
     ]
 
-digit_behind : (b : ℕ) (bytes more : List ℕ) (k : ℕ) → ((j : ℕ) → j < length more → is_digit (slice_index bytes j) 16 ≡ true) → is_digit b 16 ≡ true
+digit_after : (b : ℕ) (bytes more : List ℕ) (k : ℕ) → ((j : ℕ) → j < length more → is_digit (slice_index bytes j) 16 ≡ true) → is_digit b 16 ≡ true
     → k < length (b ∷ more) → is_digit (slice_index (b ∷ bytes) k) 16 ≡ true
-digit_behind b bytes more zero later first within = first
-digit_behind b bytes more (suc k) later first within = later k (omega arith)
+digit_after b bytes more zero later first within = first
+digit_after b bytes more (suc k) later first within = later k (omega arith)
 
 -- the digits at the front are digits
 digit_at : (bytes : List ℕ) (most k : ℕ) → k < length (take_while (λ d. is_digit d 16) (take most bytes)) → is_digit (slice_index bytes k) 16 ≡ true
@@ -207,7 +207,7 @@ digit_at bytes zero k within = absurd (omega arith)
 digit_at [] (suc most) k within = absurd (omega arith)
 digit_at (b ∷ bytes) (suc most) k within =
     elim (cases_Bool (is_digit b 16)) [
-      | inl is ↦ digit_behind b bytes (take_while (λ d. is_digit d 16) (take most bytes)) k (digit_at bytes most) is (rw (take_while-cons (λ d. is_digit d 16) b (take most bytes), is) at within)
+      | inl is ↦ digit_after b bytes (take_while (λ d. is_digit d 16) (take most bytes)) k (digit_at bytes most) is (rw (take_while-cons (λ d. is_digit d 16) b (take most bytes), is) at within)
       | inr other ↦ absurd (let none = rw (take_while-cons (λ d. is_digit d 16) b (take most bytes), other) at within in omega arith)
     ]
 
@@ -247,7 +247,7 @@ script_body_item mode b bytes =
       | inr item ↦ rw item (inl (refl, refl))
     ]
 
--- the last byte of digits, or of the white space behind them
+-- the last byte of digits, or of the white space after them
 escape_end : (count : ℕ) (bytes : List ℕ) → 0 < count → is_digit (slice_index bytes (count - 1)) 16 ≡ true
     → slice_index (backslash ∷ bytes) (count + white_space_length (drop count bytes)) < 128
 escape_end count bytes some last =

@@ -19,12 +19,12 @@ use Rattle.hesc_places.specs.Pages.Parsers.{some_while}
 use Rattle.hesc_places.specs.Grammars.Words.{is_white_space}
 use Rattle.hesc_places.proofs.Places.Marked.{marked_text}
 use Rattle.hesc_places.proofs.Grammars.ParserLaws.{some_while-all}
-use Rattle.hesc_places.proofs.Places.UnquotedEndings.{first_ending-behind, inner-encoding, is_inner}
+use Rattle.hesc_places.proofs.Places.UnquotedEndings.{first_ending-after, inner-encoding, is_inner}
 use Rattle.hesc_places.proofs.Places.Unquoted.{unquoted_nul, encoding-full}
 
 -- after an unquoted value stands a space
 abbrev pub MayFollow : Quoting → List ℕ → Type 0
-MayFollow Unquoted rest = (behind : List ℕ) × (rest ≡ space ∷ behind)
+MayFollow Unquoted rest = (following : List ℕ) × (rest ≡ space ∷ following)
 MayFollow other rest = ⊤
 
 -- bytes that begin with no quote mark are read as an unquoted value
@@ -39,22 +39,22 @@ begins_unquoted (b ∷ bytes) rest full inner =
     let no_single : (b == single_quote) ≡ false = grind (arith, nat_tests) in
     rw (no_double, no_single) refl
 
-unquoted_again : (value behind : List ℕ) → length value ≢ 0 →
-    unquoted_at (encoding class.UnquotedAttribute value ++ space ∷ behind) ≡ Some (Unquoted, value_back Unquoted value, space ∷ behind)
+unquoted_again : (value following : List ℕ) → length value ≢ 0 →
+    unquoted_at (encoding class.UnquotedAttribute value ++ space ∷ following) ≡ Some (Unquoted, value_back Unquoted value, space ∷ following)
 unfolding unquoted_at
-unquoted_again value behind full =
+unquoted_again value following full =
     rw (
-      first_ending-behind (encoding class.UnquotedAttribute value) (space ∷ behind) (inner-encoding value),
-      unquoted_nul Space value behind full,
-      drop-append_seam (encoding class.UnquotedAttribute value) (space ∷ behind),
+      first_ending-after (encoding class.UnquotedAttribute value) (space ∷ following) (inner-encoding value),
+      unquoted_nul Space value following full,
+      drop-append_seam (encoding class.UnquotedAttribute value) (space ∷ following),
     ) refl
 
 -- after a value and its closing mark
-behind_mark : (value rest : List ℕ) (mark : ℕ) → drop (length value + 1) (value ++ mark ∷ rest) ≡ rest
-behind_mark [] rest mark = refl
-behind_mark (b ∷ value) rest mark =
+after_mark : (value rest : List ℕ) (mark : ℕ) → drop (length value + 1) (value ++ mark ∷ rest) ≡ rest
+after_mark [] rest mark = refl
+after_mark (b ∷ value) rest mark =
     let one_more : length (b ∷ value) + 1 ≡ suc (length value + 1) = omega arith in
-    ap (λ n. drop n (b ∷ (value ++ mark ∷ rest))) one_more ∙ behind_mark value rest mark
+    ap (λ n. drop n (b ∷ (value ++ mark ∷ rest))) one_more ∙ after_mark value rest mark
 
 single_again : (value rest : List ℕ) →
     quoted_at Single SingleAttribute (encoding class.SingleQuotedAttribute value ++ single_quote ∷ rest) ≡ Some (Single, value, rest)
@@ -62,7 +62,7 @@ unfolding quoted_at
 single_again value rest =
     rw (
       marked_text class.SingleQuotedAttribute single_quote (refl, (refl, refl)) refl value rest,
-      behind_mark (encoding class.SingleQuotedAttribute value) rest single_quote,
+      after_mark (encoding class.SingleQuotedAttribute value) rest single_quote,
     ) refl
 
 double_again : (value rest : List ℕ) →
@@ -71,7 +71,7 @@ unfolding quoted_at
 double_again value rest =
     rw (
       marked_text class.DoubleQuotedAttribute double_quote (refl, (refl, refl)) refl value rest,
-      behind_mark (encoding class.DoubleQuotedAttribute value) rest double_quote,
+      after_mark (encoding class.DoubleQuotedAttribute value) rest double_quote,
     ) refl
 
 -- a value is read back
@@ -123,10 +123,10 @@ MayEnd (a ∷ []) rest = MayFollow a.quoting rest
 MayEnd (a ∷ b ∷ others) rest = MayEnd (b ∷ others) rest
 
 -- another attribute may follow any
-followed : (quoting : Quoting) (behind : List ℕ) → MayFollow quoting (space ∷ behind)
-followed Unquoted behind = (behind, refl)
-followed Single behind = tt
-followed Double behind = tt
+followed : (quoting : Quoting) (following : List ℕ) → MayFollow quoting (space ∷ following)
+followed Unquoted following = (following, refl)
+followed Single following = tt
+followed Double following = tt
 
 first_may : (a : Entry) (others : List Entry) (rest : List ℕ) → MayEnd (a ∷ others) rest →
     MayFollow a.quoting (flat_map attribute_text others ++ rest)
@@ -147,11 +147,11 @@ attributes_again [] zero rest enough names filled may none = refl
 attributes_again [] (suc most) rest enough names filled may none = rw none refl
 attributes_again (a ∷ others) zero rest enough names filled may none = absurd (omega arith)
 attributes_again (a ∷ others) (suc most) rest enough names filled may none =
-    let behind : List ℕ = flat_map attribute_text others ++ rest in
-    let regrouped : flat_map attribute_text (a ∷ others) ++ rest ≡ attribute_text a ++ behind =
+    let following : List ℕ = flat_map attribute_text others ++ rest in
+    let regrouped : flat_map attribute_text (a ∷ others) ++ rest ≡ attribute_text a ++ following =
     append_assoc (attribute_text a) (flat_map attribute_text others) rest in
     ap (attributes_at (suc most)) regrouped
     ∙ rw (
-      attribute_again a behind names.0 filled.0 (first_may a others rest may),
+      attribute_again a following names.0 filled.0 (first_may a others rest may),
       attributes_again others most rest (omega arith) names.1 filled.1 (others_may a others rest may) none,
     ) refl

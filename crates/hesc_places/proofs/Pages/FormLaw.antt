@@ -4,7 +4,7 @@ use Rattle.hesc_places.specs.declared.markup.types.Quoting.{Quoting}
 use Rattle.hesc_places.specs.declared.markup.types.Quoting.TheVariants.{Unquoted, Single, Double}
 use Rattle.hesc_places.specs.Pages.AttributeReadings.{Entry, attribute_at, attributes_at}
 use Rattle.hesc_places.specs.Pages.FormReadings.{form_reading, with_attributes}
-use Rattle.hesc_places.specs.Pages.FormTexts.{AreGood, attribute_text, entry_back, form_back, form_text, gap, gap_behind, script_text}
+use Rattle.hesc_places.specs.Pages.FormTexts.{AreGood, attribute_text, entry_back, form_back, form_text, gap, gap_after, script_text}
 use Rattle.hesc_places.proofs.Pages.AttributeLaws.{MayEnd, MayFollow, attributes_again}
 use Rattle.hesc_places.proofs.Pages.ScriptTexts.{tail_again}
 
@@ -14,25 +14,25 @@ last_quoting [] = Double
 last_quoting (a ∷ []) = a.quoting
 last_quoting (a ∷ b ∷ others) = last_quoting (b ∷ others)
 
-gap-last : (attributes : List Entry) → gap attributes ≡ gap_behind (last_quoting attributes)
+gap-last : (attributes : List Entry) → gap attributes ≡ gap_after (last_quoting attributes)
 unfolding last_quoting
 gap-last [] = refl
 gap-last (a ∷ []) = refl
 gap-last (a ∷ b ∷ others) = gap-last (b ∷ others)
 
-gap_follows : (quoting : Quoting) (rest : List ℕ) → MayFollow quoting (gap_behind quoting ++ rest)
+gap_follows : (quoting : Quoting) (rest : List ℕ) → MayFollow quoting (gap_after quoting ++ rest)
 gap_follows Unquoted rest = (rest, refl)
 gap_follows Single rest = tt
 gap_follows Double rest = tt
 
-gap_ends : (attributes : List Entry) (rest : List ℕ) → MayEnd attributes (gap_behind (last_quoting attributes) ++ rest)
+gap_ends : (attributes : List Entry) (rest : List ℕ) → MayEnd attributes (gap_after (last_quoting attributes) ++ rest)
 unfolding last_quoting
 gap_ends [] rest = tt
 gap_ends (a ∷ []) rest = gap_follows a.quoting rest
 gap_ends (a ∷ b ∷ others) rest = gap_ends (b ∷ others) rest
 
 -- the end of the tag is no attribute
-no_attribute : (quoting : Quoting) (script rest : List ℕ) → attribute_at (gap_behind quoting ++ (script_text script ++ rest)) ≡ None
+no_attribute : (quoting : Quoting) (script rest : List ℕ) → attribute_at (gap_after quoting ++ (script_text script ++ rest)) ≡ None
 unfolding attribute_at
 no_attribute Unquoted script rest = refl
 no_attribute Single script rest = refl
@@ -55,7 +55,7 @@ unfolding form_reading with_attributes
 form_again attributes script rest good utf8 =
     let quoting : Quoting = last_quoting attributes in
     let written : List ℕ = flat_map attribute_text attributes in
-    let tail : List ℕ = gap_behind quoting ++ (script_text script ++ rest) in
+    let tail : List ℕ = gap_after quoting ++ (script_text script ++ rest) in
     let inside : List ℕ = (written ++ (gap attributes ++ script_text script)) ++ rest in
     let regrouped : inside ≡ written ++ tail =
     append_assoc written (gap attributes ++ script_text script) rest

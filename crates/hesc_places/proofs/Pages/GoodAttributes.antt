@@ -78,17 +78,17 @@ no_choice true true unfilled one other none = cc
 no_choice false stood unfilled one other none = cc
 
 -- after these names nothing is wrong with the attributes
-record StandBehind (earlier : List (List ℕ)) (attributes : List Entry) : Type 0 where
+record StandAfter (earlier : List (List ℕ)) (attributes : List Entry) : Type 0 where
   good : AreGood attributes
   others : HaveOthers earlier attributes
 
-stand_behind : (earlier : List (List ℕ)) (place : ℕ) (attributes : List Entry) →
-    fault_from earlier place attributes ≡ None → StandBehind earlier attributes
-stand_behind earlier place [] none = record { good = record { names = tt; differ = refl; filled = tt }; others = tt }
-stand_behind earlier place (a ∷ others) none =
+stand_after : (earlier : List (List ℕ)) (place : ℕ) (attributes : List Entry) →
+    fault_from earlier place attributes ≡ None → StandAfter earlier attributes
+stand_after earlier place [] none = record { good = record { names = tt; differ = refl; filled = tt }; others = tt }
+stand_after earlier place (a ∷ others) none =
     let both = neither (attribute_fault earlier place a) (fault_from (earlier ++ a.name ∷ []) (place + 1) others) none in
     let first = no_choice (is_name a.name) (list_any (bytes_eq a.name) earlier) (is_unfilled a.quoting a.value) _ _ both.0 in
-    let rest = stand_behind (earlier ++ a.name ∷ []) (place + 1) others both.1 in
+    let rest = stand_after (earlier ++ a.name ∷ []) (place + 1) others both.1 in
     let apart = both_of_others earlier (a.name ∷ []) others rest.others in
     record {
       good = record {
@@ -106,13 +106,13 @@ nothing_wrong earlier place (a ∷ others) good have =
     let differs = and_parts (not (list_any (bytes_eq a.name) (map (λ b. b.name) others))) (differ (map (λ b. b.name) others)) good.differ in
     let none : list_any (bytes_eq a.name) (map (λ b. b.name) others) ≡ false = not-true _ differs.0 in
     let rest : AreGood others = record { names = good.names.1; differ = differs.1; filled = good.filled.1 } in
-    let behind : HaveOthers (earlier ++ a.name ∷ []) others =
+    let following : HaveOthers (earlier ++ a.name ∷ []) others =
     others_of_both earlier (a.name ∷ []) others have.1 (others_of_one a.name others none) in
-    rw (good.names.0, have.0, unfilled a.quoting a.value good.filled.0) (nothing_wrong (earlier ++ a.name ∷ []) (place + 1) others rest behind)
+    rw (good.names.0, have.0, unfilled a.quoting a.value good.filled.0) (nothing_wrong (earlier ++ a.name ∷ []) (place + 1) others rest following)
 
 -- attributes have no fault exactly where they are good
 pub good_without_fault : (attributes : List Entry) → (first_fault attributes ≡ None) ↔ AreGood attributes
 good_without_fault attributes = (
-  (λ none. (stand_behind [] 0 attributes none).good),
+  (λ none. (stand_after [] 0 attributes none).good),
   (λ good. nothing_wrong [] 0 attributes good (others_of_none attributes)),
 )

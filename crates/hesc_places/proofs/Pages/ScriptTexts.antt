@@ -10,8 +10,8 @@ use Rattle.hesc_specs.proofs.Strings.Plain.{plain-string_encoding}
 use Rattle.hesc_places.specs.declared.place.places.Place.TheVariants.{ScriptBody}
 use Rattle.hesc_places.specs.declared.markup.types.Quoting.{Quoting}
 use Rattle.hesc_places.specs.declared.markup.types.Quoting.TheVariants.{Unquoted, Single, Double}
-use Rattle.hesc_places.specs.Pages.FormReadings.{alerted, behind_attributes, script_at}
-use Rattle.hesc_places.specs.Pages.FormTexts.{gap_behind, script_text}
+use Rattle.hesc_places.specs.Pages.FormReadings.{alerted, after_attributes, script_at}
+use Rattle.hesc_places.specs.Pages.FormTexts.{gap_after, script_text}
 use Rattle.hesc_places.specs.Places.Readings.{reading}
 use Rattle.hesc_places.proofs.Places.Bodies.{read_before_tag}
 use Rattle.hesc_places.proofs.Places.ScriptStrings.{script_string_reading}
@@ -82,8 +82,8 @@ module _ (script : List ℕ) (utf8 : IsUtf8 script) where
 
   -- after the attributes, the script is read back
   pub tail_again : (quoting : Quoting) (rest : List ℕ) →
-      behind_attributes (gap_behind quoting ++ (script_text script ++ rest)) ≡ Some (script, rest)
-  unfolding behind_attributes
-  tail_again Unquoted rest = ap (λ bytes. behind_attributes (space ∷ bytes)) (regrouped rest) ∙ script_again rest
-  tail_again Single rest = ap behind_attributes (regrouped rest) ∙ script_again rest
-  tail_again Double rest = ap behind_attributes (regrouped rest) ∙ script_again rest
+      after_attributes (gap_after quoting ++ (script_text script ++ rest)) ≡ Some (script, rest)
+  unfolding after_attributes
+  tail_again Unquoted rest = ap (λ bytes. after_attributes (space ∷ bytes)) (regrouped rest) ∙ script_again rest
+  tail_again Single rest = ap after_attributes (regrouped rest) ∙ script_again rest
+  tail_again Double rest = ap after_attributes (regrouped rest) ∙ script_again rest

@@ -70,18 +70,18 @@ same_either_way one other =
     same_from_decides (bytes_eq one other) (bytes_eq other one) there ((λ e. sym (back.0 e)), (λ e. back.1 (sym e)))
 
 -- the names are new after one more where they were new before and none of them is that one
-pub new_behind : (stood more : List (Bor (List ℕ))) (name : List ℕ) →
+pub new_after : (stood more : List (Bor (List ℕ))) (name : List ℕ) →
     ((asked : List ℕ) → has more asked ≡ (bytes_eq asked name || has stood asked)) →
     (names : List (List ℕ)) → are_new more names ≡ (are_new stood names && not (list_any (bytes_eq name) names))
-new_behind stood more name added [] = refl
-new_behind stood more name added (first ∷ names) =
-    rw (added first, same_either_way first name, new_behind stood more name added names)
+new_after stood more name added [] = refl
+new_after stood more name added (first ∷ names) =
+    rw (added first, same_either_way first name, new_after stood more name added names)
     (apart (bytes_eq name first) (has stood first) (are_new stood names) (list_any (bytes_eq name) names))
 
 -- the first name stood before, so the names are not all new
 pub old_first : (stood : List (Bor (List ℕ))) (first : List ℕ) (names : List (List ℕ)) (all : Bool) →
     true ≡ has stood first → (are_new stood (first ∷ names) && differ (first ∷ names)) ≡ all → false ≡ all
-old_first stood first names all is told = rw (sym is) at told
+old_first stood first names all is known = rw (sym is) at known
 
 and_turn : (one other third : Bool) → ((one && other) && third) ≡ (one && (other && third))
 and_turn true other third = refl
@@ -92,8 +92,8 @@ pub new_first : (stood more : List (Bor (List ℕ))) (first : List ℕ) (names :
     false ≡ has stood first →
     ((asked : List ℕ) → has more asked ≡ (bytes_eq asked first || has stood asked)) →
     (are_new stood (first ∷ names) && differ (first ∷ names)) ≡ all → (are_new more names && differ names) ≡ all
-new_first stood more first names all is added told =
-    rw (new_behind stood more first added names) (and_turn (are_new stood names) (not (list_any (bytes_eq first) names)) (differ names) ∙ (rw (sym is) at told))
+new_first stood more first names all is added known =
+    rw (new_after stood more first added names) (and_turn (are_new stood names) (not (list_any (bytes_eq first) names)) (differ names) ∙ (rw (sym is) at known))
 
 pub not_not : (b : Bool) → not (not b) ≡ b
 not_not true = refl

@@ -26,12 +26,12 @@ word_before : (element : Element) (word : List ℕ) (follows : List ℕ → Bool
     ((bytes rest : List ℕ) → follows (body_encoding element bytes ++ less_than ∷ rest) ≡ follows bytes) →
     (bytes rest : List ℕ) →
     begins_in_any_case word follows (body_encoding element bytes ++ less_than ∷ rest) ≡ begins_in_any_case word follows bytes
-word_before element [] follows quiet behind bytes rest = behind bytes rest
-word_before element (w ∷ word) follows quiet behind [] rest = rw quiet.0 refl
-word_before element (w ∷ word) follows quiet behind (b ∷ bytes) rest =
+word_before element [] follows quiet following bytes rest = following bytes rest
+word_before element (w ∷ word) follows quiet following [] rest = rw quiet.0 refl
+word_before element (w ∷ word) follows quiet following (b ∷ bytes) rest =
     elim (cases_eq b less_than) [
       | inl is ↦ rw (is, quiet.0) refl
-      | inr other ↦ rw (ne_eqb b less_than other) (ap (λ x. (to_ascii_lowercase b == w) && x) (word_before element word follows quiet.1 behind bytes rest))
+      | inr other ↦ rw (ne_eqb b less_than other) (ap (λ x. (to_ascii_lowercase b == w) && x) (word_before element word follows quiet.1 following bytes rest))
     ]
 
 ends_tag_name-before : (element : Element) (bytes rest : List ℕ) →
@@ -134,12 +134,12 @@ before_tag element (b ∷ text) tag is =
     elim (cases_Bool (is_opening element (b ∷ text))) [
       | inl opens ↦
           let first : b ≡ less_than = eqb-true b less_than (and_parts (b == less_than) (completes_opening element text) opens).0 in
-          let behind : List ℕ = body_encoding element text ++ less_than ∷ tag in
+          let following : List ℕ = body_encoding element text ++ less_than ∷ tag in
           rw (
             opens,
             first,
-            goes_on element less_than (backslash ∷ behind) refl refl,
-            goes_on-other element backslash behind (omega arith),
+            goes_on element less_than (backslash ∷ following) refl refl,
+            goes_on-other element backslash following (omega arith),
             before_tag element text tag is,
           )
           (ap (after (less_than ∷ []) 1) (counted backslash (body_encoding element text)) ∙ counted less_than (backslash ∷ body_encoding element text))

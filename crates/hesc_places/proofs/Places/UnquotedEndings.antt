@@ -51,9 +51,9 @@ no_ending b inner =
     rw (no_tab, no_line_feed, no_form_feed, no_space, no_greater) refl
 
 -- the first ending is after bytes that are none
-pub first_ending-behind : (bytes rest : List ℕ) → list_all is_inner bytes ≡ true →
+pub first_ending-after : (bytes rest : List ℕ) → list_all is_inner bytes ≡ true →
     first_ending (bytes ++ rest) ≡ first_ending rest
-first_ending-behind [] rest inner = refl
-first_ending-behind (b ∷ bytes) rest inner =
+first_ending-after [] rest inner = refl
+first_ending-after (b ∷ bytes) rest inner =
     let parts = and_parts (is_inner b) (list_all is_inner bytes) inner in
-    rw (no_ending b parts.0) (first_ending-behind bytes rest parts.1)
+    rw (no_ending b parts.0) (first_ending-after bytes rest parts.1)

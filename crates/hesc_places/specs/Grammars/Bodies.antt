@@ -16,16 +16,16 @@ style_body_step mode [] = Nothing
 style_body_step mode (b ∷ bytes) = if is_end_tag Style (b ∷ bytes) then Close else Byte 0 b Plain
 
 -- the mode after a byte of a script's body, by what begins at it
-abbrev pub mode_behind : Mode → List ℕ → Mode
-mode_behind Escaped bytes =
+abbrev pub mode_after : Mode → List ℕ → Mode
+mode_after Escaped bytes =
     if is_start_tag Script bytes then DoubleEscaped
     else (if begins (codes "-->") bytes then Plain
     else Escaped)
-mode_behind DoubleEscaped bytes =
+mode_after DoubleEscaped bytes =
     if is_end_tag Script bytes then Escaped
     else (if begins (codes "-->") bytes then Plain
     else DoubleEscaped)
-mode_behind other bytes = if begins (codes "<!--") bytes then Escaped else Plain
+mode_after other bytes = if begins (codes "<!--") bytes then Escaped else Plain
 
 -- an end tag ends a script's body, but within a comment the first one after a start tag ends only what that began
 abbrev pub ends_script : Mode → List ℕ → Bool
@@ -36,4 +36,4 @@ ends_script other bytes = is_end_tag Script bytes
 unfoldable pub script_body_step : Mode → List ℕ → Step
 script_body_step mode [] = Nothing
 script_body_step mode (b ∷ bytes) =
-    if ends_script mode (b ∷ bytes) then Close else Byte 0 b (mode_behind mode (b ∷ bytes))
+    if ends_script mode (b ∷ bytes) then Close else Byte 0 b (mode_after mode (b ∷ bytes))

@@ -67,8 +67,8 @@ unfoldable pub attribute_at : List ℕ → Option (Entry × List ℕ)
 attribute_at bytes = do
   gap ← some_while is_white_space bytes
   name ← some_while is_ascii_lowercase gap.1
-  behind ← past (codes "=") name.1
-  value ← value_at behind
+  after ← past (codes "=") name.1
+  value ← value_at after
   Some (entry name.0 value.0 value.1, value.2)
 
 -- an attribute, if there is one, and those that follow it

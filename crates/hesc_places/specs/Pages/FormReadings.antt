@@ -40,8 +40,8 @@ script_at bytes = do
   Some (literal, rest)
 
 -- all that follows the attributes: the literal, and the bytes after the script
-unfoldable pub behind_attributes : List ℕ → Option (List ℕ × List ℕ)
-behind_attributes bytes = do
+unfoldable pub after_attributes : List ℕ → Option (List ℕ × List ℕ)
+after_attributes bytes = do
   tag ← tag_end bytes
   body ← past (codes "<script>") tag
   script_at body
@@ -49,7 +49,7 @@ behind_attributes bytes = do
 -- the form with these attributes, in so many bytes
 unfoldable pub with_attributes : ℕ → List Entry × List ℕ → Option FormRead
 with_attributes total found = do
-  script ← behind_attributes found.1
+  script ← after_attributes found.1
   if differ (map (λ entry. entry.name) found.0)
       then Some (form_found found.0 script.0 (total - length script.1))
       else None

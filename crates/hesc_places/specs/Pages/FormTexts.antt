@@ -27,13 +27,13 @@ abbrev pub attribute_text : Entry → List ℕ
 attribute_text a = space ∷ (a.name ++ equals_sign ∷ value_text a.quoting a.value)
 
 -- a space stands after the last attribute if it is unquoted, so that its value does not take the `/`
-abbrev pub gap_behind : Quoting → List ℕ
-gap_behind Unquoted = space ∷ []
-gap_behind other = []
+abbrev pub gap_after : Quoting → List ℕ
+gap_after Unquoted = space ∷ []
+gap_after other = []
 
 abbrev pub gap : List Entry → List ℕ
 gap [] = []
-gap (a ∷ []) = gap_behind a.quoting
+gap (a ∷ []) = gap_after a.quoting
 gap (a ∷ b ∷ others) = gap (b ∷ others)
 
 -- what stands after the attributes

@@ -16,7 +16,7 @@ past word bytes = if begins word bytes then Some (drop (length word) bytes) else
 -- the bytes after a word in lower case that stands there in any ASCII case
 abbrev pub past_in_any_case : List ℕ → List ℕ → Option (List ℕ)
 past_in_any_case word bytes =
-    if begins_in_any_case word (λ behind. true) bytes then Some (drop (length word) bytes) else None
+    if begins_in_any_case word (λ following. true) bytes then Some (drop (length word) bytes) else None
 
 -- the bytes after all that pass, none or more
 abbrev pub past_while : (ℕ → Bool) → List ℕ → List ℕ

@@ -5,7 +5,7 @@ ghost use Rattle.hesc_specs.specs.Text.Elements.{element_name};
 ghost use Rattle.hesc_specs.specs.Text.Words.{begins_in_any_case};
 ghost use Rattle.hesc_places.specs.Grammars.Bodies.{
   ends_script,
-  mode_behind,
+  mode_after,
   script_body_step,
   style_body_step,
 };
@@ -39,7 +39,7 @@ pub fn script_body_step(mode: Mode, bytes: &[u8]) -> Step
     if ends_script(mode, bytes) {
         return Step::Close;
     }
-    Step::Byte(0, *first, mode_behind(mode, bytes))
+    Step::Byte(0, *first, mode_after(mode, bytes))
 }
 
 fn ends_script(mode: Mode, bytes: &[u8]) -> bool
@@ -51,8 +51,8 @@ fn ends_script(mode: Mode, bytes: &[u8]) -> bool
     }
 }
 
-fn mode_behind(mode: Mode, bytes: &[u8]) -> Mode
-    ensures { result ≡ mode_behind mode bytes.now }
+fn mode_after(mode: Mode, bytes: &[u8]) -> Mode
+    ensures { result ≡ mode_after mode bytes.now }
 {
     match mode {
         Mode::Escaped => {

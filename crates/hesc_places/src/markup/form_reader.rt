@@ -4,7 +4,7 @@ ghost use Rattle.std.specs.Option.{option_map};
 ghost use Rattle.hesc_places.specs.Pages.AttributeReadings.{entry};
 ghost use Rattle.hesc_places.specs.Pages.FormReadings.{
   alerted,
-  behind_attributes,
+  after_attributes,
   form_reading,
   form_found,
   script_at,
@@ -64,7 +64,7 @@ fn with_attributes<A: Allocator + Clone>(
         ≡ with_attributes total
         (map (λ a. entry a.0.items a.1 a.2.items) attributes.items, bytes.now)) }
 {
-    let Some((script, rest)) = behind_attributes(alloc.clone()?, bytes)? else {
+    let Some((script, rest)) = after_attributes(alloc.clone()?, bytes)? else {
         return Ok(None);
     };
     if !differ(alloc, attributes.as_slice())? {
@@ -79,13 +79,13 @@ fn with_attributes<A: Allocator + Clone>(
 }
 
 // All that follows the attributes: the literal, and the bytes after the script.
-#[tactic(auto, unfolding(crate::specs::Pages::FormReadings::behind_attributes))]
-fn behind_attributes<A: Allocator + Clone>(
+#[tactic(auto, unfolding(crate::specs::Pages::FormReadings::after_attributes))]
+fn after_attributes<A: Allocator + Clone>(
     alloc: A,
     bytes: &[u8],
 ) -> Result<Option<(Vec<u8, A>, &[u8])>, AllocError>
     ensures { IfOk result (λ found. option_map (λ s. (s.0.items, s.1.now)) found
-        ≡ behind_attributes bytes.now) }
+        ≡ after_attributes bytes.now) }
 {
     let Some(tag) = tag_end(bytes) else {
         return Ok(None);

@@ -6,7 +6,7 @@ ghost use Rattle.hesc_places.specs.Pages.FormTexts.{
   attribute_text,
   form_text,
   gap,
-  gap_behind,
+  gap_after,
   script_text,
   value_text,
   written,
@@ -117,14 +117,14 @@ fn gap(attributes: &[Attribute]) -> &'static str
     ensures { result.now ≡ gap (map written attributes.now) }
 {
     match attributes.last() {
-        Some(last) => gap_behind(last.quoting),
+        Some(last) => gap_after(last.quoting),
         None => "",
     }
 }
 
 // A space, so that an unquoted value does not take the `/`.
-fn gap_behind(quoting: Quoting) -> &'static str
-    ensures { result.now ≡ gap_behind quoting }
+fn gap_after(quoting: Quoting) -> &'static str
+    ensures { result.now ≡ gap_after quoting }
 {
     match quoting {
         Quoting::Unquoted => " ",

@@ -20,14 +20,14 @@ pub(crate) fn past_in_any_case<'b>(bytes: &'b [u8], word: &[u8]) -> Option<&'b [
     let mut letters = word;
     let mut rest = bytes;
     'letters: while let [letter, others @ ..] = letters {
-        let [byte, behind @ ..] = rest else {
+        let [byte, after @ ..] = rest else {
             return None;
         };
         if byte.to_ascii_lowercase() != *letter {
             return None;
         }
         letters = others;
-        rest = behind;
+        rest = after;
     }
     Some(rest)
 }
@@ -39,9 +39,9 @@ pub(crate) fn white_space_at(bytes: &[u8]) -> usize
 {
     let mut count = 0;
     let mut rest = bytes;
-    'space: while let [b'\t' | b'\n' | b'\x0c' | b' ', behind @ ..] = rest {
+    'space: while let [b'\t' | b'\n' | b'\x0c' | b' ', after @ ..] = rest {
         count += 1;
-        rest = behind;
+        rest = after;
     }
     count
 }
@@ -53,9 +53,9 @@ pub(crate) fn letters_at(bytes: &[u8]) -> usize
 {
     let mut count = 0;
     let mut rest = bytes;
-    'letters: while let [b'a'..=b'z', behind @ ..] = rest {
+    'letters: while let [b'a'..=b'z', after @ ..] = rest {
         count += 1;
-        rest = behind;
+        rest = after;
     }
     count
 }

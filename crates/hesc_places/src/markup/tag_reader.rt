@@ -35,9 +35,9 @@ pub(crate) fn attributes_at<A: Allocator + Clone>(
     for _ in 0..bytes.len() {
         match attribute_at(alloc.clone()?, rest)? {
             None => return Ok((attributes, rest)),
-            Some((attribute, behind)) => {
+            Some((attribute, after)) => {
                 attributes.push(attribute)?;
-                rest = behind;
+                rest = after;
             }
         }
     }
@@ -64,10 +64,10 @@ fn attribute_at<A: Allocator + Clone>(
         return Ok(None);
     }
     let (name, rest) = named.split_at(letters);
-    let Some(behind) = past(rest, b"=") else {
+    let Some(after) = past(rest, b"=") else {
         return Ok(None);
     };
-    let Some((quoting, value, rest)) = value_at(alloc.clone()?, behind)? else {
+    let Some((quoting, value, rest)) = value_at(alloc.clone()?, after)? else {
         return Ok(None);
     };
     let name = Vec::from_slice(alloc, name)?;
@@ -105,8 +105,8 @@ fn quoted_at<A: Allocator>(
     let Some(found) = read_place(alloc, place, bytes)? else {
         return Ok(None);
     };
-    let (_, behind) = bytes.split_at(found.end + 1);
-    Ok(Some((quoting, found.value, behind)))
+    let (_, after) = bytes.split_at(found.end + 1);
+    Ok(Some((quoting, found.value, after)))
 }
 
 // A value without quote marks, up to its ending.
@@ -124,19 +124,19 @@ fn unquoted_at<A: Allocator>(
     let Some(found) = read_place(alloc, Place::UnquotedAttribute(end), bytes)? else {
         return Ok(None);
     };
-    let (_, behind) = bytes.split_at(found.end);
-    Ok(Some((Quoting::Unquoted, found.value, behind)))
+    let (_, after) = bytes.split_at(found.end);
+    Ok(Some((Quoting::Unquoted, found.value, after)))
 }
 
 fn first_ending(bytes: &[u8]) -> Option<End>
     ensures { result ≡ first_ending bytes.now }
 {
     let mut rest = bytes;
-    'bytes: while let [byte, behind @ ..] = rest {
+    'bytes: while let [byte, after @ ..] = rest {
         if let Some(end) = ending(*byte) {
             return Some(end);
         }
-        rest = behind;
+        rest = after;
     }
     None
 }

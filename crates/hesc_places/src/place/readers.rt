@@ -47,8 +47,8 @@ pub fn read_place<A: Allocator>(
                     return Ok(None);
                 }
                 value.push(byte)?;
-                let (_, behind) = rest.split_at(more + 1);
-                rest = behind;
+                let (_, after) = rest.split_at(more + 1);
+                rest = after;
                 mode = next;
             }
             Step::Character(more, character, next) => {
@@ -56,8 +56,8 @@ pub fn read_place<A: Allocator>(
                     return Ok(None);
                 }
                 value.extend_from_slice(character.encode_utf8(&mut [0; 4]).as_bytes())?;
-                let (_, behind) = rest.split_at(more + 1);
-                rest = behind;
+                let (_, after) = rest.split_at(more + 1);
+                rest = after;
                 mode = next;
             }
         }
@@ -81,16 +81,16 @@ pub fn end_of_place(place: Place, bytes: &[u8]) -> Option<usize>
                 if more >= rest.len() {
                     return None;
                 }
-                let (_, behind) = rest.split_at(more + 1);
-                rest = behind;
+                let (_, after) = rest.split_at(more + 1);
+                rest = after;
                 mode = next;
             }
             Step::Character(more, _, next) => {
                 if more >= rest.len() {
                     return None;
                 }
-                let (_, behind) = rest.split_at(more + 1);
-                rest = behind;
+                let (_, after) = rest.split_at(more + 1);
+                rest = after;
                 mode = next;
             }
         }

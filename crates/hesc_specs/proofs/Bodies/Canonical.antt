@@ -134,13 +134,13 @@ encoding-no_opening element (b ∷ text) zero =
     ]
 encoding-no_opening element (b ∷ text) (suc place) =
     elim (cases_Bool (is_opening element (b ∷ text))) [
-      | inl opens ↦ rw opens (behind_backslash element (body_encoding element text) (encoding-no_opening element text) place)
+      | inl opens ↦ rw opens (after_backslash element (body_encoding element text) (encoding-no_opening element text) place)
       | inr plain ↦ rw plain (encoding-no_opening element text place)
     ]
   where
-    behind_backslash : (element : Element) (text : List ℕ) → HasNoOpening element text → HasNoOpening element (backslash ∷ text)
-    behind_backslash element text none zero = refl
-    behind_backslash element text none (suc place) = none place
+    after_backslash : (element : Element) (text : List ℕ) → HasNoOpening element text → HasNoOpening element (backslash ∷ text)
+    after_backslash element text none zero = refl
+    after_backslash element text none (suc place) = none place
 
 -- a decoding has no escaped opening: the byte and the decoding after it begin none
 escaped-after : (element : Element) (b : ℕ) (text : List ℕ) → is_escaped_opening element (b ∷ body_decoding_after element b text) ≡ false
@@ -177,14 +177,14 @@ unchanged_after : (element : Element) (before : ℕ) (text : List ℕ) → HasNo
 unchanged_after element before [] none = refl
 unchanged_after element before (b ∷ text) none = rw (none 0) (ap (λ rest. b ∷ rest) (unchanged_after element b text (λ place. none (suc place))))
 
-none_behind_nothing : (element : Element) (text : List ℕ) → HasNoEscapedOpening element text → HasNoEscapedOpening element (nothing_before ∷ text)
-none_behind_nothing element [] none zero = refl
-none_behind_nothing element (b ∷ text) none zero = refl
-none_behind_nothing element text none (suc place) = none place
+none_after_nothing : (element : Element) (text : List ℕ) → HasNoEscapedOpening element text → HasNoEscapedOpening element (nothing_before ∷ text)
+none_after_nothing element [] none zero = refl
+none_after_nothing element (b ∷ text) none zero = refl
+none_after_nothing element text none (suc place) = none place
 
 -- decoding the encoding gives the text exactly if the text has no escaped opening
 pub encoding-undone : (element : Element) (text : List ℕ) → (body_decoding element (body_encoding element text) ≡ text) ↔ HasNoEscapedOpening element text
 encoding-undone element text = (
   λ undone. subst (HasNoEscapedOpening element) (sym (decode_encoding element text) ∙ undone) (decoding-no_escaped_opening element text),
-  λ none. decode_encoding element text ∙ unchanged_after element nothing_before text (none_behind_nothing element text none),
+  λ none. decode_encoding element text ∙ unchanged_after element nothing_before text (none_after_nothing element text none),
 )

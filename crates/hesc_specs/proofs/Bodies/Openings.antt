@@ -96,7 +96,7 @@ completes_opening-decoding element before bytes other =
     (word-decoding element (slash ∷ element_name element) ends_name (refl, name-no_less_than element) (ends_name-decoding element) before bytes other)
     ∙ sym (completes_opening-words element bytes))
 
--- what an escaped opening at the front tells of its bytes
+-- the bytes of an escaped opening at the front
 pub escaped-parts : (element : Element) (before b : ℕ) (bytes : List ℕ) → is_escaped_opening element (before ∷ b ∷ bytes) ≡ true
     → (before ≡ less_than) × ((b ≡ backslash) × (completes_opening element bytes ≡ true))
 escaped-parts element before b bytes is =

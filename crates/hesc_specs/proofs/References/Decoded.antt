@@ -10,7 +10,7 @@ use Rattle.std.proofs.lemmas.Slice.Eq.{bytes_eq-Decides}
 use Rattle.std.proofs.lemmas.Str.{length-encode, len_utf8_bounds}
 use Rattle.hesc_specs.specs.Text.Ascii.{number_sign, ampersand, semicolon}
 use Rattle.hesc_specs.specs.References.Rows.{Row, are_short, is_short, value_of}
-use Rattle.hesc_specs.specs.References.Decoding.{body_of, body_value, decoded, decoded_from, is_kept_control, is_scalar_value, number_behind_sign, number_of, number_or_name, numbered_value, reference_value, replaced_or_kept, with_byte}
+use Rattle.hesc_specs.specs.References.Decoding.{body_of, body_value, decoded, decoded_from, is_kept_control, is_scalar_value, number_after_sign, number_of, number_or_name, numbered_value, reference_value, replaced_or_kept, with_byte}
 
 -- a value of a reference with this body: it has a byte, and is bounded
 pub record Bounded (scale : ℕ → ℕ) (body value : List ℕ) : Type 0 where
@@ -18,16 +18,16 @@ pub record Bounded (scale : ℕ → ℕ) (body value : List ℕ) : Type 0 where
   pub few : 5 * length value ≤ scale (length body + 2)
 
 -- the number of a body is after a `#` and has a digit
-number_behind_sign-some : (bytes : List ℕ) (n : ℕ) → number_behind_sign bytes ≡ Some n → 0 < length bytes
-number_behind_sign-some [] n is = cc
-number_behind_sign-some (b ∷ bytes) n is = omega arith
+number_after_sign-some : (bytes : List ℕ) (n : ℕ) → number_after_sign bytes ≡ Some n → 0 < length bytes
+number_after_sign-some [] n is = cc
+number_after_sign-some (b ∷ bytes) n is = omega arith
 
 number_of-long : (body : List ℕ) (n : ℕ) → number_of body ≡ Some n → 2 ≤ length body
 number_of-long [] n is = cc
 number_of-long (b ∷ bytes) n is = by_test (b == number_sign) refl
   where
     by_test : (begins : Bool) → (b == number_sign) ≡ begins → 2 ≤ length (b ∷ bytes)
-    by_test true begins = omega (arith, number_behind_sign-some bytes n (rw begins at is))
+    by_test true begins = omega (arith, number_after_sign-some bytes n (rw begins at is))
     by_test false other = let none : None ≡ Some n = rw other at is in cc
 
 module _ (scale : ℕ → ℕ) (adds : (a b : ℕ) → scale (a + b) ≡ scale a + scale b) (least : (n : ℕ) → 5 * n ≤ scale n)

@@ -42,23 +42,23 @@ body_of-byte b bytes h =
     rw (no_end, no_start) refl
 
 -- the first n bytes, of which none ends a body
-body_of-behind : (bytes : List ℕ) (n : ℕ) → n ≤ length bytes → ((k : ℕ) → k < n → is_stop (slice_index bytes k) ≡ false)
+body_of-after : (bytes : List ℕ) (n : ℕ) → n ≤ length bytes → ((k : ℕ) → k < n → is_stop (slice_index bytes k) ≡ false)
     → body_of bytes ≡ prepend (take n bytes) (body_of (drop n bytes))
-body_of-behind bytes zero within before = prepend-nothing (body_of bytes)
-body_of-behind [] (suc n) within before = absurd (omega arith)
-body_of-behind (b ∷ bytes) (suc n) within before =
+body_of-after bytes zero within before = prepend-nothing (body_of bytes)
+body_of-after [] (suc n) within before = absurd (omega arith)
+body_of-after (b ∷ bytes) (suc n) within before =
     body_of-byte b bytes (before 0 (omega arith))
-    ∙ rw (body_of-behind bytes n (omega arith) (λ k below. before (suc k) (omega arith))) (with_byte-prepend b (take n bytes) (body_of (drop n bytes)))
+    ∙ rw (body_of-after bytes n (omega arith) (λ k below. before (suc k) (omega arith))) (with_byte-prepend b (take n bytes) (body_of (drop n bytes)))
 
 module _ (source : List ℕ) (from at : ℕ) (first : IsFirstPlace is_stop source from at) where
   -- the body of a `&` right before a place, by what stands at the next stop
   body_of-reached : body_of (drop from source) ≡ prepend (slice_range source from at) (body_of (drop at source))
   body_of-reached =
       let there : from + (at - from) ≡ at = omega (arith, first.ordered) in
-      let behind : body_of (drop from source) ≡ prepend (slice_range source from at) (body_of (drop (at - from) (drop from source))) =
-      body_of-behind (drop from source) (at - from) (omega (arith, length-drop from source, first.in_range))
+      let skipped : body_of (drop from source) ≡ prepend (slice_range source from at) (body_of (drop (at - from) (drop from source))) =
+      body_of-after (drop from source) (at - from) (omega (arith, length-drop from source, first.in_range))
       (λ k below. rw (get_or-drop from source k 0) (first.before (from + k) (omega arith) (omega arith))) in
-      behind ∙ rw (drop-drop (at - from) from source, there) refl
+      skipped ∙ rw (drop-drop (at - from) from source, there) refl
 
   body_of-unended : at ≡ length source → body_of (drop from source) ≡ None
   unfolding prepend
@@ -127,12 +127,12 @@ module _ (rows : List Row) where
       cut inner stop = from_start ∙ rw (body_of-cut source (start + 1) end first inner stop) up_to_stop
 
       module _ (inner : end < length source) (ends : is_start (slice_index source end) ≡ false) where
-        behind_end : reference_changes rows source (start + 1) ≡ reference_changes rows source (end + 1)
-        behind_end = up_to_stop ∙ rw (drop_more source end 0 inner, ends) refl
+        after_end : reference_changes rows source (start + 1) ≡ reference_changes rows source (end + 1)
+        after_end = up_to_stop ∙ rw (drop_more source end 0 inner, ends) refl
 
         -- the body has no value
         pub unknown : body_value rows (slice_range source (start + 1) end) ≡ None → reference_changes rows source start ≡ reference_changes rows source (end + 1)
-        unknown is_none = from_start ∙ rw (body_of-ended source (start + 1) end first inner ends, is_none) behind_end
+        unknown is_none = from_start ∙ rw (body_of-ended source (start + 1) end first inner ends, is_none) after_end
 
         -- the body has a value
         pub replaced : (value : List ℕ) → body_value rows (slice_range source (start + 1) end) ≡ Some value
@@ -141,4 +141,4 @@ module _ (rows : List Row) where
             let body_length : length (slice_range source (start + 1) end) ≡ end - (start + 1) =
             length-take-le (end - (start + 1)) (drop (start + 1) source) (omega (arith, length-drop (start + 1) source)) in
             let last : start + 2 + length (slice_range source (start + 1) end) ≡ end + 1 = omega (arith, first.ordered) in
-            from_start ∙ rw (body_of-ended source (start + 1) end first inner ends, is_value, last) (ap (λ later. record { start = start; end = end + 1; bytes = value } ∷ later) behind_end)
+            from_start ∙ rw (body_of-ended source (start + 1) end first inner ends, is_value, last) (ap (λ later. record { start = start; end = end + 1; bytes = value } ∷ later) after_end)

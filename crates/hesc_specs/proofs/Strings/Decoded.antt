@@ -17,22 +17,22 @@ module _ (element : Element) (quotes : Quotes) where
   Fits bytes go_on = (more : ℕ) → more ≤ length bytes → length (go_on more) + more ≤ length bytes
 
   -- one token more, by whether it is an escape
-  fits-token : (behind_less : Bool) (b : ℕ) (bytes : List ℕ) (go_on : ℕ → List ℕ) (token : Escape) → escape_at element quotes behind_less b bytes ≡ token → Fits bytes go_on
+  fits-token : (after_less : Bool) (b : ℕ) (bytes : List ℕ) (go_on : ℕ → List ℕ) (token : Escape) → escape_at element quotes after_less b bytes ≡ token → Fits bytes go_on
       → length (valued b token go_on) ≤ length bytes + 1
-  fits-token behind_less b bytes go_on None is fits = omega (arith, fits 0 (omega arith))
-  fits-token behind_less b bytes go_on (Some e) is fits = elim (cases_eq b backslash) [
+  fits-token after_less b bytes go_on None is fits = omega (arith, fits 0 (omega arith))
+  fits-token after_less b bytes go_on (Some e) is fits = elim (cases_eq b backslash) [
     | inl same ↦
-        let ends : EndsWithin bytes e.0 e.1 = escape-ends element quotes behind_less bytes e.0 e.1 (rw same at is) in
+        let ends : EndsWithin bytes e.0 e.1 = escape-ends element quotes after_less bytes e.0 e.1 (rw same at is) in
         omega (arith, length-append (encode_utf8 e.1) (go_on e.0), fits e.0 ends.within, ends.short)
     | inr other ↦ let none : None ≡ Some e = rw (ne_eqb b backslash other) at is in cc
   ]
 
-  shorter-after : (bytes : List ℕ) (behind_less : Bool) → Fits bytes (λ more. string_decoding_after element quotes more behind_less bytes)
-  shorter-after [] behind_less zero within = omega arith
-  shorter-after [] behind_less (suc more) within = omega arith
-  shorter-after (b ∷ bytes) behind_less (suc more) within = omega (arith, shorter-after bytes (b == less_than) more (omega arith))
-  shorter-after (b ∷ bytes) behind_less zero within =
-      omega (arith, fits-token behind_less b bytes (λ more. string_decoding_after element quotes more (b == less_than) bytes) (escape_at element quotes behind_less b bytes) refl (shorter-after bytes (b == less_than)))
+  shorter-after : (bytes : List ℕ) (after_less : Bool) → Fits bytes (λ more. string_decoding_after element quotes more after_less bytes)
+  shorter-after [] after_less zero within = omega arith
+  shorter-after [] after_less (suc more) within = omega arith
+  shorter-after (b ∷ bytes) after_less (suc more) within = omega (arith, shorter-after bytes (b == less_than) more (omega arith))
+  shorter-after (b ∷ bytes) after_less zero within =
+      omega (arith, fits-token after_less b bytes (λ more. string_decoding_after element quotes more (b == less_than) bytes) (escape_at element quotes after_less b bytes) refl (shorter-after bytes (b == less_than)))
 
   pub string_decoding-shorter : (text : List ℕ) → length (string_decoding element quotes text) ≤ length text
   string_decoding-shorter text = omega (arith, shorter-after text false 0 (omega arith))

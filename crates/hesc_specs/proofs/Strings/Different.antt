@@ -1,4 +1,4 @@
--- Equal encodings by a string encoder are of texts that are equal, in a style but for NUL: an image at the front of bytes tells its character.
+-- Equal encodings by a string encoder are of texts that are equal, in a style but for NUL: an image at the front of bytes determines its character.
 use Rattle.std.proofs.Common.{ℕ, ◌≡◌, ◌≢◌, ◌+◌, ◌*◌, ◌/◌, ◌%◌, ◌<◌, ◌≤◌, true, false, List, [], ◌∷◌, ◌++◌, ◌==◌, ◌↔◌, ◌⊎◌, ⊎_elim, inl, inr, Option, Some, None, if◌then◌else◌, codes, drop, flat_map, length, map, IsUtf8, refl, sym, ◌∙◌, ap, ap₂, arith, length-append, ne_eqb}
 use Rattle.std.specs.Prelude.{chars}
 use Rattle.std.specs.Char.{digit_value}
@@ -65,7 +65,7 @@ mark_is_no_x : (c : ℕ) → is_mark c ≡ true → c == lower_x ≡ false
 mark_is_no_x c mark = grind (arith, nat_tests)
 
 module _ (quotes : Quotes) where
-  -- the image is an escape, from which the character's value can be told
+  -- the image is an escape, which gives the character's value
   abbrev IsEscape : Element → ℕ → Type 0
   IsEscape element c = (tail : List ℕ) × ((string_image element quotes c ≡ backslash ∷ tail) × ((rest : List ℕ) → escaped_character element (tail ++ rest) ≡ value_character element c))
 

@@ -12,7 +12,7 @@ use Rattle.hesc_specs.specs.Text.Changes.{applied}
 use Rattle.hesc_specs.specs.Text.Classes.{separator_lead, string_class}
 use Rattle.hesc_specs.specs.Text.EscapedPlaces.{begins_escaped, escapes_at}
 use Rattle.hesc_specs.specs.Text.FirstPlace.{IsFirstAt}
-use Rattle.hesc_specs.specs.Strings.Changes.{behind, string_encoding_changes, string_encoding_changes_of}
+use Rattle.hesc_specs.specs.Strings.Changes.{character_end, string_encoding_changes, string_encoding_changes_of}
 use Rattle.hesc_specs.specs.Strings.Encoding.{is_escaped, line_separator, paragraph_separator, string_encoding, string_escape, string_image}
 use Rattle.hesc_specs.specs.declared.classes.Class.{Class}
 use Rattle.hesc_specs.specs.declared.elements.Element.{Element}
@@ -24,12 +24,12 @@ use Rattle.hesc_specs.proofs.Text.SliceRanges.{slice_range-further, slice_range-
 -- one character more, by whether it is replaced
 applied-step : (element : Element) (quotes : Quotes) (source : List ℕ) (from at c : ℕ) (characters : List ℕ) (t : Bool) → is_escaped element quotes c ≡ t → from ≤ at
     → drop at source ≡ encodes (c ∷ characters)
-    → applied source from (string_encoding_changes_of element quotes (behind at c) characters) ≡ slice_range source from (behind at c) ++ flat_map (string_image element quotes) characters
-    → applied source (behind at c) (string_encoding_changes_of element quotes (behind at c) characters) ≡ slice_range source (behind at c) (behind at c) ++ flat_map (string_image element quotes) characters
+    → applied source from (string_encoding_changes_of element quotes (character_end at c) characters) ≡ slice_range source from (character_end at c) ++ flat_map (string_image element quotes) characters
+    → applied source (character_end at c) (string_encoding_changes_of element quotes (character_end at c) characters) ≡ slice_range source (character_end at c) (character_end at c) ++ flat_map (string_image element quotes) characters
     → applied source from (string_encoding_changes_of element quotes at (c ∷ characters)) ≡ slice_range source from at ++ flat_map (string_image element quotes) (c ∷ characters)
 applied-step element quotes source from at c characters true replaced ordered is on next =
-    let after : applied source (behind at c) (string_encoding_changes_of element quotes (behind at c) characters) ≡ flat_map (string_image element quotes) characters =
-    rw (slice_range-nothing source (behind at c)) at next in
+    let after : applied source (character_end at c) (string_encoding_changes_of element quotes (character_end at c) characters) ≡ flat_map (string_image element quotes) characters =
+    rw (slice_range-nothing source (character_end at c)) at next in
     rw (replaced, after) refl
 applied-step element quotes source from at c characters false kept ordered is on next =
     rw kept (on ∙ rw (slice_range-further source from at (encode c) (encodes characters) ordered is) (append_assoc (slice_range source from at) (encode c) (flat_map (string_image element quotes) characters)))
@@ -39,10 +39,10 @@ applied-changes_of : (element : Element) (quotes : Quotes) (source : List ℕ) (
     → applied source from (string_encoding_changes_of element quotes at characters) ≡ slice_range source from at ++ flat_map (string_image element quotes) characters
 applied-changes_of element quotes source from at [] ordered is = drop_split source from at ordered ∙ ap (λ rest. slice_range source from at ++ rest) is
 applied-changes_of element quotes source from at (c ∷ characters) ordered is =
-    let rest : drop (behind at c) source ≡ encodes characters = sym (drop-drop (length (encode c)) at source) ∙ (ap (drop (length (encode c))) is ∙ drop_at (encode c) (encodes characters) (length (encode c)) refl) in
+    let rest : drop (character_end at c) source ≡ encodes characters = sym (drop-drop (length (encode c)) at source) ∙ (ap (drop (length (encode c))) is ∙ drop_at (encode c) (encodes characters) (length (encode c)) refl) in
     applied-step element quotes source from at c characters (is_escaped element quotes c) refl ordered is
-    (applied-changes_of element quotes source from (behind at c) characters (omega arith) rest)
-    (applied-changes_of element quotes source (behind at c) (behind at c) characters (omega arith) rest)
+    (applied-changes_of element quotes source from (character_end at c) characters (omega arith) rest)
+    (applied-changes_of element quotes source (character_end at c) (character_end at c) characters (omega arith) rest)
 
 -- the changes of a string encoder, made, are its encoding
 pub applied-string_encoding_changes : (element : Element) (quotes : Quotes) (source : List ℕ) → IsUtf8 source
@@ -55,11 +55,11 @@ pub record FirstEscaped (element : Element) (quotes : Quotes) (source : List ℕ
   pub after : List ℕ
   pub bytes : drop at source ≡ encode character ++ after
   pub replaced : is_escaped element quotes character ≡ true
-  pub within : behind at character ≤ length source
+  pub within : character_end at character ≤ length source
   pub start_boundary : IsCharBoundary source at
-  pub end_boundary : IsCharBoundary source (behind at character)
+  pub end_boundary : IsCharBoundary source (character_end at character)
   pub changes : string_encoding_changes element quotes source from ≡
-      record { start = at; end = behind at character; bytes = string_escape element character } ∷ string_encoding_changes element quotes source (behind at character)
+      record { start = at; end = character_end at character; bytes = string_escape element character } ∷ string_encoding_changes element quotes source (character_end at character)
 
 module _ (class : Class) (element : Element) (quotes : Quotes) (is : string_class class ≡ Some (element, quotes)) where
   -- no replaced character begins in the first characters
@@ -76,7 +76,7 @@ module _ (class : Class) (element : Element) (quotes : Quotes) (is : string_clas
       (ap (drop k) (sym (drop_at (encode c) (encodes front ++ bytes) (length (encode c)) refl)) ∙ (drop-drop k (length (encode c)) (encode c ++ (encodes front ++ bytes)) ∙ ap (drop (length (encode c) + k)) (sym joined)))
       ∙ before (length (encode c) + k) (omega (arith, whole)) in
       let there : (at + length (encode c)) + length (encodes front) ≡ at + length (encodes (c ∷ front)) = omega (arith, whole) in
-      rw first (kept-changes_of (behind at c) front rest bytes later ∙ ap (λ place. string_encoding_changes_of element quotes place rest) there)
+      rw first (kept-changes_of (character_end at c) front rest bytes later ∙ ap (λ place. string_encoding_changes_of element quotes place rest) there)
 
   module _ (source : List ℕ) (text : IsUtf8 source) (from at : ℕ) (first : IsFirstAt (escapes_at class source) from (length source) at) where
     -- a character begins where something is replaced, and at the end
@@ -97,8 +97,8 @@ module _ (class : Class) (element : Element) (quotes : Quotes) (is : string_clas
         let front_text : IsUtf8 front = IsUtf8-take (drop from source) count rest_text rest_boundary in
         let front_length : length front ≡ count = omega (arith, length-take count (drop from source), rest_length, first.in_range, there) in
         let spelt : encodes (chars front) ≡ front = encodes-chars front front_text in
-        let behind_front : drop count (drop from source) ≡ drop at source = drop-drop count from source ∙ ap (λ place. drop place source) there in
-        let whole : front ++ drop at source ≡ drop from source = ap (λ rest. front ++ rest) (sym behind_front) ∙ take-append-drop count (drop from source) in
+        let after_front : drop count (drop from source) ≡ drop at source = drop-drop count from source ∙ ap (λ place. drop place source) there in
+        let whole : front ++ drop at source ≡ drop from source = ap (λ rest. front ++ rest) (sym after_front) ∙ take-append-drop count (drop from source) in
         let before : (k : ℕ) → k < length (encodes (chars front)) → begins_escaped class (drop k (encodes (chars front) ++ drop at source)) ≡ false = λ k below.
         ap (λ all. begins_escaped class all) (ap (λ bytes. drop k (bytes ++ drop at source)) spelt ∙ (ap (drop k) whole ∙ drop-drop k from source))
         ∙ first.before (from + k) (omega arith) (omega (arith, ap length spelt, front_length, there)) in
@@ -119,12 +119,12 @@ module _ (class : Class) (element : Element) (quotes : Quotes) (is : string_clas
         let after : List ℕ = encodes characters in
         let rest_text : IsUtf8 (drop at source) = IsUtf8-drop source at text found_boundary in
         let whole : length (drop at source) ≡ length (encode c) + length after = ap length (sym spelt) ∙ length-append (encode c) after in
-        let behind_it : drop (behind at c) source ≡ after = sym (drop-drop (length (encode c)) at source) ∙ (ap (drop (length (encode c))) (sym spelt) ∙ drop_at (encode c) after (length (encode c)) refl) in
+        let after_it : drop (character_end at c) source ≡ after = sym (drop-drop (length (encode c)) at source) ∙ (ap (drop (length (encode c))) (sym spelt) ∙ drop_at (encode c) after (length (encode c)) refl) in
         let replaced : is_escaped element quotes c ≡ true =
         sym (begins_escaped-character class element quotes is c after) ∙ (ap (λ all. begins_escaped class all) spelt ∙ first.found inside) in
-        let same_end : at + len_utf8 c ≡ behind at c = omega (arith, length-encode c) in
-        let spelt_from : chars (drop at source) ≡ c ∷ chars (drop (behind at c) source) =
-        chars_past_char (drop at source) after c rest_text (sym spelt) ∙ ap (λ rest. c ∷ chars rest) (sym behind_it) in
+        let same_end : at + len_utf8 c ≡ character_end at c = omega (arith, length-encode c) in
+        let spelt_from : chars (drop at source) ≡ c ∷ chars (drop (character_end at c) source) =
+        chars_past_char (drop at source) after c rest_text (sym spelt) ∙ ap (λ rest. c ∷ chars rest) (sym after_it) in
         record {
           character = c;
           after = after;
@@ -141,7 +141,7 @@ module _ (class : Class) (element : Element) (quotes : Quotes) (is : string_clas
     next-string_encoding_changes boundary inside =
         escaped_character boundary inside (chars (drop at source)) (encodes-chars (drop at source) (IsUtf8-drop source at text found_boundary))
 
--- the first byte tells the character, and where it is the separators', the third
+-- the first byte determines the character, and where it is that of the separators, the third
 module _ {element : Element} {quotes : Quotes} {source : List ℕ} {from at : ℕ} (first : FirstEscaped element quotes source from at) where
   byte_at : (k b : ℕ) (bytes : List ℕ) → encode first.character ≡ bytes → get_or (bytes ++ first.after) k 0 ≡ b → slice_index source (at + k) ≡ b
   byte_at k b bytes spelt there =
@@ -154,7 +154,7 @@ module _ {element : Element} {quotes : Quotes} {source : List ℕ} {from at : �
   IsAsciiCharacter = (first.character ≡ slice_index source at) × (first.character < 128)
 
   abbrev IsSeparator : Type 0
-  IsSeparator = (element ≡ Script) × ((first.character ≡ (if slice_index source (at + 2) == 0xA8 then line_separator else paragraph_separator)) × (behind at first.character ≡ at + 3))
+  IsSeparator = (element ≡ Script) × ((first.character ≡ (if slice_index source (at + 2) == 0xA8 then line_separator else paragraph_separator)) × (character_end at first.character ≡ at + 3))
 
   of_line : element ≡ Script → first.character ≡ line_separator → (slice_index source at ≡ separator_lead) × IsSeparator
   of_line script is =

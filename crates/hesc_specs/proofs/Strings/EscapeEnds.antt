@@ -102,16 +102,16 @@ ends-opening element bytes = ends-or_else bytes (when (begins (codes "!--") byte
     (ends-when bytes (begins (codes "!--") bytes) 1 33 (λ is. rw (begins-splits (codes "!--") bytes is) (record { some = omega arith; within = omega arith; ascii = omega arith; short = ascii-short 33 1 (omega arith) })))
     (ends-when bytes (begins_in_any_case (slash ∷ element_name element) ends_name_within bytes) 1 slash (first-slash (element_name element) bytes))
 
-ends-behind_less : (element : Element) (behind_less : Bool) (bytes : List ℕ) → Ends bytes (if behind_less then opening_escape element bytes else None)
-ends-behind_less element true bytes = ends-opening element bytes
-ends-behind_less element false bytes = ends-none bytes
+ends-after_less : (element : Element) (after_less : Bool) (bytes : List ℕ) → Ends bytes (if after_less then opening_escape element bytes else None)
+ends-after_less element true bytes = ends-opening element bytes
+ends-after_less element false bytes = ends-none bytes
 
-pub escape-ends : (element : Element) (quotes : Quotes) (behind_less : Bool) (bytes : List ℕ) (more character : ℕ)
-    → escape element quotes behind_less bytes ≡ Some (more, character) → EndsWithin bytes more character
-escape-ends element quotes behind_less bytes =
-    ends-or_else bytes (mark_escape quotes bytes) (or_else (number_escape element bytes) (or_else (separator_escape element bytes) (if behind_less then opening_escape element bytes else None)))
+pub escape-ends : (element : Element) (quotes : Quotes) (after_less : Bool) (bytes : List ℕ) (more character : ℕ)
+    → escape element quotes after_less bytes ≡ Some (more, character) → EndsWithin bytes more character
+escape-ends element quotes after_less bytes =
+    ends-or_else bytes (mark_escape quotes bytes) (or_else (number_escape element bytes) (or_else (separator_escape element bytes) (if after_less then opening_escape element bytes else None)))
     (ends-mark quotes bytes)
-    (ends-or_else bytes (number_escape element bytes) (or_else (separator_escape element bytes) (if behind_less then opening_escape element bytes else None))
+    (ends-or_else bytes (number_escape element bytes) (or_else (separator_escape element bytes) (if after_less then opening_escape element bytes else None))
     (ends-number element bytes)
-    (ends-or_else bytes (separator_escape element bytes) (if behind_less then opening_escape element bytes else None)
-    (ends-separator element bytes) (ends-behind_less element behind_less bytes)))
+    (ends-or_else bytes (separator_escape element bytes) (if after_less then opening_escape element bytes else None)
+    (ends-separator element bytes) (ends-after_less element after_less bytes)))

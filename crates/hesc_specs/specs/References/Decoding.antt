@@ -28,14 +28,14 @@ numeral base digits =
     if not (length digits == 0) && list_all (λ d. is_digit d base) digits then Some (digits_value base digits) else None
 
 -- the number after a `#`: hex digits after an `x` of either case, or decimal digits
-abbrev pub number_behind_sign : List ℕ → Option ℕ
-number_behind_sign [] = None
-number_behind_sign (b ∷ bytes) = if b == lower_x || b == upper_x then numeral 16 bytes else numeral 10 (b ∷ bytes)
+abbrev pub number_after_sign : List ℕ → Option ℕ
+number_after_sign [] = None
+number_after_sign (b ∷ bytes) = if b == lower_x || b == upper_x then numeral 16 bytes else numeral 10 (b ∷ bytes)
 
 -- the number of a body, if it is one
 abbrev pub number_of : List ℕ → Option ℕ
 number_of [] = None
-number_of (b ∷ bytes) = if b == number_sign then number_behind_sign bytes else None
+number_of (b ∷ bytes) = if b == number_sign then number_after_sign bytes else None
 
 -- the code points that are characters (Unicode Standard, D76)
 abbrev pub is_scalar_value : ℕ → Bool

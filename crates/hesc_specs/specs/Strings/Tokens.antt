@@ -68,15 +68,15 @@ opening_escape element bytes =
     or_else (when (begins (codes "!--") bytes) 1 33)
     (when (begins_in_any_case (slash ∷ element_name element) ends_name_within bytes) 1 slash)
 
--- the escape that a `\` before these bytes begins, if any; after_less tells that the byte of the source right before the `\` is `<`
+-- the escape that a `\` before these bytes begins, if any; after_less: the byte of the source right before the `\` is `<`
 abbrev pub escape : Element → Quotes → Bool → List ℕ → Escape
-escape element quotes behind_less bytes =
+escape element quotes after_less bytes =
     or_else (mark_escape quotes bytes) (or_else (number_escape element bytes) (or_else (separator_escape element bytes)
-    (if behind_less then opening_escape element bytes else None)))
+    (if after_less then opening_escape element bytes else None)))
 
 -- the escape that begins with this byte, if any
 abbrev pub escape_at : Element → Quotes → Bool → ℕ → List ℕ → Escape
-escape_at element quotes behind_less b bytes = if b == backslash then escape element quotes behind_less bytes else None
+escape_at element quotes after_less b bytes = if b == backslash then escape element quotes after_less bytes else None
 
 -- the value of the token whose first byte this is, and then what go_on reads where so many of its bytes are still to come
 abbrev pub valued : ℕ → Escape → (ℕ → List ℕ) → List ℕ
@@ -85,10 +85,10 @@ valued b (Some e) go_on = encode_utf8 e.1 ++ go_on e.0
 
 -- the values of the tokens, where so many bytes of the token before are still to come
 abbrev pub string_decoding_after : Element → Quotes → ℕ → Bool → List ℕ → List ℕ
-string_decoding_after element quotes more behind_less [] = []
-string_decoding_after element quotes (suc more) behind_less (b ∷ bytes) = string_decoding_after element quotes more (b == less_than) bytes
-string_decoding_after element quotes zero behind_less (b ∷ bytes) =
-    valued b (escape_at element quotes behind_less b bytes) (λ more. string_decoding_after element quotes more (b == less_than) bytes)
+string_decoding_after element quotes more after_less [] = []
+string_decoding_after element quotes (suc more) after_less (b ∷ bytes) = string_decoding_after element quotes more (b == less_than) bytes
+string_decoding_after element quotes zero after_less (b ∷ bytes) =
+    valued b (escape_at element quotes after_less b bytes) (λ more. string_decoding_after element quotes more (b == less_than) bytes)
 
 -- the decoding of a text joins the values of its tokens
 abbrev pub string_decoding : Element → Quotes → List ℕ → List ℕ

@@ -1,4 +1,4 @@
--- Where an encoder replaces something, as the bytes tell it.
+-- Where an encoder replaces something, found by its bytes.
 use Rattle.std.specs.Prelude.{ℕ, Bool, false, ◌&&◌, ◌||◌, not, ◌==◌, List, [], ◌∷◌, drop}
 use Rattle.hesc_specs.specs.Text.Classes.{in_class, separator_lead}
 use Rattle.hesc_specs.specs.declared.classes.Class.{Class}

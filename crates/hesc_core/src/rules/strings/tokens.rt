@@ -2,7 +2,7 @@
 ghost use Rattle.std.specs.Prelude.{◌≡◌, ◌≤◌, ◌<◌, IsTrue, length};
 ghost use Rattle.hesc_specs.specs.Text.Elements.{element_name};
 ghost use Rattle.hesc_specs.specs.Strings.Encoding.{is_quote as among};
-ghost use Rattle.hesc_specs.specs.Strings.Changes.{is_behind_less as behind};
+ghost use Rattle.hesc_specs.specs.Strings.Changes.{is_after_less};
 ghost use Rattle.hesc_specs.specs.Strings.Tokens.{
   ends_name_within,
   escape as escape_of,
@@ -52,7 +52,7 @@ pub fn escape(
 #[inline(always)]
 pub fn is_behind_less(bytes: &[u8], place: usize) -> bool
     requires { place ≤ length bytes.now }
-    ensures { result ≡ behind bytes.now place }
+    ensures { result ≡ is_after_less bytes.now place }
 {
     place > 0 && bytes[place - 1] == b'<'
 }

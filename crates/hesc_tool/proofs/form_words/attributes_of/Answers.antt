@@ -15,4 +15,4 @@ returns g c =
     let done = flat_map attribute_words (map written c.attributes.attributes.items) in
     sym (append-nil done)
     ∙ ap (λ words. done ++ words) (sym (none_left (λ word. word.now) c.attributes.rest.now c.in_default.len_below c.attributes.invariant.named))
-    ∙ c.attributes.invariant.told
+    ∙ c.attributes.invariant.known

@@ -7,7 +7,7 @@ use Rattle.hesc_tool.proofs.form_words.attributes_of.Given as goal
 abbrev pub invariant-attributes : goal.invariant-attributes
 invariant-attributes g l = record {
   named : name_attributes (map (λ word. word.now) l.rest) ≡ true;
-  told : flat_map attribute_words (map written l.attributes.items) ++ map (λ word. word.now) l.rest
+  known : flat_map attribute_words (map written l.attributes.items) ++ map (λ word. word.now) l.rest
       ≡ map (λ word. word.now) l.form.attributes.now;
 }
 

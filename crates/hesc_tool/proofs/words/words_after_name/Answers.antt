@@ -3,7 +3,7 @@ use Rattle.std.proofs.lemmas.Iterator.Adapters.{YieldsList-from_skip, YieldsList
 use Rattle.std.proofs.lemmas.Iterator.Consumers.{YieldsList-end}
 use Rattle.std.proofs.lemmas.List.{map-id}
 use Rattle.std.specs.Vec.Iter.{into_iter_items}
-use Rattle.hesc_tool.proofs.words.words_behind_name.Goals as goal
+use Rattle.hesc_tool.proofs.words.words_after_name.Goals as goal
 
 pub returns : goal.returns
 returns g c =
