@@ -55,31 +55,12 @@ fn mode_after(mode: Mode, bytes: &[u8]) -> Mode
     ensures { result ≡ mode_after mode bytes.now }
 {
     match mode {
-        Mode::Escaped => {
-            if is_start_tag(Element::Script, bytes) {
-                Mode::DoubleEscaped
-            } else if bytes.starts_with(b"-->") {
-                Mode::Plain
-            } else {
-                Mode::Escaped
-            }
-        }
-        Mode::DoubleEscaped => {
-            if is_end_tag(Element::Script, bytes) {
-                Mode::Escaped
-            } else if bytes.starts_with(b"-->") {
-                Mode::Plain
-            } else {
-                Mode::DoubleEscaped
-            }
-        }
-        Mode::Empty | Mode::Plain => {
-            if bytes.starts_with(b"<!--") {
-                Mode::Escaped
-            } else {
-                Mode::Plain
-            }
-        }
+        Mode::Escaped if is_start_tag(Element::Script, bytes) => Mode::DoubleEscaped,
+        Mode::DoubleEscaped if is_end_tag(Element::Script, bytes) => Mode::Escaped,
+        Mode::Escaped | Mode::DoubleEscaped if bytes.starts_with(b"-->") => Mode::Plain,
+        Mode::Empty | Mode::Plain if bytes.starts_with(b"<!--") => Mode::Escaped,
+        Mode::Empty => Mode::Plain,
+        Mode::Plain | Mode::Escaped | Mode::DoubleEscaped => mode,
     }
 }
 

@@ -8,7 +8,6 @@ ghost use Rattle.hesc_places.specs.Pages.FormTexts.{
   gap,
   gap_after,
   script_text,
-  value_text,
   written,
 };
 
@@ -69,20 +68,8 @@ fn put_attribute<S: Sink>(attribute: Attribute, sink: &mut S) -> Result<(), S::F
     sink.put(" ")?;
     sink.put(attribute.name)?;
     sink.put("=")?;
-    put_value(attribute.quoting, attribute.value, sink)
-}
-
-fn put_value<S: Sink>(quoting: Quoting, value: &str, sink: &mut S) -> Result<(), S::Fault>
-    ensures ok_taken { OnOk result
-        (S.taken sink.new ≡ S.taken sink.old ++ value_text quoting value.now) }
-    ensures ok_failures { OnOk result (S.failures sink.new ≡ S.failures sink.old) }
-    ensures room { OnOk result
-        (S.room sink.old ≤ S.room sink.new + length (value_text quoting value.now)) }
-    ensures fits { length (value_text quoting value.now) ≤ S.room sink.old → IsOk result }
-    ensures same_reference { S.reference sink.new ≡ S.reference sink.old }
-    ensures same_before { S.before sink.new ≡ S.before sink.old }
-{
-    match quoting {
+    let value = attribute.value;
+    match attribute.quoting {
         Quoting::Unquoted => run(&Encoder::UnquotedAttribute, value, sink),
         Quoting::Single => put_between("'", Encoder::SingleQuotedAttribute, value, sink),
         Quoting::Double => put_between("\"", Encoder::DoubleQuotedAttribute, value, sink),

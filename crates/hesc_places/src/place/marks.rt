@@ -10,11 +10,9 @@ pub(crate) fn opening(place: Place) -> &'static str
 {
     match place {
         Place::Text => ">",
-        Place::DoubleAttribute => "\"",
-        Place::SingleAttribute => "'",
+        Place::DoubleAttribute | Place::ScriptDouble | Place::StyleDouble => "\"",
+        Place::SingleAttribute | Place::ScriptSingle | Place::StyleSingle => "'",
         Place::UnquotedAttribute(_) => "=",
-        Place::ScriptSingle | Place::StyleSingle => "'",
-        Place::ScriptDouble | Place::StyleDouble => "\"",
         Place::ScriptBody => "<script>",
         Place::StyleBody => "<style>",
     }
@@ -26,15 +24,13 @@ pub(crate) fn closing(place: Place) -> &'static str
 {
     match place {
         Place::Text => "<",
-        Place::DoubleAttribute => "\"",
-        Place::SingleAttribute => "'",
+        Place::DoubleAttribute | Place::ScriptDouble | Place::StyleDouble => "\"",
+        Place::SingleAttribute | Place::ScriptSingle | Place::StyleSingle => "'",
         Place::UnquotedAttribute(End::Tab) => "\t",
         Place::UnquotedAttribute(End::LineFeed) => "\n",
         Place::UnquotedAttribute(End::FormFeed) => "\u{c}",
         Place::UnquotedAttribute(End::Space) => " ",
         Place::UnquotedAttribute(End::Greater) => ">",
-        Place::ScriptSingle | Place::StyleSingle => "'",
-        Place::ScriptDouble | Place::StyleDouble => "\"",
         Place::ScriptBody => "</script>",
         Place::StyleBody => "</style>",
     }

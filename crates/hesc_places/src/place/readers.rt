@@ -77,15 +77,7 @@ pub fn end_of_place(place: Place, bytes: &[u8]) -> Option<usize>
         match step_of(place, mode, rest) {
             Step::Close => return Some(bytes.len() - rest.len()),
             Step::Nothing => return None,
-            Step::Byte(more, _, next) => {
-                if more >= rest.len() {
-                    return None;
-                }
-                let (_, after) = rest.split_at(more + 1);
-                rest = after;
-                mode = next;
-            }
-            Step::Character(more, _, next) => {
+            Step::Byte(more, _, next) | Step::Character(more, _, next) => {
                 if more >= rest.len() {
                     return None;
                 }

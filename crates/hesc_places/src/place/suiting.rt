@@ -24,43 +24,28 @@ use html_escape::Encoder;
 pub fn suits(encoder: Encoder, place: Place) -> bool
     ensures { result ≡ suits encoder place }
 {
-    match place {
-        Place::Text => matches!(
-            encoder,
-            Encoder::TextMinimal
-                | Encoder::Text
-                | Encoder::DoubleQuotedAttribute
-                | Encoder::SingleQuotedAttribute
-                | Encoder::QuotedAttribute
-                | Encoder::Safe
-                | Encoder::UnquotedAttribute
+    match encoder {
+        Encoder::TextMinimal | Encoder::Text => matches!(place, Place::Text),
+        Encoder::DoubleQuotedAttribute => matches!(place, Place::Text | Place::DoubleAttribute),
+        Encoder::SingleQuotedAttribute => matches!(place, Place::Text | Place::SingleAttribute),
+        Encoder::QuotedAttribute | Encoder::Safe => matches!(
+            place,
+            Place::Text | Place::DoubleAttribute | Place::SingleAttribute
         ),
-        Place::DoubleAttribute => matches!(
-            encoder,
-            Encoder::DoubleQuotedAttribute
-                | Encoder::QuotedAttribute
-                | Encoder::Safe
-                | Encoder::UnquotedAttribute
+        Encoder::UnquotedAttribute => matches!(
+            place,
+            Place::Text
+                | Place::DoubleAttribute
+                | Place::SingleAttribute
+                | Place::UnquotedAttribute(_)
         ),
-        Place::SingleAttribute => matches!(
-            encoder,
-            Encoder::SingleQuotedAttribute
-                | Encoder::QuotedAttribute
-                | Encoder::Safe
-                | Encoder::UnquotedAttribute
-        ),
-        Place::UnquotedAttribute(_) => matches!(encoder, Encoder::UnquotedAttribute),
-        Place::ScriptSingle => matches!(
-            encoder,
-            Encoder::ScriptSingleQuoted | Encoder::ScriptQuoted
-        ),
-        Place::ScriptDouble => matches!(
-            encoder,
-            Encoder::ScriptDoubleQuoted | Encoder::ScriptQuoted
-        ),
-        Place::StyleSingle => matches!(encoder, Encoder::StyleSingleQuoted | Encoder::StyleQuoted),
-        Place::StyleDouble => matches!(encoder, Encoder::StyleDoubleQuoted | Encoder::StyleQuoted),
-        Place::ScriptBody => matches!(encoder, Encoder::Script),
-        Place::StyleBody => matches!(encoder, Encoder::Style),
+        Encoder::ScriptSingleQuoted => matches!(place, Place::ScriptSingle),
+        Encoder::ScriptDoubleQuoted => matches!(place, Place::ScriptDouble),
+        Encoder::ScriptQuoted => matches!(place, Place::ScriptSingle | Place::ScriptDouble),
+        Encoder::StyleSingleQuoted => matches!(place, Place::StyleSingle),
+        Encoder::StyleDoubleQuoted => matches!(place, Place::StyleDouble),
+        Encoder::StyleQuoted => matches!(place, Place::StyleSingle | Place::StyleDouble),
+        Encoder::Script => matches!(place, Place::ScriptBody),
+        Encoder::Style => matches!(place, Place::StyleBody),
     }
 }

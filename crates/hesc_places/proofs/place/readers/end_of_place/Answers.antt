@@ -1,4 +1,4 @@
-use Rattle.std.proofs.Common.{◌++◌, ◌∷◌, [], refl, sym, ap, encode_utf8, arith}
+use Rattle.std.proofs.Common.{◌++◌, ◌∷◌, ◌∙◌, [], inl, inr, refl, sym, ap, encode_utf8, arith}
 use Rattle.std.proofs.lemmas.Bool.{eqb-false}
 use Rattle.std.specs.Option.{option_map}
 use Rattle.hesc_places.specs.Places.Readings.{end_of}
@@ -12,20 +12,20 @@ pub returns-in-Nothing : goal.returns-in-Nothing
 returns-in-Nothing c = ap (option_map end_of) (knows_nothing c.reading.invariant.1 (eqb-false _ 0 (sym c.reading-test.ensures)) c.in-Nothing.ensures)
 
 pub returns-then-more-rest : goal.returns-then-more-rest
-returns-then-more-rest c = ap (option_map end_of) (lacks_byte c.reading.invariant.1 (eqb-false _ 0 (sym c.reading-test.ensures)) c.in-Byte.ensures c.if-more-rest.true)
-
-pub returns-then-more-rest-2 : goal.returns-then-more-rest-2
-returns-then-more-rest-2 c =
-    ap (option_map end_of) (lacks_character c.reading.invariant.1 (eqb-false _ 0 (sym c.reading-test.ensures)) c.in-Character.ensures c.if-more-rest-2.true)
-
-pub reading-preserved-in-Byte : goal.reading-preserved-in-Byte
-reading-preserved-in-Byte c = (
-  c.reading.invariant.0 ++ c.in-Byte.field-1 ∷ [],
-  goes_past_byte c.reading.invariant.1 (eqb-false _ 0 (sym c.reading-test.ensures)) c.in-Byte.ensures (omega arith) refl c.split_at.ensures.back,
-)
+returns-then-more-rest c =
+    let full = eqb-false _ 0 (sym c.reading-test.ensures) in
+    ap (option_map end_of) (elim c.in-Byte.is [
+      | inl byte ↦ lacks_byte c.reading.invariant.1 full (sym byte.1 ∙ c.step_of.ensures) c.if-more-rest.true
+      | inr character ↦ lacks_character c.reading.invariant.1 full (sym character.1 ∙ c.step_of.ensures) c.if-more-rest.true
+    ])
 
 pub reading-preserved : goal.reading-preserved
-reading-preserved c = (
-  c.reading.invariant.0 ++ encode_utf8 c.in-Character.field-1,
-  goes_past_character c.reading.invariant.1 (eqb-false _ 0 (sym c.reading-test.ensures)) c.in-Character.ensures (omega arith) refl c.split_at-in-Character.ensures.back,
-)
+reading-preserved c =
+    let full = eqb-false _ 0 (sym c.reading-test.ensures) in
+    elim c.in-Byte.is [
+      | inl byte ↦ (c.reading.invariant.0 ++ byte.0 ∷ [], goes_past_byte c.reading.invariant.1 full (sym byte.1 ∙ c.step_of.ensures) (omega arith) refl c.split_at.ensures.back)
+      | inr character ↦ (
+        c.reading.invariant.0 ++ encode_utf8 character.0,
+        goes_past_character c.reading.invariant.1 full (sym character.1 ∙ c.step_of.ensures) (omega arith) refl c.split_at.ensures.back,
+      )
+    ]
