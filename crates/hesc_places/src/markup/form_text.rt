@@ -1,17 +1,17 @@
 //! The text of a form, as parts.
 ghost use Rattle.std.specs.Prelude.{◌≡◌, ◌≤◌, ◌+◌, ◌++◌, length, map, IsOk, OnOk};
 ghost use Rattle.std.specs.List.{flat_map};
-ghost use Rattle.html_escape.specs.Encoders.{encoded};
 ghost use Rattle.hesc_places.specs.Pages.FormTexts.{
   attribute_text,
   form_text,
   gap,
   gap_after,
-  script_text,
+  value_text,
   written,
 };
 
 use crate::markup::types::{Attribute, Quoting};
+use crate::place::enclosed::put_between;
 use hesc_core::forms::Parts;
 use hesc_core::{Sink, run};
 use html_escape::Encoder;
@@ -30,7 +30,13 @@ impl Parts for FormText<'_> {
         sink.put("<input")?;
         put_attributes(self.attributes, sink)?;
         sink.put(gap(self.attributes))?;
-        put_script(self.script, sink)
+        put_between(
+            "/><script>alert('",
+            Encoder::ScriptSingleQuoted,
+            self.script,
+            "');</script>",
+            sink,
+        )
     }
 }
 
@@ -68,34 +74,24 @@ fn put_attribute<S: Sink>(attribute: Attribute, sink: &mut S) -> Result<(), S::F
     sink.put(" ")?;
     sink.put(attribute.name)?;
     sink.put("=")?;
-    let value = attribute.value;
-    match attribute.quoting {
-        Quoting::Unquoted => run(&Encoder::UnquotedAttribute, value, sink),
-        Quoting::Single => put_between("'", Encoder::SingleQuotedAttribute, value, sink),
-        Quoting::Double => put_between("\"", Encoder::DoubleQuotedAttribute, value, sink),
-    }
+    put_value(attribute.quoting, attribute.value, sink)
 }
 
-// What the encoder writes for the value, between two quote marks.
-fn put_between<S: Sink>(
-    mark: &str,
-    encoder: Encoder,
-    value: &str,
-    sink: &mut S,
-) -> Result<(), S::Fault>
-    ensures ok_taken { OnOk result (S.taken sink.new
-        ≡ S.taken sink.old ++ (mark.now ++ (encoded encoder value.now ++ mark.now))) }
+fn put_value<S: Sink>(quoting: Quoting, value: &str, sink: &mut S) -> Result<(), S::Fault>
+    ensures ok_taken { OnOk result
+        (S.taken sink.new ≡ S.taken sink.old ++ value_text quoting value.now) }
     ensures ok_failures { OnOk result (S.failures sink.new ≡ S.failures sink.old) }
-    ensures room { OnOk result (S.room sink.old
-        ≤ S.room sink.new + length (mark.now ++ (encoded encoder value.now ++ mark.now))) }
-    ensures fits { length (mark.now ++ (encoded encoder value.now ++ mark.now))
-        ≤ S.room sink.old → IsOk result }
+    ensures room { OnOk result
+        (S.room sink.old ≤ S.room sink.new + length (value_text quoting value.now)) }
+    ensures fits { length (value_text quoting value.now) ≤ S.room sink.old → IsOk result }
     ensures same_reference { S.reference sink.new ≡ S.reference sink.old }
     ensures same_before { S.before sink.new ≡ S.before sink.old }
 {
-    sink.put(mark)?;
-    run(&encoder, value, sink)?;
-    sink.put(mark)
+    match quoting {
+        Quoting::Unquoted => run(&Encoder::UnquotedAttribute, value, sink),
+        Quoting::Single => put_between("'", Encoder::SingleQuotedAttribute, value, "'", sink),
+        Quoting::Double => put_between("\"", Encoder::DoubleQuotedAttribute, value, "\"", sink),
+    }
 }
 
 // What stands after the last attribute.
@@ -117,18 +113,4 @@ fn gap_after(quoting: Quoting) -> &'static str
         Quoting::Unquoted => " ",
         Quoting::Single | Quoting::Double => "",
     }
-}
-
-// What stands after the attributes.
-fn put_script<S: Sink>(script: &str, sink: &mut S) -> Result<(), S::Fault>
-    ensures ok_taken { OnOk result
-        (S.taken sink.new ≡ S.taken sink.old ++ script_text script.now) }
-    ensures ok_failures { OnOk result (S.failures sink.new ≡ S.failures sink.old) }
-    ensures fits { length (script_text script.now) ≤ S.room sink.old → IsOk result }
-    ensures same_reference { S.reference sink.new ≡ S.reference sink.old }
-    ensures same_before { S.before sink.new ≡ S.before sink.old }
-{
-    sink.put("/><script>alert('")?;
-    run(&Encoder::ScriptSingleQuoted, script, sink)?;
-    sink.put("');</script>")
 }

@@ -47,8 +47,7 @@ pub fn read_place<A: Allocator>(
                     return Ok(None);
                 }
                 value.push(byte)?;
-                let (_, after) = rest.split_at(more + 1);
-                rest = after;
+                rest = rest.split_at(more + 1).1;
                 mode = next;
             }
             Step::Character(more, character, next) => {
@@ -56,8 +55,7 @@ pub fn read_place<A: Allocator>(
                     return Ok(None);
                 }
                 value.extend_from_slice(character.encode_utf8(&mut [0; 4]).as_bytes())?;
-                let (_, after) = rest.split_at(more + 1);
-                rest = after;
+                rest = rest.split_at(more + 1).1;
                 mode = next;
             }
         }
@@ -81,8 +79,7 @@ pub fn end_of_place(place: Place, bytes: &[u8]) -> Option<usize>
                 if more >= rest.len() {
                     return None;
                 }
-                let (_, after) = rest.split_at(more + 1);
-                rest = after;
+                rest = rest.split_at(more + 1).1;
                 mode = next;
             }
         }
