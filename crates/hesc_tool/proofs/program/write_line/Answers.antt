@@ -10,3 +10,8 @@ pub returns-clause-began : goal.returns-clause-began
 returns-clause-began g c =
     let line = rw c.as_bytes.ensures.value at c.in_ok-write_whole.ensures.all in
     begins_all _ _ _ (Appends-trans _ _ _ _ _ line c.in_ok-write_whole-2.ensures.all)
+
+pub returns-clause-all : goal.returns-clause-all
+returns-clause-all g c =
+    let line = rw c.as_bytes.ensures.value at c.in_ok-write_whole.ensures.all in
+    Appends-trans _ _ _ _ _ line c.in_ok-write_whole-2.ensures.all
