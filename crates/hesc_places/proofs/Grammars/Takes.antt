@@ -68,21 +68,25 @@ takes_two {step} {next = next} {d = d} found = record {
   goes_on = λ rest. rw (found rest, after-after (d ∷ []) [] 1 1 (reading_after step 0 next rest)) refl;
 }
 
--- an item that is read as a character
+-- an item that is read as a character, before these bytes
+pub reads_character : (step : Mode → List ℕ → Step) {mode next : Mode} {b : ℕ} (tail rest : List ℕ) (c : ℕ) →
+    step mode (b ∷ tail ++ rest) ≡ Character (length tail) c next →
+    reading_after step 0 mode (b ∷ tail ++ rest) ≡ after (encode_utf8 c) (length (b ∷ tail)) (reading_after step 0 next rest)
+reads_character step {next = next} tail rest c found =
+    let following : Option (List ℕ × ℕ) = reading_after step 0 next rest in
+    rw (
+      found,
+      passes_over step next tail rest,
+      after-after (encode_utf8 c) [] 1 (length tail) following,
+      append-nil (encode_utf8 c),
+    )
+    (ap (λ n. after (encode_utf8 c) n following) (omega arith))
+
+-- the same, whatever follows
 pub takes_character : {step : Mode → List ℕ → Step} {mode next : Mode} {b : ℕ} {tail : List ℕ} (c : ℕ) →
     ((rest : List ℕ) → step mode (b ∷ tail ++ rest) ≡ Character (length tail) c next) →
     Takes step mode (b ∷ tail) (encode_utf8 c) next
-takes_character {step} {next = next} {tail = tail} c found = record {
-  goes_on = λ rest.
-      let following : Option (List ℕ × ℕ) = reading_after step 0 next rest in
-      rw (
-        found rest,
-        passes_over step next tail rest,
-        after-after (encode_utf8 c) [] 1 (length tail) following,
-        append-nil (encode_utf8 c),
-      )
-      (ap (λ n. after (encode_utf8 c) n following) (omega arith));
-}
+takes_character {step} {tail = tail} c found = record { goes_on = λ rest. reads_character step tail rest c (found rest) }
 
 -- images, of which each is taken
 pub takes_each : {step : Mode → List ℕ → Step} {mode : Mode} {image value : ℕ → List ℕ} →
