@@ -1,9 +1,6 @@
 pub mod HeldWords
 pub mod Passing
-pub mod HtmlSlots
-pub mod StringSlots
-pub mod ScriptSlots
-pub mod StyleSlots
+pub mod Slots
 pub mod TemplateLaw
 pub mod Pieces
 pub mod Structure

@@ -1,7 +1,7 @@
 -- Bytes from one state of the tokenizer to another.
 use Rattle.std.proofs.Common.{ℕ, ◌≡◌, List, [], ◌∷◌, ◌++◌, refl, ap, ◌∙◌, sym, append_assoc, append-nil}
 use Rattle.html_template.specs.Tokenizer.Actions.{Action}
-use Rattle.html_template.specs.Tokenizer.States.{Tokenizer}
+use Rattle.html_template.specs.Tokenizer.States.{Tokenizer, refused}
 use Rattle.html_template.specs.Tokenizer.Tokenization.{consume, state_after, actions_of}
 use Rattle.html_template.specs.Tokenizer.Transitions.{Transition, moves}
 
@@ -50,3 +50,9 @@ passes_byte {t} {u} {v} {b} {bytes} {first} {others} is rest =
 -- one byte alone
 pub passes_one : {t u : Tokenizer} {b : ℕ} (actions : List Action) → consume t b ≡ moves u actions → Passes t (b ∷ []) actions u
 passes_one {t} {u} {b} actions is = rw (← append-nil actions) (passes_byte is passes_none)
+
+-- nothing leads out of a refusal
+pub stays_refused : (bytes : List ℕ) → state_after refused bytes ≡ refused
+unfolding consume
+stays_refused [] = refl
+stays_refused (b ∷ bytes) = stays_refused bytes

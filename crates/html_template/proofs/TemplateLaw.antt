@@ -11,11 +11,11 @@ use Rattle.html_template.specs.declared.tokenizer.states.Content.TheVariants.{No
 use Rattle.html_template.specs.Tokenizer.Actions.{read_byte}
 use Rattle.html_template.specs.Tokenizer.States.{State, Attribute, Ordinary, Tokenizer, In, BeforeValue, Refused, InCode, at, at_value, refused, data_state}
 use Rattle.html_template.specs.Templates.{Chunk, Markup, Slot, encoder_for, in_code, standing_in, standing, stands, state_after_slot, state_after_all, page, actions_all, MayFill, Fill}
-use Rattle.html_template.specs.Tokenizer.Tokenization.{consume, state_after}
-use Rattle.html_template.proofs.HtmlSlots.{text_stays, double_stays, single_stays, unquoted_stays, first_stays}
-use Rattle.html_template.proofs.Passing.{Passes, passes_itself, passes_both}
-use Rattle.html_template.proofs.ScriptSlots.{script_stays, script_single_reads, script_double_reads}
-use Rattle.html_template.proofs.StyleSlots.{style_stays, style_single_reads, style_double_reads}
+use Rattle.html_template.specs.Tokenizer.Tokenization.{state_after}
+use Rattle.html_template.proofs.Slots.Html.{text_stays, double_stays, single_stays, unquoted_stays, first_stays}
+use Rattle.html_template.proofs.Passing.{Passes, passes_itself, passes_both, stays_refused}
+use Rattle.html_template.proofs.Slots.Scripts.{script_stays, script_single_reads, script_double_reads}
+use Rattle.html_template.proofs.Slots.Styles.{style_stays, style_single_reads, style_double_reads}
 
 no : false ≡ true → ⊥
 no h = cc
@@ -60,12 +60,6 @@ slot_passes : (p : SlotPlace) (state : State) (content : Content) (attribute : A
 slot_passes p state content attribute text may full utf8 =
     let ordinary = slot_ordinary p state content attribute may in
     rw ordinary (ordinary_passes p state content text (rw ordinary at may) full utf8)
-
--- nothing leads out of a refusal
-stays_refused : (bytes : List ℕ) → state_after refused bytes ≡ refused
-unfolding consume
-stays_refused [] = refl
-stays_refused (b ∷ bytes) = stays_refused bytes
 
 all_refused : (chunks : List Chunk) → state_after_all refused chunks ≡ refused
 all_refused [] = refl

@@ -1,11 +1,17 @@
 -- The tokenizer beside the readings of hesc_places' places.
-use Rattle.std.specs.Prelude.{◌≡◌, ℕ, List, ◌∷◌, ◌++◌, Some, length, map}
+use Rattle.std.specs.Prelude.{◌≡◌, ◌⊎◌, ℕ, Bool, true, ◌||◌, List, [], ◌∷◌, ◌++◌, Some, bytes_eq, codes, length, map}
+use Rattle.hesc_specs.specs.Text.Ascii.{carriage_return}
+use Rattle.hesc_places.specs.Places.Marks.{end_byte}
 use Rattle.hesc_places.specs.Places.Readings.{reading}
+use Rattle.hesc_places.specs.declared.place.places.End.{End}
 use Rattle.hesc_places.specs.declared.place.places.Place.{Place}
+use Rattle.hesc_places.specs.declared.place.places.Place.TheVariants.{UnquotedAttribute}
 use Rattle.html_template.specs.declared.parts.SlotPlace.{SlotPlace}
+use Rattle.html_template.specs.declared.parts.SlotPlace.TheVariants.{Unquoted}
+use Rattle.html_template.specs.declared.tokenizer.states.Code.TheVariants.{Plain}
 use Rattle.html_template.specs.declared.tokenizer.states.Content.{Content}
-use Rattle.html_template.specs.Tokenizer.Actions.{read_byte}
-use Rattle.html_template.specs.Tokenizer.States.{In, at}
+use Rattle.html_template.specs.Tokenizer.Actions.{StringEnd, read_byte}
+use Rattle.html_template.specs.Tokenizer.States.{In, BeforeValue, InCode, at, refused}
 use Rattle.html_template.specs.Tokenizer.Tokenization.{state_after, actions_of}
 
 -- up to the mark at which a place's reading ends, the tokenizer stays in the value, and its actions
@@ -22,3 +28,53 @@ pub record Agrees (p : SlotPlace) (content : Content) (mark : ℕ) (bytes : List
 abbrev pub AgreesWith : SlotPlace → Content → Place → ℕ → List ℕ → Type 0
 AgreesWith p content place mark bytes =
     (found : List ℕ × ℕ) → reading place bytes ≡ Some found → Agrees p content mark bytes found
+
+-- the bytes before the mark at which a reading ends, where these and the reading's value are related so
+pub record Ends (Read : List ℕ → List ℕ → Type 0) (mark : ℕ) (bytes : List ℕ) (found : List ℕ × ℕ) : Type 0 where
+  pub front : List ℕ
+  pub rest : List ℕ
+  pub parts : bytes ≡ front ++ mark ∷ rest
+  pub end : length front ≡ found.1
+  pub read : Read front found.0
+
+-- from the `=` on the tokenizer goes into a value without quotes and stays there, and its actions are at the value
+pub record StaysUnquoted (content : Content) (front value : List ℕ) : Type 0 where
+  pub after : state_after (at BeforeValue content) front ≡ at (In Unquoted) content
+  pub actions : actions_of (at BeforeValue content) front ≡ map (read_byte Unquoted) value
+
+-- a carriage return stands in the bytes
+pub record HasReturn (bytes : List ℕ) : Type 0 where
+  pub before : List ℕ
+  pub behind : List ℕ
+  pub parts : bytes ≡ before ++ carriage_return ∷ behind
+
+-- wherever a value without quotes has a reading, the two agree up to its end, unless a carriage return
+-- stands in it: there the tokenizer does what it does at a line feed, which ends the value
+abbrev pub AgreesUnquoted : Content → End → List ℕ → Type 0
+AgreesUnquoted content end bytes =
+    (found : List ℕ × ℕ) → reading (UnquotedAttribute end) bytes ≡ Some found →
+    Ends (λ front value. StaysUnquoted content front value ⊎ HasReturn front) (end_byte end) bytes found
+
+-- at the bytes of a string and the mark behind them the tokenizer's actions are at the value, and it leaves the string
+pub record LeavesString (p : SlotPlace) (content : Content) (mark : ℕ) (front value : List ℕ) : Type 0 where
+  pub after : state_after (at (In p) content) (front ++ mark ∷ []) ≡ at (InCode Plain) content
+  pub actions : actions_of (at (In p) content) (front ++ mark ∷ []) ≡ map (read_byte p) value ++ StringEnd ∷ []
+
+-- `</` and `<!`, which the HTML around a string could read, and a `<` in an escape of a style
+abbrev pub could_be_markup : List ℕ → Bool
+could_be_markup word = bytes_eq word (codes "</") || bytes_eq word (codes "<!") || bytes_eq word (codes "\\<")
+
+-- the tokenizer refuses a string, in which such a word stands
+pub record RefusesString (p : SlotPlace) (content : Content) (front : List ℕ) : Type 0 where
+  pub after : state_after (at (In p) content) front ≡ refused
+  pub before : List ℕ
+  pub word : List ℕ
+  pub behind : List ℕ
+  pub parts : front ≡ before ++ (word ++ behind)
+  pub markup : could_be_markup word ≡ true
+
+-- wherever a string has a reading, the two agree, or the tokenizer refuses it
+abbrev pub AgreesInString : SlotPlace → Content → Place → ℕ → List ℕ → Type 0
+AgreesInString p content place mark bytes =
+    (found : List ℕ × ℕ) → reading place bytes ≡ Some found →
+    Ends (λ front value. LeavesString p content mark front value ⊎ RefusesString p content front) mark bytes found

@@ -19,7 +19,7 @@ use Rattle.html_template.specs.Tokenizer.States.{In, Within, Ordinary, at}
 use Rattle.html_template.specs.Tokenizer.Tokenization.{consume}
 use Rattle.html_template.specs.Tokenizer.Transitions.{goes}
 use Rattle.html_template.proofs.Passing.{Passes, passes_none, passes_both, passes_byte, passes_one}
-use Rattle.html_template.proofs.StringSlots.{ReadsString, StaysIn, ascii_stays, begins_escape, high_stays}
+use Rattle.html_template.proofs.Slots.Strings.{ReadsString, StaysIn, ascii_stays, begins_escape, high_stays}
 
 -- the string of a script that this mark ends
 pub record ReadsScript (p : SlotPlace) (mark : ℕ) (quotes : Quotes) (content : Content) : Type 0 where
@@ -41,13 +41,13 @@ module _ {p : SlotPlace} {mark : ℕ} {quotes : Quotes} {content : Content} (rea
       (cases_lt c 128)
 
   -- a byte of an escape, and the one that completes it
-  reads_on : {b : ℕ} {bytes : List ℕ} {actions : List Action} (word : List ℕ) →
+  pub reads_on : {b : ℕ} {bytes : List ℕ} {actions : List Action} (word : List ℕ) →
       script_escape_byte p content Ordinary (word ++ b ∷ []) ≡ goes (Within p (word ++ b ∷ [])) content [] →
       Passes (at (Within p (word ++ b ∷ [])) content) bytes actions (at (In p) content) →
       Passes (at (Within p word) content) (b ∷ bytes) actions (at (In p) content)
   reads_on {b} word is rest = passes_byte (reads.within word b ∙ is) rest
 
-  completes : {word : List ℕ} {b : ℕ} (text : List ℕ) →
+  pub completes : {word : List ℕ} {b : ℕ} (text : List ℕ) →
       script_escape_byte p content Ordinary (word ++ b ∷ []) ≡ goes (In p) content (map (read_byte p) text) →
       Passes (at (Within p word) content) (b ∷ []) (map (read_byte p) text) (at (In p) content)
   completes {word} {b} text is = passes_one (map (read_byte p) text) (reads.within word b ∙ is)

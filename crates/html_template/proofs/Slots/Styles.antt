@@ -25,7 +25,7 @@ use Rattle.html_template.specs.Tokenizer.States.{In, Within, Ordinary, at}
 use Rattle.html_template.specs.Tokenizer.Tokenization.{consume}
 use Rattle.html_template.specs.Tokenizer.Transitions.{goes}
 use Rattle.html_template.proofs.Passing.{passes_none, passes_both, passes_byte, passes_one}
-use Rattle.html_template.proofs.StringSlots.{ReadsString, StaysIn, ascii_stays, begins_escape, high_stays}
+use Rattle.html_template.proofs.Slots.Strings.{ReadsString, StaysIn, ascii_stays, begins_escape, high_stays}
 
 -- the string of a style that this mark ends
 pub record ReadsStyle (p : SlotPlace) (mark : ℕ) (quotes : Quotes) (content : Content) : Type 0 where

@@ -121,7 +121,7 @@ single_reads content = record {
       rw (differs class.SingleQuotedAttribute b kept single_quote refl, differs class.SingleQuotedAttribute b kept ampersand refl) refl;
 }
 
-unquoted_reads : (content : Content) → ReadsHtml (In place.Unquoted) place.Unquoted content class.UnquotedAttribute
+pub unquoted_reads : (content : Content) → ReadsHtml (In place.Unquoted) place.Unquoted content class.UnquotedAttribute
 unfolding consume
 unquoted_reads content = record {
   html = refl;
@@ -145,7 +145,7 @@ unquoted_reads content = record {
       ) refl;
 }
 
-first_reads : (content : Content) → ReadsHtml BeforeValue place.Unquoted content class.UnquotedAttribute
+pub first_reads : (content : Content) → ReadsHtml BeforeValue place.Unquoted content class.UnquotedAttribute
 unfolding consume
 first_reads content = record {
   html = refl;

@@ -1,0 +1,4 @@
+pub mod Html
+pub mod Strings
+pub mod Scripts
+pub mod Styles
