@@ -1,10 +1,12 @@
--- The pieces of two templates, one after the other.
+-- The pieces of two templates, one after the other, and their pages.
 use Rattle.std.proofs.Common.{ℕ, ◌≡◌, List, [], ◌∷◌, ◌++◌, map, refl, sym, ap, ◌∙◌, append_assoc}
+use Rattle.std.proofs.lemmas.List.{map-append}
 use Rattle.html_escape.specs.Encoders.{encoded}
 use Rattle.hesc_places.specs.Places.ReadBack.{read_back}
 use Rattle.html_template.specs.Tokenizer.Actions.{Action, read_byte}
 use Rattle.html_template.specs.Tokenizer.States.{Tokenizer, data_state}
-use Rattle.html_template.specs.Templates.{Chunk, Markup, Slot, Fill, encoder_for, page, actions_all, state_after_all, state_after_slot}
+use Rattle.html_template.specs.Structure.{IsPageOf, IsReadAs}
+use Rattle.html_template.specs.Templates.{Chunk, Given, Markup, Slot, Fill, encoder_for, page, part_of, actions_all, state_after_all, state_after_slot}
 use Rattle.html_template.specs.Tokenizer.Tokenization.{state_after, actions_of}
 use Rattle.html_template.proofs.Pieces.{state_after_all-append}
 
@@ -45,3 +47,55 @@ pub joined_actions : (first second : List Chunk) (texts others : List (List ℕ)
 joined_actions first second texts others full sound =
     actions_from data_state first second texts others full
     ∙ ap (λ t. actions_all data_state first texts ++ actions_all t second others) sound
+
+joined_fill : (first second : List Chunk) (texts others : List (List ℕ)) → Fill first texts → Fill second others → Fill (first ++ second) (texts ++ others)
+joined_fill [] second [] others full more = more
+joined_fill [] second (text ∷ texts) others full more = absurd full
+joined_fill (Markup bytes ∷ first) second texts others full more = joined_fill first second texts others full more
+joined_fill (Slot p ∷ first) second [] others full more = absurd full
+joined_fill (Slot p ∷ first) second (text ∷ texts) others full more = (full.0, joined_fill first second texts others full.1 more)
+
+joined_read : {first second : List Chunk} {texts others : List (List ℕ)} {front behind : List ℕ} → Fill first texts →
+    state_after_all data_state first ≡ data_state → IsReadAs first texts front → IsReadAs second others behind →
+    IsReadAs (first ++ second) (texts ++ others) (front ++ behind)
+joined_read {first} {second} {texts} {others} {front} {behind} full sound read more = record {
+  actions = λ rest.
+      ap (actions_of data_state) (append_assoc front behind rest)
+      ∙ read.actions (behind ++ rest)
+      ∙ ap (λ x. actions_all data_state first texts ++ x) (more.actions rest)
+      ∙ sym (append_assoc (actions_all data_state first texts) (actions_all data_state second others) (actions_of data_state rest))
+      ∙ ap (λ x. x ++ actions_of data_state rest) (sym (joined_actions first second texts others full sound));
+  ends = λ rest. ap (state_after data_state) (append_assoc front behind rest) ∙ read.ends (behind ++ rest) ∙ more.ends rest;
+}
+
+-- a page behind a page
+pub joined_pages : (first second : List Given) (texts others : List (List ℕ)) (front behind : List ℕ) →
+    IsPageOf first texts front → IsPageOf second others behind → IsPageOf (first ++ second) (texts ++ others) (front ++ behind)
+joined_pages first second texts others front behind one two = record {
+  pieces = one.pieces ++ two.pieces;
+  same = map-append part_of one.pieces two.pieces ∙ ap (λ x. x ++ map part_of two.pieces) one.same ∙ ap (λ x. first ++ x) two.same;
+  sound = joined_state one.pieces two.pieces one.sound two.sound;
+  full = joined_fill one.pieces two.pieces texts others one.full two.full;
+  whole = joined_page one.pieces two.pieces texts others one.full
+      ∙ ap (λ x. x ++ page two.pieces others) one.whole ∙ ap (λ x. front ++ x) two.whole;
+  read = joined_read one.full one.sound one.read two.read;
+}
+
+-- a page of no part
+pub no_page : IsPageOf [] [] []
+no_page = record {
+  pieces = [];
+  same = refl;
+  sound = refl;
+  full = tt;
+  whole = refl;
+  read = record { actions = λ rest. refl; ends = λ rest. refl };
+}
+
+-- what a template appends to a page
+pub page_behind : (pieces : List Chunk) (texts : List (List ℕ)) {old new : List ℕ} → state_after_all data_state pieces ≡ data_state → Fill pieces texts →
+    IsReadAs pieces texts (page pieces texts) → new ≡ old ++ page pieces texts →
+    (parts : List Given) (before : List (List ℕ)) → IsPageOf parts before old → IsPageOf (parts ++ map part_of pieces) (before ++ texts) new
+page_behind pieces texts {old} sound full read new parts before is =
+    rw new (joined_pages parts (map part_of pieces) before texts old (page pieces texts) is
+    (record { pieces = pieces; same = refl; sound = sound; full = full; whole = refl; read = read }))

@@ -1,11 +1,12 @@
 //! The laws of templates.
-ghost use Rattle.std.specs.Prelude.{◌≡◌, ◌++◌, map};
+ghost use Rattle.std.specs.Prelude.{◌≡◌, ◌++◌, ℕ, List, [], map};
 ghost use Rattle.std.specs.List.{AllByRecursion};
 ghost use Rattle.std.specs.Str.{IsUtf8};
 ghost use Rattle.html_template.specs.Tokenizer.States.{BeforeValue, In, at, data_state};
-ghost use Rattle.html_template.specs.Structure.{IsReadAs, structure};
+ghost use Rattle.html_template.specs.Structure.{IsPageOf, IsReadAs, structure};
 ghost use Rattle.html_template.specs.Templates.{
   Fill,
+  Given,
   actions_all,
   kept,
   page,
@@ -71,6 +72,16 @@ pub fn joined_law(first: &[Piece], second: &[Piece], texts: &[&str], others: &[&
         (texts_of texts.now ++ texts_of others.now)
         ≡ actions_all data_state (map kept first.now) (texts_of texts.now)
         ++ actions_all data_state (map kept second.now) (texts_of others.now) }
+{}
+
+/// Pages join: what is a page of some parts, and behind it one of others, is a page of these parts
+/// and then the others, filled by the texts of both. No part and no text make an empty page.
+#[tactic(auto, using(crate::proofs::Joined::no_page, crate::proofs::Joined::joined_pages))]
+pub fn pages_law()
+    ensures none { IsPageOf [] [] [] }
+    ensures both { (first second : List Given) (texts others : List (List ℕ)) (front behind : List ℕ)
+        → IsPageOf first texts front → IsPageOf second others behind
+        → IsPageOf (first ++ second) (texts ++ others) (front ++ behind) }
 {}
 
 /// The tokens of a page, but for characters and for the values of attributes and strings, are the

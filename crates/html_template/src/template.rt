@@ -1,14 +1,15 @@
 //! Templates.
-ghost use Rattle.std.specs.Prelude.{◌≡◌, ◌++◌, ◌∷◌, [], ◌≤◌, None, IfOk, IsOk, OnOk, length, map};
+ghost use Rattle.std.specs.Prelude.{◌≡◌, ◌++◌, ◌∷◌, [], ◌≤◌, ℕ, List, None, IfOk, IsOk, OnOk, length, map};
 ghost use Rattle.std.specs.String.{string_bytes};
 ghost use Rattle.hesc_engine.specs.Forms.{Appended, string_room};
 ghost use Rattle.html_template.specs.FillFaults.{AnswersFill, fill_fault};
 ghost use Rattle.html_template.specs.Tokenizer.Phases.{tokenizer_of};
 ghost use Rattle.html_template.specs.Tokenizer.States.{data_state};
-ghost use Rattle.html_template.specs.Structure.{IsReadAs};
+ghost use Rattle.html_template.specs.Structure.{IsPageOf, IsReadAs};
 ghost use Rattle.html_template.specs.TemplateFaults.{AnswersFault, TakesPart, fault_from};
 ghost use Rattle.html_template.specs.Templates.{
   Fill,
+  Given,
   given,
   kept,
   page,
@@ -61,10 +62,10 @@ impl<'a, A: Allocator + Copy> Template<'a, A> {
     /// Appends the page of these texts, one for each slot. On a fault `output` is as it was.
     ///
     /// Whatever follows the page, it is tokenized as the template is, with each text handed to its
-    /// slot whole.
+    /// slot whole. Behind a page it makes a page of the joined parts.
     ///
     /// Of `<p title="`, a slot and `">`, the page of `a"` is `<p title="a&quot;">`.
-    #[tactic(auto, using(crate::proofs::Structure::is_read_as))]
+    #[tactic(auto, using(crate::proofs::Structure::is_read_as, crate::proofs::Joined::page_behind))]
     pub fn append<B: Allocator>(
         &self,
         output: &mut String<B>,
@@ -79,6 +80,10 @@ impl<'a, A: Allocator + Copy> Template<'a, A> {
             → IsOk result }
         ensures read { OnOk result (IsReadAs (pieces_of self.now) (texts_of texts.now)
             (page (pieces_of self.now) (texts_of texts.now))) }
+        ensures joins { OnOk result ((parts : List Given) (before : List (List ℕ))
+            → IsPageOf parts before (string_bytes output.old)
+            → IsPageOf (parts ++ map part_of (pieces_of self.now)) (before ++ texts_of texts.now)
+            (string_bytes output.new)) }
     {
         if let Err(fault) = check(&self.pieces, texts) {
             return Err(fault);
