@@ -1,0 +1,89 @@
+//! A caller of templates: a form that gives a draft back to whoever wrote it. Nothing in the draft can
+//! change the page's structure, and the contract says so.
+#![tactic(auto)]
+
+ghost use Rattle.std.specs.Prelude.{◌≡◌, IfOk, map};
+ghost use Rattle.std.specs.String.{string_bytes};
+ghost use Rattle.html_template.specs.TemplatePieces.{pieces_of};
+ghost use Rattle.html_template.specs.Templates.{part_of};
+ghost use Rattle.use_form_page.specs.FormPages.{IsFormPage, form_parts};
+
+use html_template::{FillFault, Part, Template, TemplateFault, laws};
+use std::alloc::Global;
+
+/// What was written so far.
+#[derive(Clone, Copy)]
+pub struct Draft<'d> {
+    pub id: &'d str,
+    pub title: &'d str,
+    pub tags: &'d str,
+    pub text: &'d str,
+}
+
+/// The form's template, which is made once.
+#[derive(Drop)]
+pub struct FormTemplate {
+    template: Template<'static>,
+    ghost parts: { map part_of (pieces_of template) ≡ form_parts },
+}
+
+impl FormTemplate {
+    /// Makes the template.
+    pub fn new(alloc: Global) -> Result<FormTemplate, TemplateFault> {
+        let parts = [
+            Part::Markup("<form method=post action=\"/notes/"),
+            Part::Slot,
+            Part::Markup("\"><input name=title value=\""),
+            Part::Slot,
+            Part::Markup("\"><input name=tags value='"),
+            Part::Slot,
+            Part::Markup("'><textarea name=text>\n"),
+            Part::Slot,
+            Part::Markup("</textarea></form><script>restore(\""),
+            Part::Slot,
+            Part::Markup("\");</script>"),
+        ];
+        let template = Template::new(alloc, &parts)?;
+        Ok(FormTemplate { template })
+    }
+
+    /// The page with this draft.
+    pub fn page(&self, alloc: Global, draft: Draft) -> Result<String, FillFault>
+        ensures { IfOk result (λ page. IsFormPage draft.entry (string_bytes page)) }
+    {
+        laws::pages_law();
+        let texts = [draft.id, draft.title, draft.tags, draft.text, draft.id];
+        let mut page = String::new(alloc);
+        self.template.append(&mut page, &texts)?;
+        Ok(page)
+    }
+}
+
+#[cfg(test)]
+mod tests {
+    use super::{Draft, FormTemplate};
+    use std::test::Fail;
+
+    #[test]
+    fn a_draft_stays_in_its_form(rt: HostRuntime) -> Result<(), Fail> {
+        let draft = Draft {
+            id: "7\"</script>",
+            title: "\" autofocus onfocus=\"",
+            tags: "' a",
+            text: "</textarea>",
+        };
+        let Ok(template) = FormTemplate::new(rt.alloc()) else {
+            assert!(rt; false);
+            return Ok(());
+        };
+        let Ok(page) = template.page(rt.alloc(), draft) else {
+            assert!(rt; false);
+            return Ok(());
+        };
+        assert_eq!(rt;
+            page.as_str(),
+            "<form method=post action=\"/notes/7&quot;&lt;/script&gt;\"><input name=title value=\"&quot; autofocus onfocus=&quot;\"><input name=tags value='&#x27; a'><textarea name=text>\n&lt;/textarea&gt;</textarea></form><script>restore(\"7\\\"\\x3C/script>\");</script>"
+        );
+        Ok(())
+    }
+}
