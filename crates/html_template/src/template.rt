@@ -115,7 +115,7 @@ fn take_part<'a, A: Allocator>(
     ensures faults { TakesPart number (tokenizer_of reader.old) (given part.entry)
         (tokenizer_of reader.new) result }
 {
-    match part {
+    let piece = match part {
         Part::Markup(text) => {
             let Ok(()) = reader.read(text.as_bytes()) else {
                 return Err(TemplateFault::Memory);
@@ -123,21 +123,16 @@ fn take_part<'a, A: Allocator>(
             if reader.is_refused() {
                 return Err(TemplateFault::Malformed(number));
             }
-            match pieces.push(Piece::Markup(text)) {
-                Ok(()) => Ok(()),
-                Err(_) => Err(TemplateFault::Memory),
-            }
+            Piece::Markup(text)
         }
-        Part::Slot => {
-            let place = match reader.slot() {
-                Standing::Stands(place) => place,
-                Standing::Barred => return Err(TemplateFault::Forbidden(number)),
-                Standing::Nowhere => return Err(TemplateFault::NoPlace(number)),
-            };
-            match pieces.push(Piece::Slot(place)) {
-                Ok(()) => Ok(()),
-                Err(_) => Err(TemplateFault::Memory),
-            }
-        }
+        Part::Slot => match reader.slot() {
+            Standing::Stands(place) => Piece::Slot(place),
+            Standing::Barred => return Err(TemplateFault::Forbidden(number)),
+            Standing::Nowhere => return Err(TemplateFault::NoPlace(number)),
+        },
+    };
+    match pieces.push(piece) {
+        Ok(()) => Ok(()),
+        Err(_) => Err(TemplateFault::Memory),
     }
 }

@@ -20,7 +20,7 @@ ghost use Rattle.html_template.specs.Tokenizer.Names.{
 ghost use Rattle.html_template.specs.Tokenizer.Phases.{attribute_in, moved, word_after};
 ghost use Rattle.html_template.specs.declared.tokenizer.states.Kind.TheVariants as kind;
 
-use crate::tokenizer::states::{Content, Kind, Move, Phase, Word};
+use crate::tokenizer::states::{Content, Kind, Move, Phase, Word, in_value};
 
 /// How the content of an element is read, if the profile has it.
 pub(crate) fn content_of(name: &[u8]) -> Option<Content>
@@ -129,12 +129,7 @@ pub(crate) fn value_of(content: Content, name: &[u8]) -> Move
     } else {
         (content, attribute_of(name))
     };
-    Move {
-        phase: Phase::BeforeValue,
-        content,
-        kind,
-        word: Word::New,
-    }
+    in_value(Phase::BeforeValue, content, kind, Word::New)
 }
 
 /// Behind the value of an attribute.
@@ -172,34 +167,14 @@ pub(crate) fn value_byte_read(kind: Kind, word: &[u8], byte: u8) -> (Kind, Word)
         ≡ value_byte_read (attribute_in kind word.now) byte }
 {
     let next = match kind {
-        Kind::Ordinary => Kind::Ordinary,
-        Kind::Forbidden => Kind::Forbidden,
-        Kind::Scheme => {
-            if begins_path(byte) {
-                Kind::Ordinary
-            } else if byte == b':' {
-                scheme_end(word)
-            } else {
-                return (Kind::Scheme, Word::Add(byte.to_ascii_lowercase()));
-            }
-        }
+        Kind::Ordinary | Kind::Forbidden => kind,
+        Kind::Scheme | Kind::Host if begins_path(byte) => Kind::Ordinary,
+        Kind::AfterSlashes if begins_path(byte) => Kind::Forbidden,
+        Kind::AfterSlashes | Kind::Host => Kind::Host,
+        Kind::Scheme if byte == b':' => scheme_end(word),
         Kind::AfterScheme => slash_read(Kind::AfterSlash, byte),
         Kind::AfterSlash => slash_read(Kind::AfterSlashes, byte),
-        Kind::AfterSlashes => {
-            if begins_path(byte) {
-                Kind::Forbidden
-            } else {
-                Kind::Host
-            }
-        }
-        Kind::Host => {
-            if begins_path(byte) {
-                Kind::Ordinary
-            } else {
-                Kind::Host
-            }
-        }
-        Kind::ScriptType => return (Kind::ScriptType, Word::Add(byte.to_ascii_lowercase())),
+        Kind::Scheme | Kind::ScriptType => return (kind, Word::Add(byte.to_ascii_lowercase())),
     };
     (next, Word::New)
 }

@@ -21,7 +21,7 @@ ghost use Rattle.html_template.specs.Tokenizer.CodeBytes.{
 ghost use Rattle.html_template.specs.Tokenizer.Phases.{moved};
 
 use crate::parts::SlotPlace;
-use crate::tokenizer::states::{Code, Content, Kind, Move, Phase, Word, refuses, to};
+use crate::tokenizer::states::{Code, Content, Kind, Move, Phase, Word, in_value, refuses, to};
 use crate::tokenizer::tags::is_space;
 
 fn stays(code: Code, content: Content, byte: u8) -> Move
@@ -129,12 +129,7 @@ fn url_open_byte(byte: u8) -> Move
         _ if is_space(byte) => return stays(Code::UrlOpen, Content::Style, byte),
         _ => return url_byte(byte),
     };
-    Move {
-        phase: Phase::In(place),
-        content: Content::Style,
-        kind: Kind::Forbidden,
-        word: Word::New,
-    }
+    in_value(Phase::In(place), Content::Style, Kind::Forbidden, Word::New)
 }
 
 fn style_code_byte(code: Code, byte: u8) -> Move

@@ -1,5 +1,5 @@
 //! What a byte does in a comment and in a DOCTYPE.
-ghost use Rattle.std.specs.Prelude.{◌≡◌, ℕ, List, []};
+ghost use Rattle.std.specs.Prelude.{◌≡◌, ℕ, List};
 ghost use Rattle.html_template.specs.Tokenizer.Comments.{
   after_doctype_byte,
   before_doctype_byte,
@@ -11,19 +11,12 @@ ghost use Rattle.html_template.specs.Tokenizer.Comments.{
   declaration_byte,
   doctype_byte,
 };
-ghost use Rattle.html_template.specs.Tokenizer.Phases.{moved, state_of};
-ghost use Rattle.html_template.specs.Tokenizer.States.{at};
-ghost use Rattle.html_template.specs.declared.tokenizer.states.Content.TheVariants.{Normal};
+ghost use Rattle.html_template.specs.Tokenizer.Phases.{moved};
+ghost use Rattle.html_template.specs.declared.tokenizer.states.Phase.TheVariants as phase;
 
 use crate::parts::SlotPlace;
 use crate::tokenizer::states::{Content, Move, Phase, Word, goes, refuses, to};
 use crate::tokenizer::tags::is_space;
-
-fn in_page(phase: Phase) -> Move
-    ensures { (word : List ℕ) → moved result word ≡ at (state_of phase []) Normal }
-{
-    to(phase, Content::Normal)
-}
 
 /// Behind `<!`.
 pub(crate) fn declaration_byte(word: &[u8], byte: u8) -> Move
@@ -31,13 +24,13 @@ pub(crate) fn declaration_byte(word: &[u8], byte: u8) -> Move
 {
     if word == b"-".as_slice() {
         if byte == b'-' {
-            in_page(Phase::CommentStart)
+            to(Phase::CommentStart, Content::Normal)
         } else {
             refuses()
         }
     } else if word == b"doctype".as_slice() {
         if is_space(byte) {
-            in_page(Phase::BeforeDoctype)
+            to(Phase::BeforeDoctype, Content::Normal)
         } else {
             refuses()
         }
@@ -57,7 +50,7 @@ pub(crate) fn before_doctype_byte(byte: u8) -> Move
     ensures { (word : List ℕ) → moved result word ≡ (before_doctype_byte byte).next }
 {
     if is_space(byte) {
-        in_page(Phase::BeforeDoctype)
+        to(Phase::BeforeDoctype, Content::Normal)
     } else if byte.is_ascii_alphabetic() {
         goes(
             Phase::Doctype,
@@ -74,9 +67,9 @@ pub(crate) fn after_doctype_byte(byte: u8) -> Move
     ensures { (word : List ℕ) → moved result word ≡ (after_doctype_byte byte).next }
 {
     if is_space(byte) {
-        in_page(Phase::AfterDoctype)
+        to(Phase::AfterDoctype, Content::Normal)
     } else if byte == b'>' {
-        in_page(Phase::In(SlotPlace::Text))
+        to(Phase::In(SlotPlace::Text), Content::Normal)
     } else {
         refuses()
     }
@@ -104,29 +97,21 @@ pub(crate) fn comment_byte(byte: u8) -> Move
     ensures { (word : List ℕ) → moved result word ≡ (comment_byte byte).next }
 {
     if byte == b'-' {
-        in_page(Phase::CommentDash)
+        to(Phase::CommentDash, Content::Normal)
     } else {
-        in_page(Phase::Comment)
+        to(Phase::Comment, Content::Normal)
     }
 }
 
-/// Behind `<!--`.
-pub(crate) fn comment_start_byte(byte: u8) -> Move
-    ensures { (word : List ℕ) → moved result word ≡ (comment_start_byte byte).next }
+/// Behind `<!--` and `<!---`, where one `-` more leads on so.
+pub(crate) fn comment_start_byte(behind: Phase, byte: u8) -> Move
+    ensures start { behind ≡ phase.CommentStartDash
+        → (word : List ℕ) → moved result word ≡ (comment_start_byte byte).next }
+    ensures dash { behind ≡ phase.CommentEnd
+        → (word : List ℕ) → moved result word ≡ (comment_start_dash_byte byte).next }
 {
     match byte {
-        b'-' => in_page(Phase::CommentStartDash),
-        b'>' => refuses(),
-        _ => comment_byte(byte),
-    }
-}
-
-/// Behind `<!---`.
-pub(crate) fn comment_start_dash_byte(byte: u8) -> Move
-    ensures { (word : List ℕ) → moved result word ≡ (comment_start_dash_byte byte).next }
-{
-    match byte {
-        b'-' => in_page(Phase::CommentEnd),
+        b'-' => to(behind, Content::Normal),
         b'>' => refuses(),
         _ => comment_byte(byte),
     }
@@ -137,7 +122,7 @@ pub(crate) fn comment_dash_byte(byte: u8) -> Move
     ensures { (word : List ℕ) → moved result word ≡ (comment_dash_byte byte).next }
 {
     if byte == b'-' {
-        in_page(Phase::CommentEnd)
+        to(Phase::CommentEnd, Content::Normal)
     } else {
         comment_byte(byte)
     }
@@ -148,9 +133,9 @@ pub(crate) fn comment_end_byte(byte: u8) -> Move
     ensures { (word : List ℕ) → moved result word ≡ (comment_end_byte byte).next }
 {
     match byte {
-        b'>' => in_page(Phase::In(SlotPlace::Text)),
+        b'>' => to(Phase::In(SlotPlace::Text), Content::Normal),
         b'!' => refuses(),
-        b'-' => in_page(Phase::CommentEnd),
+        b'-' => to(Phase::CommentEnd, Content::Normal),
         _ => comment_byte(byte),
     }
 }

@@ -10,11 +10,11 @@ use crate::tokenizer::attributes::reference_read;
 use crate::tokenizer::code::{code_less_byte, in_code_byte};
 use crate::tokenizer::comments::{
     after_doctype_byte, before_doctype_byte, comment_byte, comment_dash_byte, comment_end_byte,
-    comment_start_byte, comment_start_dash_byte, declaration_byte, doctype_byte,
+    comment_start_byte, declaration_byte, doctype_byte,
 };
 use crate::tokenizer::states::{Content, Kind, Move, Phase, refuses, to};
 use crate::tokenizer::strings::{
-    script_string_byte, string_less_byte, style_escape_byte, style_string_byte,
+    ends_line, is_newline_or_nul, string_byte, string_less_byte, style_escape_byte,
 };
 use crate::tokenizer::tags::{
     after_name_byte, after_value_byte, attribute_name_byte, before_name_byte, end_tag_byte,
@@ -28,15 +28,16 @@ fn value_byte(place: SlotPlace, content: Content, kind: Kind, word: &[u8], byte:
     ensures { moved result word.now
         ≡ (value_byte place content (attribute_in kind word.now) byte).next }
 {
+    let (in_script, in_style) = (ends_line(byte), is_newline_or_nul(byte));
     match place {
         SlotPlace::Text => text_byte(content, kind, word, byte),
         SlotPlace::DoubleQuoted => quoted_byte(b'"', place, content, kind, word, byte),
         SlotPlace::SingleQuoted => quoted_byte(b'\'', place, content, kind, word, byte),
         SlotPlace::Unquoted => unquoted_value_byte(content, kind, word, byte),
-        SlotPlace::ScriptSingle => script_string_byte(b'\'', place, content, kind, word, byte),
-        SlotPlace::ScriptDouble => script_string_byte(b'"', place, content, kind, word, byte),
-        SlotPlace::StyleSingle => style_string_byte(b'\'', place, content, kind, word, byte),
-        SlotPlace::StyleDouble => style_string_byte(b'"', place, content, kind, word, byte),
+        SlotPlace::ScriptSingle => string_byte(b'\'', place, content, kind, word, byte, in_script),
+        SlotPlace::ScriptDouble => string_byte(b'"', place, content, kind, word, byte, in_script),
+        SlotPlace::StyleSingle => string_byte(b'\'', place, content, kind, word, byte, in_style),
+        SlotPlace::StyleDouble => string_byte(b'"', place, content, kind, word, byte, in_style),
     }
 }
 
@@ -87,8 +88,8 @@ pub(crate) fn byte_in(phase: Phase, content: Content, kind: Kind, word: &[u8], b
         Phase::BeforeDoctype => before_doctype_byte(byte),
         Phase::Doctype => doctype_byte(word, byte),
         Phase::AfterDoctype => after_doctype_byte(byte),
-        Phase::CommentStart => comment_start_byte(byte),
-        Phase::CommentStartDash => comment_start_dash_byte(byte),
+        Phase::CommentStart => comment_start_byte(Phase::CommentStartDash, byte),
+        Phase::CommentStartDash => comment_start_byte(Phase::CommentEnd, byte),
         Phase::Comment => comment_byte(byte),
         Phase::CommentDash => comment_dash_byte(byte),
         Phase::CommentEnd => comment_end_byte(byte),

@@ -1,7 +1,7 @@
 //! The tokenizer's states as they run: without the word that some of them hold, which stands beside.
 ghost use Rattle.std.specs.Prelude.{◌≡◌, ℕ, List, []};
-ghost use Rattle.html_template.specs.Tokenizer.Phases.{moved, state_of, word_after};
-ghost use Rattle.html_template.specs.Tokenizer.States.{at, refused};
+ghost use Rattle.html_template.specs.Tokenizer.Phases.{attribute_in, moved, state_of, word_after};
+ghost use Rattle.html_template.specs.Tokenizer.States.{at, at_value, refused};
 
 use crate::parts::SlotPlace;
 
@@ -117,17 +117,26 @@ pub(crate) struct Move {
     pub(crate) word: Word,
 }
 
+/// To a state of an attribute's value, or of a string's.
+pub(crate) fn in_value(phase: Phase, content: Content, kind: Kind, word: Word) -> Move
+    ensures { (held : List ℕ) → moved result held
+        ≡ at_value (state_of phase (word_after word held)) content
+        (attribute_in kind (word_after word held)) }
+{
+    Move {
+        phase,
+        content,
+        kind,
+        word,
+    }
+}
+
 /// To a state, outside of an attribute's value.
 pub(crate) fn goes(phase: Phase, content: Content, word: Word) -> Move
     ensures { (held : List ℕ) → moved result held
         ≡ at (state_of phase (word_after word held)) content }
 {
-    Move {
-        phase,
-        content,
-        kind: Kind::Ordinary,
-        word,
-    }
+    in_value(phase, content, Kind::Ordinary, word)
 }
 
 /// To a state that holds no word.

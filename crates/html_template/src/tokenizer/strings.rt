@@ -1,86 +1,63 @@
 //! What a byte does in a string of a script or a style.
-ghost use Rattle.std.specs.Prelude.{◌≡◌, ℕ, List};
+ghost use Rattle.std.specs.Prelude.{◌≡◌, ℕ, Bool, List};
+ghost use Rattle.hesc_places.specs.Grammars.StyleStrings.{is_newline_or_nul};
 ghost use Rattle.html_template.specs.Tokenizer.CodeStrings.{
   character_of_escape,
+  ends_line,
   script_escape_byte,
-  script_string_byte,
+  string_byte,
   string_less_byte,
   style_escape_byte,
-  style_string_byte,
 };
 ghost use Rattle.html_template.specs.Tokenizer.Names.{reference_read};
 ghost use Rattle.html_template.specs.Tokenizer.Phases.{attribute_in, moved};
-ghost use Rattle.html_template.specs.Tokenizer.States.{at_value};
-ghost use Rattle.html_template.specs.Tokenizer.States as state;
 ghost use Rattle.html_template.specs.Tokenizer.Transitions.{Transition};
 
 use crate::parts::SlotPlace;
 use crate::tokenizer::attributes::reference_read;
-use crate::tokenizer::states::{Code, Content, Kind, Move, Phase, Word, refuses, to};
+use crate::tokenizer::states::{Code, Content, Kind, Move, Phase, Word, in_value, refuses, to};
 use crate::tokenizer::values::{begins_character, keeps};
 use hesc_places::grammar::Step;
 use hesc_places::grammar::script_strings::script_escape;
 
-/// In a string of a script.
-pub(crate) fn script_string_byte(
+/// In a string. Its bytes but the mark, `\` and `<` stand as they are, unless they break it.
+pub(crate) fn string_byte(
     mark: u8,
     place: SlotPlace,
     content: Content,
     kind: Kind,
     word: &[u8],
     byte: u8,
+    breaks: bool,
 ) -> Move
-    ensures { moved result word.now
-        ≡ (script_string_byte mark place content (attribute_in kind word.now) byte).next }
+    ensures { (test : ℕ → Bool) → test byte ≡ breaks → moved result word.now
+        ≡ (string_byte test mark place content (attribute_in kind word.now) byte).next }
 {
     if byte == mark {
         to(Phase::InCode(Code::Plain), content)
     } else if byte == b'\\' {
         begins_character(place, content, kind)
     } else if byte == b'<' {
-        string_less(place, content, kind)
-    } else if matches!(byte, b'\n' | b'\r') {
+        in_value(Phase::StringLess(place), content, kind, Word::Keep)
+    } else if breaks {
         refuses()
     } else {
         keeps(place, content, kind, word, byte)
     }
 }
 
-/// In a string of a style.
-pub(crate) fn style_string_byte(
-    mark: u8,
-    place: SlotPlace,
-    content: Content,
-    kind: Kind,
-    word: &[u8],
-    byte: u8,
-) -> Move
-    ensures { moved result word.now
-        ≡ (style_string_byte mark place content (attribute_in kind word.now) byte).next }
+/// Whether the byte breaks a string of a script.
+pub(crate) fn ends_line(byte: u8) -> bool
+    ensures { result ≡ ends_line byte }
 {
-    if byte == mark {
-        to(Phase::InCode(Code::Plain), content)
-    } else if byte == b'\\' {
-        begins_character(place, content, kind)
-    } else if byte == b'<' {
-        string_less(place, content, kind)
-    } else if matches!(byte, b'\n' | b'\r' | b'\x0c' | 0) {
-        refuses()
-    } else {
-        keeps(place, content, kind, word, byte)
-    }
+    matches!(byte, b'\n' | b'\r')
 }
 
-fn string_less(place: SlotPlace, content: Content, kind: Kind) -> Move
-    ensures { (word : List ℕ) → moved result word
-        ≡ at_value (state.StringLess place) content (attribute_in kind word) }
+/// Whether the byte breaks a string of a style.
+pub(crate) fn is_newline_or_nul(byte: u8) -> bool
+    ensures { result ≡ is_newline_or_nul byte }
 {
-    Move {
-        phase: Phase::StringLess(place),
-        content,
-        kind,
-        word: Word::Keep,
-    }
+    matches!(byte, b'\n' | b'\r' | b'\x0c' | 0)
 }
 
 /// Behind a `<` of a string, where the byte alone would lead on so.
@@ -121,18 +98,8 @@ pub(crate) fn script_escape_byte(
 {
     let kind = reference_read(kind);
     match character_of_escape(word) {
-        Some(_) => Move {
-            phase: Phase::In(place),
-            content,
-            kind,
-            word: Word::New,
-        },
-        None if word.len() < 5 => Move {
-            phase: Phase::Within(place),
-            content,
-            kind,
-            word: Word::Keep,
-        },
+        Some(_) => in_value(Phase::In(place), content, kind, Word::New),
+        None if word.len() < 5 => in_value(Phase::Within(place), content, kind, Word::Keep),
         None => refuses(),
     }
 }
@@ -155,7 +122,7 @@ pub(crate) fn style_escape_byte(
     let (phase, held) = if is_digit && word.len() < 6 {
         (Phase::Within(place), Word::Add(byte))
     } else if word.is_empty() {
-        if matches!(byte, b'\n' | b'\r' | b'\x0c' | 0 | b'<') {
+        if is_newline_or_nul(byte) || byte == b'<' {
             return refuses();
         }
         (Phase::In(place), Word::New)
@@ -164,10 +131,5 @@ pub(crate) fn style_escape_byte(
     } else {
         return again;
     };
-    Move {
-        phase,
-        content,
-        kind: reference_read(kind),
-        word: held,
-    }
+    in_value(phase, content, reference_read(kind), held)
 }

@@ -7,7 +7,6 @@ ghost use Rattle.html_template.specs.Tokenizer.Tags.{
   after_value_byte,
   attribute_name_byte,
   before_name_byte,
-  behind_name,
   content_state,
   end_tag_byte,
   end_tag_name_byte,
@@ -17,7 +16,6 @@ ghost use Rattle.html_template.specs.Tokenizer.Tags.{
   in_tag,
   is_name_error,
   is_space,
-  name_byte,
   opened,
   self_closing_byte,
   tag_name_byte,
@@ -106,21 +104,15 @@ fn ends_name(byte: u8) -> bool
     is_space(byte) || byte == b'/' || byte == b'>'
 }
 
-fn behind_name(content: Option<Content>, byte: u8) -> Move
-    ensures { (word : List ℕ) → moved result word ≡ (behind_name content byte).next }
-{
-    match content {
-        None => refuses(),
-        Some(content) => in_tag(to(Phase::BeforeName, content), content, byte, refuses()),
-    }
-}
-
 /// In the name of a start tag.
 pub(crate) fn tag_name_byte(content: Content, name: &[u8], byte: u8) -> Move
     ensures { moved result name.now ≡ (tag_name_byte content name.now byte).next }
 {
     if ends_name(byte) {
-        behind_name(content_of(name), byte)
+        match content_of(name) {
+            Some(content) => after_value_byte(content, byte),
+            None => refuses(),
+        }
     } else if byte == 0 {
         refuses()
     } else {
@@ -172,17 +164,6 @@ fn is_name_error(byte: u8) -> bool
     matches!(byte, 0 | b'"' | b'\'' | b'<')
 }
 
-fn name_byte(content: Content, name: &[u8], byte: u8) -> Move
-    ensures { moved result name.now ≡ (name_byte content name.now byte).next }
-{
-    let _name = name;
-    if is_name_error(byte) {
-        refuses()
-    } else {
-        goes(Phase::Name, content, Word::Add(byte.to_ascii_lowercase()))
-    }
-}
-
 fn first_name_byte(content: Content, byte: u8) -> Move
     ensures { (word : List ℕ) → moved result word ≡ (first_name_byte content byte).next }
 {
@@ -200,8 +181,13 @@ pub(crate) fn attribute_name_byte(content: Content, name: &[u8], byte: u8) -> Mo
     if byte == b'=' {
         value_of(content, name)
     } else {
+        let longer = if is_name_error(byte) {
+            refuses()
+        } else {
+            goes(Phase::Name, content, Word::Add(byte.to_ascii_lowercase()))
+        };
         let blank = goes(Phase::AfterName, content, Word::Keep);
-        in_tag(blank, content, byte, name_byte(content, name, byte))
+        in_tag(blank, content, byte, longer)
     }
 }
 

@@ -15,7 +15,7 @@ ghost use Rattle.html_template.specs.Tokenizer.Values.{
 
 use crate::parts::SlotPlace;
 use crate::tokenizer::attributes::{content_behind, reference_read, value_byte_read};
-use crate::tokenizer::states::{Content, Kind, Move, Phase, Word, refuses, to};
+use crate::tokenizer::states::{Content, Kind, Move, Phase, Word, in_value, refuses, to};
 use crate::tokenizer::tags::{is_space, opened};
 use hesc_places::grammar::references::body_character;
 
@@ -25,12 +25,7 @@ pub(crate) fn keeps(place: SlotPlace, content: Content, kind: Kind, word: &[u8],
         ≡ (keeps place content (attribute_in kind word.now) byte).next }
 {
     let (kind, word) = value_byte_read(kind, word, byte);
-    Move {
-        phase: Phase::In(place),
-        content,
-        kind,
-        word,
-    }
+    in_value(Phase::In(place), content, kind, word)
 }
 
 /// At a `&`, which begins a reference, or a `\`, which begins an escape.
@@ -38,12 +33,12 @@ pub(crate) fn begins_character(place: SlotPlace, content: Content, kind: Kind) -
     ensures { (word : List ℕ) → moved result word
         ≡ (begins_character place content (attribute_in kind word)).next }
 {
-    Move {
-        phase: Phase::Within(place),
+    in_value(
+        Phase::Within(place),
         content,
-        kind: reference_read(kind),
-        word: Word::New,
-    }
+        reference_read(kind),
+        Word::New,
+    )
 }
 
 /// In a reference, which goes up to the first `;`.
@@ -61,21 +56,11 @@ pub(crate) fn reference_byte(
     let kind = reference_read(kind);
     if byte == b';' {
         return match body_character(word) {
-            Some(_) => Move {
-                phase: Phase::In(place),
-                content,
-                kind,
-                word: Word::New,
-            },
+            Some(_) => in_value(Phase::In(place), content, kind, Word::New),
             None => refuses(),
         };
     }
-    Move {
-        phase: Phase::Within(place),
-        content,
-        kind,
-        word: Word::Add(byte),
-    }
+    in_value(Phase::Within(place), content, kind, Word::Add(byte))
 }
 
 /// In text.
@@ -149,10 +134,5 @@ pub(crate) fn before_value_byte(content: Content, kind: Kind, word: &[u8], byte:
         b'>' => return refuses(),
         _ => return unquoted_byte(content, kind, word, byte),
     };
-    Move {
-        phase,
-        content,
-        kind,
-        word: Word::Keep,
-    }
+    in_value(phase, content, kind, Word::Keep)
 }
