@@ -27,10 +27,10 @@ use hesc_specs::{Element, Quotes};
 pub fn escape(
     element: Element,
     quotes: Quotes,
-    behind_less: bool,
+    after_less: bool,
     bytes: &[u8],
 ) -> Option<(usize, char)>
-    ensures { result ≡ escape_of element quotes behind_less bytes.now }
+    ensures { result ≡ escape_of element quotes after_less bytes.now }
 {
     if let Some(found) = mark_escape(quotes, bytes) {
         return Some(found);
@@ -41,7 +41,7 @@ pub fn escape(
     if let Some(found) = separator_escape(element, bytes) {
         return Some(found);
     }
-    if behind_less {
+    if after_less {
         opening_escape(element, bytes)
     } else {
         None
@@ -50,7 +50,7 @@ pub fn escape(
 
 /// Whether the byte right before the place is `<`.
 #[inline(always)]
-pub fn is_behind_less(bytes: &[u8], place: usize) -> bool
+pub fn is_after_less(bytes: &[u8], place: usize) -> bool
     requires { place ≤ length bytes.now }
     ensures { result ≡ is_after_less bytes.now place }
 {

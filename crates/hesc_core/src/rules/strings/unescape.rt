@@ -9,7 +9,7 @@ ghost use Rattle.hesc_engine.specs.Next.{IsNext};
 ghost use Rattle.hesc_engine.specs.Text.{replacement_bytes};
 
 use crate::rules::strings::classes::string_class;
-use crate::rules::strings::tokens::{escape, is_behind_less};
+use crate::rules::strings::tokens::{escape, is_after_less};
 use hesc_engine::ahead::Ahead;
 use hesc_engine::found::{Found, Replacement};
 use hesc_engine::rule::Rule;
@@ -77,8 +77,8 @@ pub fn next_string_unescape(
     let bytes = text.as_bytes();
     let mut start = first_byte(b'\\', bytes, from);
     'seeking: while start < bytes.len() {
-        let behind_less = is_behind_less(bytes, start);
-        if let Some((more, character)) = escape(element, quotes, behind_less, &bytes[start + 1..]) {
+        let after_less = is_after_less(bytes, start);
+        if let Some((more, character)) = escape(element, quotes, after_less, &bytes[start + 1..]) {
             return Some(Found {
                 start,
                 end: start + 1 + more,

@@ -29,7 +29,7 @@ overflow_add-result-in-Some c =
     let text = c.args.text.now in
     let start = c.seeking.start in
     let known : c.escape.result ≡ escape c.args.element c.args.quotes (is_after_less text start) (drop (start + 1) text) =
-    rw (c.is_behind_less-behind_less.ensures, c.as_bytes-bytes.ensures.value, take_rest text (start + 1)) at c.escape.ensures in
+    rw (c.is_after_less-after_less.ensures, c.as_bytes-bytes.ensures.value, take_rest text (start + 1)) at c.escape.ensures in
     let escapes : escape c.args.element c.args.quotes (is_after_less text start) (drop (start + 1) text) ≡ Some (c.in-Some.more, c.in-Some.character) = sym known ∙ c.in-Some.is in
     let ends : EndsWithin (drop (start + 1) text) c.in-Some.more c.in-Some.character = escape-ends c.args.element c.args.quotes (is_after_less text start) (drop (start + 1) text) c.in-Some.more c.in-Some.character escapes in
     let within = ends.within in grind (arith, common_steps)
@@ -42,7 +42,7 @@ returns-in-Some-clause-found c =
     let inside : start < length text = omega (arith, c.as_bytes-bytes.ensures.len, c.seeking-test.true) in
     let is : slice_index text start ≡ backslash = eqb-true (slice_index text start) backslash (c.seeking.invariant.begins inside) in
     let known : c.escape.result ≡ escape c.args.element c.args.quotes (is_after_less text start) (drop (start + 1) text) =
-    rw (c.is_behind_less-behind_less.ensures, c.as_bytes-bytes.ensures.value, take_rest text (start + 1)) at c.escape.ensures in
+    rw (c.is_after_less-after_less.ensures, c.as_bytes-bytes.ensures.value, take_rest text (start + 1)) at c.escape.ensures in
     let escapes : escape c.args.element c.args.quotes (is_after_less text start) (drop (start + 1) text) ≡ Some (more, c.in-Some.character) = sym known ∙ c.in-Some.is in
     let ends : EndsWithin (drop (start + 1) text) more c.in-Some.character = escape-ends c.args.element c.args.quotes (is_after_less text start) (drop (start + 1) text) more c.in-Some.character escapes in
     let end : start + 1 + (more - 1) ≡ start + more = omega (arith, ends.some) in
@@ -67,7 +67,7 @@ seeking-preserved c =
     let inside : start < length text = omega (arith, c.as_bytes-bytes.ensures.len, c.seeking-test.true) in
     let is : slice_index text start ≡ backslash = eqb-true (slice_index text start) backslash (c.seeking.invariant.begins inside) in
     let known : c.escape.result ≡ escape c.args.element c.args.quotes (is_after_less text start) (drop (start + 1) text) =
-    rw (c.is_behind_less-behind_less.ensures, c.as_bytes-bytes.ensures.value, take_rest text (start + 1)) at c.escape.ensures in
+    rw (c.is_after_less-after_less.ensures, c.as_bytes-bytes.ensures.value, take_rest text (start + 1)) at c.escape.ensures in
     let plain : escape c.args.element c.args.quotes (is_after_less text start) (drop (start + 1) text) ≡ None = sym known ∙ c.in_default.is in
     let first : IsFirstPlace (is_byte backslash) text (start + 1) next = rw c.as_bytes-bytes.ensures.value at c.first_byte-start-in-seeking.ensures in
     record {
