@@ -2,19 +2,7 @@
 //! and a call answers how long the made text is, or `REFUSED` where there is none.
 #![tactic(auto)]
 
-ghost use Rattle.std.specs.Prelude.{
-  ◌≡◌,
-  ◌≤◌,
-  ◌↔◌,
-  [],
-  IfSome,
-  IsOk,
-  IsSome,
-  IsTrue,
-  MatchResult,
-  length,
-  true,
-};
+ghost use Rattle.std.specs.Prelude.{◌≡◌, ◌≤◌, ◌↔◌, IfSome, IsSome, IsTrue, length};
 ghost use Rattle.std.specs.Str.{IsUtf8};
 ghost use Rattle.hesc_engine.specs.Forms.{AnswersText};
 ghost use Rattle.html_escape.specs.Operations.{operation_changes, operation_text};
@@ -27,6 +15,10 @@ ghost use Rattle.hesc_speed.specs.Measured.{
   is_measured,
   operation_of,
 };
+
+mod cow;
+mod page;
+mod string;
 
 use html_escape::*;
 use std::alloc::{AllocError, Global};
@@ -56,13 +48,19 @@ pub extern "C" fn hesc_cow(alloc: Global, number: u32, text: &[u8]) -> usize
     ensures length { AnswersLength (operation_of number) text.now result }
     ensures unchanged { AnswersUnchanged (operation_of number) text.now result }
 {
-    let Some(operation) = measured(number) else {
-        return REFUSED;
-    };
     // The caller owes it.
     let text = unsafe { str::from_utf8_unchecked(text) };
-    match cow_of(alloc, operation, text) {
-        Some(Ok(cow)) => cow.as_str().len(),
+    // By the function of the operation's own name, which is what is measured, and by nothing else.
+    match number {
+        0 => cow::encode_text(alloc, text),
+        1 => cow::encode_double_quoted_attribute(alloc, text),
+        2 => cow::encode_safe(alloc, text),
+        3 => cow::encode_unquoted_attribute(alloc, text),
+        4 => cow::encode_script(alloc, text),
+        5 => cow::encode_script_quoted_text(alloc, text),
+        6 => cow::decode_html_entities(alloc, text),
+        7 => cow::decode_script(alloc, text),
+        8 => cow::decode_script_quoted_text(alloc, text),
         _ => REFUSED,
     }
 }
@@ -74,12 +72,19 @@ pub extern "C" fn hesc_string(alloc: Global, number: u32, text: &[u8]) -> usize
     ensures length { AnswersLength (operation_of number) text.now result }
     ensures empty { AnswersEmpty (operation_of number) text.now result }
 {
-    let Some(operation) = measured(number) else {
-        return REFUSED;
-    };
     let text = unsafe { str::from_utf8_unchecked(text) };
-    let mut output = String::new(alloc);
-    append(operation, text, &mut output).unwrap_or(REFUSED)
+    match number {
+        0 => string::encode_text(alloc, text),
+        1 => string::encode_double_quoted_attribute(alloc, text),
+        2 => string::encode_safe(alloc, text),
+        3 => string::encode_unquoted_attribute(alloc, text),
+        4 => string::encode_script(alloc, text),
+        5 => string::encode_script_quoted_text(alloc, text),
+        6 => string::decode_html_entities(alloc, text),
+        7 => string::decode_script(alloc, text),
+        8 => string::decode_script_quoted_text(alloc, text),
+        _ => REFUSED,
+    }
 }
 
 /// Appends so many times to one output, which grows, and answers the sum of the parts' lengths.
@@ -95,7 +100,7 @@ pub extern "C" fn hesc_append(alloc: Global, number: u32, times: usize, text: &[
     let mut page = String::new(alloc);
     let mut sum = 0usize;
     for _ in 0..times {
-        let Some(count) = append(operation, text, &mut page) else {
+        let Some(count) = page::append(operation, text, &mut page) else {
             return REFUSED;
         };
         let Some(next) = sum.checked_add(count) else {
@@ -136,7 +141,7 @@ fn measured(number: u32) -> Option<Operation>
     MEASURED.get(number as usize).copied()
 }
 
-// By the function of the operation's own name, which is what is measured.
+// By the function of the operation's own name.
 fn cow_of(
     alloc: Global,
     operation: Operation,
@@ -161,46 +166,5 @@ fn cow_of(
         Operation::Decode(Decoder::Script) => Some(decode_script(alloc, text)),
         Operation::Decode(Decoder::ScriptQuoted) => Some(decode_script_quoted_text(alloc, text)),
         _ => None,
-    }
-}
-
-// The length of the part that is appended, `None` where there is none.
-fn append(operation: Operation, text: &str, output: &mut String<Global>) -> Option<usize>
-    ensures count { IfSome result (λ count. count ≡ length (operation_text operation text.now)) }
-    ensures empty { is_measured operation ≡ true → operation_text operation text.now ≡ []
-        → IsSome result }
-{
-    match operation {
-        Operation::Encode(Encoder::Text) => length_of(encode_text_to_string(text, output)),
-        Operation::Encode(Encoder::DoubleQuotedAttribute) => {
-            length_of(encode_double_quoted_attribute_to_string(text, output))
-        }
-        Operation::Encode(Encoder::Safe) => length_of(encode_safe_to_string(text, output)),
-        Operation::Encode(Encoder::UnquotedAttribute) => {
-            length_of(encode_unquoted_attribute_to_string(text, output))
-        }
-        Operation::Encode(Encoder::Script) => length_of(encode_script_to_string(text, output)),
-        Operation::Encode(Encoder::ScriptQuoted) => {
-            length_of(encode_script_quoted_text_to_string(text, output))
-        }
-        Operation::Decode(Decoder::HtmlEntities) => {
-            length_of(decode_html_entities_to_string(text, output))
-        }
-        Operation::Decode(Decoder::Script) => length_of(decode_script_to_string(text, output)),
-        Operation::Decode(Decoder::ScriptQuoted) => {
-            length_of(decode_script_quoted_text_to_string(text, output))
-        }
-        _ => None,
-    }
-}
-
-fn length_of(part: Result<&str, AllocError>) -> Option<usize>
-    ensures count { IfSome result
-        (λ count. MatchResult part.entry (λ text. count ≡ length text.now) (λ _. ⊥)) }
-    ensures some { IsOk part.entry → IsSome result }
-{
-    match part {
-        Ok(text) => Some(text.len()),
-        Err(AllocError) => None,
     }
 }
