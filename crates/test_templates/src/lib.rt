@@ -1,0 +1,12 @@
+//! Tests of templates: memory that is refused, and hostile texts in every place, read back by the
+//! grammars of places, which share no code with templates.
+#![tactic(auto)]
+
+#[cfg(test)]
+mod hostile;
+#[cfg(test)]
+mod memory;
+#[cfg(test)]
+mod pages;
+#[cfg(test)]
+mod pairs;

@@ -1,0 +1,103 @@
+//! Memory that is refused: the answer is Memory and the output as it was. An append asks once where
+//! there is no room, and not at all where there is.
+use crate::pages::parts;
+use html_template::{FillFault, Template, TemplateFault};
+use html_template_source::{BindFault, NamedTemplate, SourceFault};
+use std::process::Abort;
+use std::test::Fail;
+use test_support::Refusing;
+
+#[test]
+fn every_request_of_new_is_refused_in_turn(rt: HostRuntime) -> Result<(), Fail> {
+    let parts = parts(rt.alloc())?;
+    let heap = Refusing::new(rt.alloc(), 0);
+    assert!(rt; Template::new(&heap, &parts).is_ok());
+    let requests = heap.asked(0);
+    // The list of pieces, and the word of the name or value that is read, both of which double.
+    assert!(rt; requests >= 2 && requests <= 12, "{requests}");
+    for number in 1..=requests {
+        heap.refuse(number);
+        let fault = match Template::new(&heap, &parts) {
+            Ok(_) => None,
+            Err(fault) => Some(fault),
+        };
+        assert!(rt; fault == Some(TemplateFault::Memory), "{number}");
+        assert!(rt; heap.asked(number) == number);
+    }
+    Ok(())
+}
+
+const TEXTS: [&str; 9] = ["<", "&", "\"", "'", " ", "'", "\"", "\\", "</style>"];
+
+#[test]
+fn an_append_asks_once_or_not_at_all(rt: HostRuntime) -> Result<(), Fail> {
+    let parts = parts(rt.alloc())?;
+    let Ok(template) = Template::new(rt.alloc(), &parts) else {
+        panic!(rt; "the parts are a template");
+    };
+    let heap = Refusing::new(rt.alloc(), 0);
+    let mut output = String::from_str(&heap, "x")?;
+    // The one request, refused.
+    heap.refuse(1);
+    assert!(rt; template.append(&mut output, &TEXTS) == Err(FillFault::Memory));
+    assert!(rt; output.as_str() == "x");
+    assert!(rt; heap.asked(1) == 1);
+    // The one request, and no other.
+    heap.refuse(2);
+    assert!(rt; template.append(&mut output, &TEXTS) == Ok(()));
+    assert!(rt; heap.asked(2) == 1);
+    // None, where there is room, or the texts do not fill the template.
+    let length = output.len();
+    heap.refuse(0);
+    let mut roomy = String::with_capacity(&heap, length)?;
+    heap.refuse(1);
+    assert!(rt; template.append(&mut roomy, &["a"]) == Err(FillFault::WrongCount));
+    assert!(rt; template.append(&mut roomy, &TEXTS) == Ok(()));
+    assert!(rt; heap.asked(1) == 0);
+    assert!(rt; output.as_str().strip_prefix("x") == Some(roomy.as_str()));
+    Ok(())
+}
+
+const SOURCE: &str =
+    "<p title=\"{{title}}\">{{body}}</p><script>f('{{body}}', \"{{other}}\")</script>";
+
+#[test]
+fn every_request_of_parse_is_refused_in_turn(rt: HostRuntime) {
+    let heap = Refusing::new(rt.alloc(), 0);
+    assert!(rt; NamedTemplate::parse(&heap, SOURCE).is_ok());
+    let requests = heap.asked(0);
+    // The parts, the names, the pieces and the word, all of which double.
+    assert!(rt; requests >= 4 && requests <= 16, "{requests}");
+    for number in 1..=requests {
+        heap.refuse(number);
+        let fault = match NamedTemplate::parse(&heap, SOURCE) {
+            Ok(_) => None,
+            Err(fault) => Some(fault),
+        };
+        assert!(rt; fault == Some(SourceFault::Memory), "{number}");
+        assert!(rt; heap.asked(number) == number);
+    }
+}
+
+#[test]
+fn every_request_of_a_named_append_is_refused_in_turn(rt: HostRuntime) -> Result<(), Fail> {
+    let heap = Refusing::new(rt.alloc(), 0);
+    let Ok(template) = NamedTemplate::parse(&heap, SOURCE) else {
+        panic!(rt; "the source is a template");
+    };
+    let bindings = [("title", "\""), ("body", "</p>"), ("other", "'")];
+    let mut output = String::new(&heap);
+    heap.refuse(0);
+    assert!(rt; template.append(&mut output, &bindings) == Ok(()));
+    let requests = heap.asked(0);
+    // The list of four texts, and the output.
+    assert!(rt; requests >= 2 && requests <= 3, "{requests}");
+    for number in 1..=requests {
+        let mut output = String::new(&heap);
+        heap.refuse(number);
+        assert!(rt; template.append(&mut output, &bindings) == Err(BindFault::Memory));
+        assert!(rt; output.as_str().is_empty());
+        assert!(rt; heap.asked(number) == number);
+    }
+    Ok(())
+}

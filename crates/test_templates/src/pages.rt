@@ -1,0 +1,111 @@
+//! A page with a slot in every place, and its reading.
+use hesc_places::{End, Place, read_place};
+use html_template::{Part, Template};
+use std::alloc::{AllocError, Global};
+use std::process::Abort;
+use std::test::Fail;
+
+/// The markup before each slot, and the place that the slot stands in.
+pub const SLOTS: [(&str, Place); 9] = [
+    ("<!DOCTYPE html><title>", Place::Text),
+    ("</title><p>", Place::Text),
+    ("</p><p title=\"", Place::DoubleAttribute),
+    ("\"><p title='", Place::SingleAttribute),
+    (
+        "'><p class=a title=",
+        Place::UnquotedAttribute(End::Greater),
+    ),
+    ("><script>f('", Place::ScriptSingle),
+    ("', \"", Place::ScriptDouble),
+    ("\");</script><style>p { x: '", Place::StyleSingle),
+    ("'; y: \"", Place::StyleDouble),
+];
+
+/// The markup behind the last slot.
+pub const LAST: &str = "\" }</style>";
+
+/// The parts of the page.
+pub fn parts(alloc: Global) -> Result<Vec<Part<'static>>, AllocError> {
+    let mut parts = Vec::new(alloc);
+    for (markup, _) in SLOTS {
+        parts.push(Part::Markup(markup))?;
+        parts.push(Part::Slot)?;
+    }
+    parts.push(Part::Markup(LAST))?;
+    Ok(parts)
+}
+
+// What is read of a text: a value without quotes and a style's string have U+FFFD for NUL.
+fn read_back(alloc: Global, place: Place, text: &str) -> Result<String, AllocError> {
+    let replaces = matches!(
+        place,
+        Place::UnquotedAttribute(_) | Place::StyleSingle | Place::StyleDouble
+    );
+    let mut read = String::new(alloc);
+    if !replaces || !text.as_bytes().contains(&0) {
+        read.push_str(text)?;
+        return Ok(read);
+    }
+    for character in text.chars() {
+        read.push(if character == '\0' {
+            '\u{FFFD}'
+        } else {
+            character
+        })?;
+    }
+    Ok(read)
+}
+
+/// Whether the page has its markup, and between it each text, as its place is read.
+pub fn holds(alloc: Global, page: &str, texts: &[&str]) -> Result<bool, AllocError> {
+    let mut rest = page.as_bytes();
+    for ((markup, place), text) in SLOTS.iter().zip(texts.iter()) {
+        let Some(behind) = rest.strip_prefix(markup.as_bytes()) else {
+            return Ok(false);
+        };
+        let Some(found) = read_place(alloc, *place, behind)? else {
+            return Ok(false);
+        };
+        let wanted = read_back(alloc, *place, *text)?;
+        let Some((_, more)) = behind.split_at_checked(found.end) else {
+            return Ok(false);
+        };
+        if found.value.as_slice() != wanted.as_bytes() {
+            return Ok(false);
+        }
+        rest = more;
+    }
+    Ok(rest == LAST.as_bytes())
+}
+
+/// Puts a text in the place of that number.
+pub fn put<'t>(texts: &mut [&'t str], at: usize, text: &'t str) {
+    if let Some(place) = texts.get_mut(at) {
+        *place = text;
+    }
+}
+
+/// Whether the template takes the texts, and its page has them all.
+pub fn stay(alloc: Global, template: &Template, texts: &[&str]) -> Result<bool, AllocError> {
+    let mut page = String::new(alloc);
+    match template.append(&mut page, texts) {
+        Ok(()) => holds(alloc, page.as_str(), texts),
+        Err(_) => Ok(false),
+    }
+}
+
+const PLAIN: &str =
+    "<!DOCTYPE html><title>a</title><p>a</p><p title=\"a\"><p title='a'><p class=a title=a><script>f('a', \"a\");</script><style>p { x: 'a'; y: \"a\" }</style>";
+
+#[test]
+fn a_page_is_told_from_others(rt: HostRuntime) -> Result<(), Fail> {
+    let texts = ["a"; 9];
+    assert!(rt; holds(rt.alloc(), PLAIN, &texts)?);
+    assert!(rt; !holds(rt.alloc(), "<!DOCTYPE html><title>a", &texts)?);
+    for wrong in 0..9usize {
+        let mut others = texts;
+        put(&mut others, wrong, "b");
+        assert!(rt; !holds(rt.alloc(), PLAIN, &others)?, "{wrong}");
+    }
+    Ok(())
+}
