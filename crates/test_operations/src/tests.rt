@@ -10,3 +10,4 @@ mod pieces;
 mod references;
 mod scan;
 mod sessions;
+mod support;

@@ -12,8 +12,6 @@ pub mod places;
 mod refusing;
 pub mod rows;
 mod streams;
-#[cfg(test)]
-mod tests;
 
 pub use crate::counting::{CountingWriter, Flush};
 pub use crate::refusing::Refusing;

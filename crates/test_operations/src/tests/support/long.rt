@@ -1,6 +1,6 @@
 //! The long texts.
-use crate::long::{MANY, MILLION, long_text};
 use std::test::Fail;
+use test_support::long::{MANY, MILLION, long_text};
 
 #[test]
 fn a_long_text_is_as_long_as_it_says(rt: HostRuntime) -> Result<(), Fail> {

@@ -1,7 +1,7 @@
 //! The writer that counts.
-use crate::{CountingWriter, Flush, Trouble, Weakness};
 use std::io::Write;
 use std::test::Fail;
+use test_support::{CountingWriter, Flush, Trouble, Weakness};
 
 const WEAKNESS: Weakness = Weakness {
     step: 2,

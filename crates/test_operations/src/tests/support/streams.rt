@@ -1,7 +1,7 @@
 //! The weak streams.
-use crate::{Trouble, WeakReader, WeakWriter, Weakness};
 use std::io::{self, ErrorKind, Read, Write};
 use std::test::Fail;
+use test_support::{Trouble, WeakReader, WeakWriter, Weakness};
 
 type Answer = Result<usize, ErrorKind>;
 

@@ -1,6 +1,6 @@
 //! The allocator that refuses.
-use crate::Refusing;
 use std::test::Fail;
+use test_support::Refusing;
 
 #[test]
 fn the_request_of_that_number_is_refused(rt: HostRuntime) {
