@@ -10,7 +10,7 @@ use crate::markup::attribute_checks::first_fault;
 use crate::markup::form_text::FormText;
 use crate::markup::types::{Attribute, FormFault};
 use hesc_core::forms::append_parts;
-use std::alloc::{AllocError, Allocator};
+use std::alloc::Allocator;
 
 /// Appends a form: an input with these attributes, in order, and a script that hands `script` to
 /// `alert`. It answers that part. On a fault, the first of [`FormFault`], `output` is as it was.
@@ -80,8 +80,6 @@ fn add_form<A: Allocator>(
     if let Some(fault) = first_fault(output.allocator(), attributes) {
         return Err(fault);
     }
-    match append_parts(output, &FormText { attributes, script }) {
-        Ok(()) => Ok(()),
-        Err(AllocError) => Err(FormFault::Memory),
-    }
+    append_parts(output, &FormText { attributes, script })?;
+    Ok(())
 }

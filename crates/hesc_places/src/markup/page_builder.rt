@@ -10,7 +10,7 @@ use crate::markup::form_text::FormText;
 use crate::markup::types::{Attribute, Quoting};
 use crate::place::enclosing::PlaceFault;
 use hesc_core::forms::append_parts;
-use std::alloc::{AllocError, Allocator};
+use std::alloc::Allocator;
 
 /// Appends a page: an input whose value is `a`, unquoted, and whose placeholder is `b`, in double
 /// quotes, and a script that hands `c` to `alert`. It answers that part. On a fault `output` is as it
@@ -92,8 +92,6 @@ fn add_page<A: Allocator>(
         attributes: &attributes,
         script: c,
     };
-    match append_parts(output, &form) {
-        Ok(()) => Ok(()),
-        Err(AllocError) => Err(PlaceFault::Memory),
-    }
+    append_parts(output, &form)?;
+    Ok(())
 }

@@ -106,10 +106,8 @@ fn add_enclosed<A: Allocator>(
         place,
         text,
     };
-    match append_parts(output, &enclosed) {
-        Ok(()) => Ok(()),
-        Err(AllocError) => Err(PlaceFault::Memory),
-    }
+    append_parts(output, &enclosed)?;
+    Ok(())
 }
 
 // All faults but `Memory`.

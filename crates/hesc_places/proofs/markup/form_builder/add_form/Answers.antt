@@ -10,5 +10,5 @@ pub returns-in-Some-clause-fits : goal.returns-in-Some-clause-fits
 returns-in-Some-clause-fits g c is_good room =
     absurd (not_good (map written c.args.attributes.now) c.in-Some.fault c.in-Some.ensures is_good)
 
-pub returns-in-Ok-clause-good : goal.returns-in-Ok-clause-good
-returns-in-Ok-clause-good g c ok = good (map written c.args.attributes.now) c.in_default.ensures
+pub returns-clause-good : goal.returns-clause-good
+returns-clause-good g c ok = good (map written c.args.attributes.now) c.in_default.ensures

@@ -2,7 +2,7 @@ use Rattle.std.proofs.Common.{refl}
 use Rattle.hesc_places.proofs.Places.EnclosedTexts.{enclosed_is_read}
 use Rattle.hesc_places.proofs.place.enclosing.add_enclosed.Goals as goal
 
-pub returns-in-Ok-clause-read : goal.returns-in-Ok-clause-read
-returns-in-Ok-clause-read g c =
+pub returns-clause-read : goal.returns-clause-read
+returns-clause-read g c =
     let stands = c.in_ok-check_place.ensures.ok.0 refl in
     enclosed_is_read c.args.encoder c.args.place stands.0 c.args.text.now c.utf8.text stands.1
