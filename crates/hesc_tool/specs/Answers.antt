@@ -13,15 +13,15 @@ use Rattle.hesc_places.specs.Pages.PageReadings.{PageRead, page_reading}
 use Rattle.hesc_places.specs.Pages.PageTexts.{page_text}
 use Rattle.hesc_places.specs.Places.Suits.{suits}
 use Rattle.hesc_places.specs.declared.markup.types.FormFault.{FormFault}
-use Rattle.hesc_places.specs.declared.markup.types.FormFault.TheVariants as form_fault
 use Rattle.hesc_places.specs.declared.place.places.Place.{Place}
 use Rattle.hesc_places.specs.declared.place.places.Place.TheVariants.{UnquotedAttribute}
+use Rattle.hesc_tool.specs.Faults.{form_refusal}
 use Rattle.hesc_tool.specs.FormWords.{AreWordsOf}
 use Rattle.hesc_tool.specs.Lines.{form_lines, page_lines}
 use Rattle.hesc_tool.specs.declared.commands.Command.{Command}
 use Rattle.hesc_tool.specs.declared.commands.Command.TheVariants.{Operation, Lines, Enclose, Page, ReadPage, Form, ReadForm}
 use Rattle.hesc_tool.specs.declared.faults.Fault.{Fault}
-use Rattle.hesc_tool.specs.declared.faults.Fault.TheVariants.{NotUtf8, NoPage, NotForPlace, EmptyUnquoted, BadName, Memory}
+use Rattle.hesc_tool.specs.declared.faults.Fault.TheVariants.{NotUtf8, NoPage, NotForPlace, EmptyUnquoted}
 
 -- an unquoted value that is empty
 abbrev pub is_empty_unquoted : Place → List ℕ → Bool
@@ -43,16 +43,10 @@ abbrev pub lines_of : Option PageRead → Result (List ℕ) Fault
 lines_of None = Err NoPage
 lines_of (Some page) = Ok (page_lines page)
 
--- how the tool names what is wrong with an attribute
-abbrev pub refusal_of : FormFault → Fault
-refusal_of (form_fault.BadName place) = BadName
-refusal_of (form_fault.EmptyUnquoted place) = EmptyUnquoted
-refusal_of form_fault.Memory = Memory
-
 -- this text, unless something is wrong
 abbrev pub unless_wrong : Option FormFault → List ℕ → Result (List ℕ) Fault
 unless_wrong None text = Ok text
-unless_wrong (Some fault) text = Err (refusal_of fault)
+unless_wrong (Some fault) text = Err (form_refusal fault)
 
 -- the form of these attributes and this script string, if nothing is wrong with the attributes
 abbrev pub form_of : List Entry → List ℕ → Result (List ℕ) Fault

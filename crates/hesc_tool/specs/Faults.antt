@@ -1,5 +1,9 @@
 -- How a fault ends the program.
 use Rattle.std.specs.Prelude.{ℕ, List, codes}
+use Rattle.hesc_places.specs.declared.markup.types.FormFault.{FormFault}
+use Rattle.hesc_places.specs.declared.markup.types.FormFault.TheVariants as form
+use Rattle.hesc_places.specs.declared.place.enclosing.PlaceFault.{PlaceFault}
+use Rattle.hesc_places.specs.declared.place.enclosing.PlaceFault.TheVariants as place
 use Rattle.hesc_tool.specs.declared.faults.Fault.{Fault}
 use Rattle.hesc_tool.specs.declared.faults.Fault.TheVariants.{Usage, Read, NotUtf8, NoPage, NotForPlace, EmptyUnquoted, BadName, Memory, Write}
 
@@ -26,3 +30,15 @@ line_of EmptyUnquoted = codes "hesc: empty unquoted value"
 line_of BadName = codes "hesc: bad attribute name"
 line_of Memory = codes "hesc: out of memory"
 line_of Write = codes "hesc: output cannot be written"
+
+-- why a text cannot stand in a place
+abbrev pub place_refusal : PlaceFault → Fault
+place_refusal place.NotForPlace = NotForPlace
+place_refusal place.EmptyUnquoted = EmptyUnquoted
+place_refusal place.Memory = Memory
+
+-- what is wrong with an attribute
+abbrev pub form_refusal : FormFault → Fault
+form_refusal (form.BadName number) = BadName
+form_refusal (form.EmptyUnquoted number) = EmptyUnquoted
+form_refusal form.Memory = Memory

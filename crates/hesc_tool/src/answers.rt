@@ -21,9 +21,9 @@ use crate::faults::Fault;
 use crate::form_words::{FormWords, attributes_of};
 use crate::lines::{read_form_lines, read_lines};
 use hesc_core::forms::append_to_string;
-use hesc_places::{FormFault, Place, PlaceFault, append_enclosed, append_form, append_page};
+use hesc_places::{Place, append_enclosed, append_form, append_page};
 use html_escape::{BodyKind, Encoder, Operation};
-use std::alloc::{AllocError, Allocator};
+use std::alloc::Allocator;
 use std::str;
 
 /// What the command answers to the input.
@@ -53,9 +53,7 @@ fn apply<A: Allocator>(alloc: A, operation: Operation, input: &[u8]) -> Result<V
         return Err(Fault::NotUtf8);
     };
     let mut output = String::new(alloc);
-    if append_to_string(&mut output, &operation, text).is_err() {
-        return Err(Fault::Memory);
-    }
+    append_to_string(&mut output, &operation, text)?;
     Ok(output.into_bytes())
 }
 
@@ -71,9 +69,7 @@ fn encoded_by_lines<A: Allocator>(
         return Err(Fault::NotUtf8);
     };
     let mut output = String::new(alloc);
-    if append_lines(&mut output, kind, text).is_err() {
-        return Err(Fault::Memory);
-    }
+    append_lines(&mut output, kind, text)?;
     Ok(output.into_bytes())
 }
 
@@ -90,12 +86,8 @@ fn enclosed<A: Allocator>(
         return Err(Fault::NotUtf8);
     };
     let mut output = String::new(alloc);
-    match append_enclosed(&mut output, encoder, place, text) {
-        Ok(_) => Ok(output.into_bytes()),
-        Err(PlaceFault::NotForPlace) => Err(Fault::NotForPlace),
-        Err(PlaceFault::EmptyUnquoted) => Err(Fault::EmptyUnquoted),
-        Err(PlaceFault::Memory) => Err(Fault::Memory),
-    }
+    append_enclosed(&mut output, encoder, place, text)?;
+    Ok(output.into_bytes())
 }
 
 // The page of three texts, if the first is not empty.
@@ -103,22 +95,17 @@ fn page<A: Allocator>(alloc: A, first: &str, second: &str, third: &str) -> Resul
     ensures { IsMade (λ answer. page_of first.now second.now third.now ≡ answer) result }
 {
     let mut output = String::new(alloc);
-    match append_page(&mut output, first, second, third) {
-        Ok(_) => Ok(output.into_bytes()),
-        Err(PlaceFault::NotForPlace) => Err(Fault::NotForPlace),
-        Err(PlaceFault::EmptyUnquoted) => Err(Fault::EmptyUnquoted),
-        Err(PlaceFault::Memory) => Err(Fault::Memory),
-    }
+    append_page(&mut output, first, second, third)?;
+    Ok(output.into_bytes())
 }
 
 // The lines of the page that is read, if there is one.
 fn lines<A: Allocator + Clone>(alloc: A, input: &[u8]) -> Result<Vec<u8, A>, Fault>
     ensures { IsMade (λ answer. lines_of (page_reading input.now) ≡ answer) result }
 {
-    match read_lines(alloc, input) {
-        Ok(Some(lines)) => Ok(lines),
-        Ok(None) => Err(Fault::NoPage),
-        Err(AllocError) => Err(Fault::Memory),
+    match read_lines(alloc, input)? {
+        Some(lines) => Ok(lines),
+        None => Err(Fault::NoPage),
     }
 }
 
@@ -127,28 +114,18 @@ fn form<A: Allocator + Clone>(alloc: A, words: FormWords<'_>) -> Result<Vec<u8, 
     ensures { IsMade (AnswersForm words.entry.script.now
         (map (λ word. word.now) words.entry.attributes.now)) result }
 {
-    let Ok(own) = alloc.clone() else {
-        return Err(Fault::Memory);
-    };
-    let Ok(attributes) = attributes_of(own, words) else {
-        return Err(Fault::Memory);
-    };
+    let attributes = attributes_of(alloc.clone()?, words)?;
     let mut output = String::new(alloc);
-    match append_form(&mut output, attributes.as_slice(), words.script) {
-        Ok(_) => Ok(output.into_bytes()),
-        Err(FormFault::BadName(_)) => Err(Fault::BadName),
-        Err(FormFault::EmptyUnquoted(_)) => Err(Fault::EmptyUnquoted),
-        Err(FormFault::Memory) => Err(Fault::Memory),
-    }
+    append_form(&mut output, attributes.as_slice(), words.script)?;
+    Ok(output.into_bytes())
 }
 
 // The lines of the form that is read, if there is one.
 fn form_lines<A: Allocator + Clone>(alloc: A, input: &[u8]) -> Result<Vec<u8, A>, Fault>
     ensures { IsMade (λ answer. form_lines_of (form_reading input.now) ≡ answer) result }
 {
-    match read_form_lines(alloc, input) {
-        Ok(Some(form)) => Ok(form),
-        Ok(None) => Err(Fault::NoPage),
-        Err(AllocError) => Err(Fault::Memory),
+    match read_form_lines(alloc, input)? {
+        Some(form) => Ok(form),
+        None => Err(Fault::NoPage),
     }
 }

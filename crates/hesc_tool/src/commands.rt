@@ -34,10 +34,8 @@ pub fn command_of<'w>(words: &'w [&'w str]) -> Option<Command<'w>>
     let ["form", script, attributes @ ..] = words else {
         return command_of_few(words);
     };
-    match form_of(script, attributes) {
-        Some(form) => Some(Command::Form(form)),
-        None => None,
-    }
+    let form = form_of(script, attributes)?;
+    Some(Command::Form(form))
 }
 
 // The same without forms, which alone have any number of words.
@@ -51,14 +49,11 @@ fn command_of_few<'w>(words: &[&'w str]) -> Option<Command<'w>>
         ["page", first, second, third] => Some(Command::Page(first, second, third)),
         ["lines-script"] => Some(Command::Lines(BodyKind::Script)),
         ["lines-style"] => Some(Command::Lines(BodyKind::Style)),
-        [name] => match operation_named(name) {
-            Some(operation) => Some(Command::Operation(operation)),
-            None => None,
-        },
-        ["enclose", encoder, place] => match (encoder_named(encoder), place_named(place)) {
-            (Some(encoder), Some(place)) => Some(Command::Enclose(encoder, place)),
-            _ => None,
-        },
+        [name] => Some(Command::Operation(operation_named(name)?)),
+        ["enclose", encoder, place] => Some(Command::Enclose(
+            encoder_named(encoder)?,
+            place_named(place)?,
+        )),
         _ => None,
     }
 }

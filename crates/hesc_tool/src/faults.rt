@@ -1,7 +1,8 @@
 //! What can stand in place of a command's text.
 ghost use Rattle.std.specs.Prelude.{◌≡◌};
-ghost use Rattle.hesc_tool.specs.Faults.{line_of, status_of};
+ghost use Rattle.hesc_tool.specs.Faults.{form_refusal, line_of, place_refusal, status_of};
 
+use hesc_places::{FormFault, PlaceFault};
 use std::alloc::AllocError;
 
 /// Why a run did not write its command's text.
@@ -74,5 +75,29 @@ impl From<AllocError> for Fault {
 
     fn from(_refusal: AllocError) -> Fault {
         Fault::Memory
+    }
+}
+
+impl From<PlaceFault> for Fault {
+    ghost from_gives = { λ refusal fault. fault ≡ place_refusal refusal };
+
+    fn from(refusal: PlaceFault) -> Fault {
+        match refusal {
+            PlaceFault::NotForPlace => Fault::NotForPlace,
+            PlaceFault::EmptyUnquoted => Fault::EmptyUnquoted,
+            PlaceFault::Memory => Fault::Memory,
+        }
+    }
+}
+
+impl From<FormFault> for Fault {
+    ghost from_gives = { λ refusal fault. fault ≡ form_refusal refusal };
+
+    fn from(refusal: FormFault) -> Fault {
+        match refusal {
+            FormFault::BadName(_) => Fault::BadName,
+            FormFault::EmptyUnquoted(_) => Fault::EmptyUnquoted,
+            FormFault::Memory => Fault::Memory,
+        }
     }
 }

@@ -45,9 +45,6 @@ pub fn run<A: Allocator, R: Read, W: Write>(
     let Some(command) = command_of(args) else {
         return Err(Fault::Usage);
     };
-    let bytes = match input_of(&alloc, command, input) {
-        Ok(bytes) => bytes,
-        Err(fault) => return Err(fault),
-    };
+    let bytes = input_of(&alloc, command, input)?;
     answer(&alloc, command, bytes.as_slice(), output)
 }

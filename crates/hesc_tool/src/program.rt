@@ -53,12 +53,8 @@ fn outcome_of<A: Allocator, B: Allocator, R: Read, W: Write>(
         Ok(args) => args,
         Err(error) => return Err(without_words(error)),
     };
-    let Ok(words) = words_after_name(&alloc, args) else {
-        return Err(Fault::Memory);
-    };
-    let Ok(words) = lent(&alloc, words.as_slice()) else {
-        return Err(Fault::Memory);
-    };
+    let words = words_after_name(&alloc, args)?;
+    let words = lent(&alloc, words.as_slice())?;
     run_and_flush(&alloc, words.as_slice(), input, output)
 }
 

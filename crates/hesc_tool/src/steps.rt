@@ -37,9 +37,7 @@ pub fn read_whole<A: Allocator, R: Read>(alloc: A, input: &mut R) -> Result<Vec<
         if count == 0 {
             return Ok(bytes);
         }
-        if bytes.extend_from_slice(&buffer[..count]).is_err() {
-            return Err(Fault::Memory);
-        }
+        bytes.extend_from_slice(&buffer[..count])?;
     }
 }
 
@@ -93,8 +91,6 @@ pub fn answer<A: Allocator + Clone, W: Write>(
 ) -> Result<(), Fault>
     ensures { AnsweredAs command.entry input.now (W.contents output.old) (W.contents output.new) result }
 {
-    match make_answer(alloc, command, input) {
-        Ok(made) => write_whole(made.as_slice(), output),
-        Err(fault) => Err(fault),
-    }
+    let made = make_answer(alloc, command, input)?;
+    write_whole(made.as_slice(), output)
 }
