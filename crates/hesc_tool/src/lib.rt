@@ -32,7 +32,6 @@ use std::io::{Read, Write};
 /// a beginning of the text. A reader that never ends comes to `Fault::Memory`.
 ///
 /// Of the words `encode_text` and the input `a<b` it writes `a&lt;b`.
-#[tactic(auto, using(crate::proofs::Ran::ran))]
 pub fn run<A: Allocator, R: Read, W: Write>(
     alloc: A,
     args: &[&str],
