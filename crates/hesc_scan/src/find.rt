@@ -8,6 +8,8 @@ use memchr::{memchr, memchr2};
 use std::simd::prelude::*;
 
 /// The least place at or after `from` with this byte, or the length where there is none.
+///
+/// `first_byte(b'<', b"a<b", 0)` is 1, and from 2 on it is 3.
 #[inline(always)]
 pub fn first_byte(byte: u8, bytes: &[u8], from: usize) -> usize
     requires { from ≤ length bytes.now }
@@ -39,6 +41,8 @@ fn first_byte_far(byte: u8, bytes: &[u8], from: usize) -> usize
 }
 
 /// The least place at or after `from` with one of these bytes, or the length where there is none.
+///
+/// `first_of_two(b'&', b';', b"a;b&", 0)` is 1, and from 2 on it is 3.
 #[inline(always)]
 pub fn first_of_two(one: u8, other: u8, bytes: &[u8], from: usize) -> usize
     requires { from ≤ length bytes.now }

@@ -35,6 +35,8 @@ pub const FLAGS: [u16; 256] = [
 ];
 
 /// The table agrees with the classes: this is its contract, and it answers nothing.
+///
+/// For instance `&` is in the classes 0 to 6, so `FLAGS[b'&' as usize]` is `0x7F`.
 pub fn flags_agree(class: Class, byte: u8)
     ensures { bit_at (slice_index FLAGS byte) (class_number class) ≡ 1
         ↔ IsTrue (in_class class byte) }

@@ -17,6 +17,8 @@ use hesc_specs::Element;
 
 /// The least place at or after `from` at which an opening begins, or the length where there is
 /// none.
+///
+/// `first_opening(Element::Script, b"a</b></script>", 0)` is 5.
 #[inline(always)]
 pub fn first_opening(element: Element, bytes: &[u8], from: usize) -> usize
     requires { from ≤ length bytes.now }
@@ -34,6 +36,8 @@ pub fn first_opening(element: Element, bytes: &[u8], from: usize) -> usize
 
 /// The least place at or after `from` at which an escaped opening begins, or the length where
 /// there is none.
+///
+/// `first_escaped_opening(Element::Script, b"<!--<\\!--", 0)` is 4.
 #[inline(always)]
 pub fn first_escaped_opening(element: Element, bytes: &[u8], from: usize) -> usize
     requires { from ≤ length bytes.now }
@@ -70,6 +74,9 @@ fn completes_opening(element: Element, rest: &[u8]) -> bool
     }
 }
 
+/// Whether the bytes begin with the element's name, in any ASCII case, and the name ends there.
+///
+/// `is_named(Element::Script, b"SCRIPT>")`, and not `is_named(Element::Script, b"scripts>")`.
 pub fn is_named(element: Element, tag: &[u8]) -> bool
     ensures { result ≡ begins_in_any_case (element_name element) ends tag.now }
 {
@@ -92,6 +99,9 @@ fn ends_name(rest: &[u8]) -> bool
     }
 }
 
+/// The element's name, in lower case.
+///
+/// `name_of(Element::Script)` is `b"script"`.
 pub fn name_of(element: Element) -> &'static [u8]
     ensures { result.now ≡ element_name element }
 {

@@ -46,6 +46,8 @@ fn first_by_blocks(class: Class, bytes: &[u8], from: usize) -> usize
 /// The mask of the first bytes at or after `from` among which one is in the class, 32 of them or as
 /// many as there are, and the place where they begin. Where there is none, the length and an empty
 /// mask.
+///
+/// `first_block(Class::Text, b"ab<c<", 1)` is `(1, 0b1010)`.
 #[inline(never)]
 pub fn first_block(class: Class, bytes: &[u8], from: usize) -> (usize, u64)
     requires { from ≤ length bytes.now }
@@ -92,6 +94,9 @@ fn first_by_lanes(class: Class, bytes: &[u8], from: usize) -> (usize, u64)
 
 /// The least place at or after `from` where something begins that the encoder of the class
 /// replaces, or the length where there is none.
+///
+/// `first_escaped(Class::ScriptQuoted, "\u{20AC}'".as_bytes(), 0)` is 3: U+20AC begins with E2 too,
+/// and stays.
 #[inline(always)]
 pub fn first_escaped(class: Class, bytes: &[u8], from: usize) -> usize
     requires { from ≤ length bytes.now }
@@ -120,6 +125,8 @@ fn first_escaped_in(class: Class, bytes: &[u8], from: usize) -> usize
 }
 
 /// Whether the bytes after an E2 make a separator of it.
+///
+/// `completes_separator(&[0x80, 0xA8])`, and not `completes_separator(&[0x82, 0xAC])`.
 #[inline(always)]
 pub fn completes_separator(rest: &[u8]) -> bool
     ensures { result ≡ completes rest.now }

@@ -10,6 +10,8 @@ use crate::length::growth::{Growth, grown_length};
 
 /// As many bytes as the body encoding of these bytes has or more, for each element, and 0 where it
 /// has none; `None` where the count would pass the greatest `usize`.
+///
+/// `body_bound(b"</script>")` is `Some(10)`: a byte more for each `<`.
 pub fn body_bound(bytes: &[u8]) -> Option<usize>
     ensures enough { (element : Element) →
         IfSome result (λ bound. length (body_encoding element bytes.now) ≤ bound) }

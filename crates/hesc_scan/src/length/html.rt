@@ -9,6 +9,8 @@ use hesc_specs::Class;
 
 /// The length of the HTML encoding of these bytes, or `None` where it would pass the greatest
 /// `usize`.
+///
+/// `encoded_length(Class::Text, b"a<b")` is `Some(6)`.
 pub fn encoded_length(class: Class, bytes: &[u8]) -> Option<usize>
     requires { IsHtml class }
     ensures count { IfSome result (λ count. count ≡ length (encoding class bytes.now)) }

@@ -10,6 +10,8 @@ use hesc_specs::Class;
 
 /// As many bytes as the string encoding of the text has or more, and 0 where it has none; `None`
 /// where the count would pass the greatest `usize`.
+///
+/// `string_bound(Class::ScriptQuoted, "it's")` is `Some(7)`, where the encoding has 5 bytes.
 pub fn string_bound(class: Class, text: &str) -> Option<usize>
     requires { string_class class ≢ None }
     ensures enough { IfSome result (λ bound. length (escaped class text.now) ≤ bound) }
