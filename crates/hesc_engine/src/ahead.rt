@@ -18,6 +18,8 @@ pub struct Ahead {
 
 impl Ahead {
     /// Nothing is known of the text.
+    ///
+    /// `Ahead::nothing("a<b")` begins at the end: its `start` is 3, and its `hits` are 0.
     #[inline(always)]
     pub fn nothing(text: &str) -> Ahead
         ensures { IsAhead text.now result }

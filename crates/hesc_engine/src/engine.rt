@@ -12,6 +12,8 @@ use crate::sink::Sink;
 ///
 /// On success the sink took exactly that. On the sink's fault, which is handed on at once, it took
 /// a beginning of it.
+///
+/// Of the encoder of text and `a<b` the sink takes `a&lt;b`.
 #[inline(always)]
 pub fn run<R: Rule, S: Sink>(rule: &R, text: &str, sink: &mut S) -> Result<(), S::Fault>
     ensures ok_taken { OnOk result

@@ -15,6 +15,8 @@ impl Replacement<'_> {
     ghost use Rattle.hesc_engine.specs.Text.{replacement_bytes};
 
     /// The text.
+    ///
+    /// `Replacement::Borrowed("&lt;").as_str()` is `&lt;`.
     #[inline(always)]
     pub fn as_str(&self) -> &str
         ensures { result.now ≡ replacement_bytes self.now }

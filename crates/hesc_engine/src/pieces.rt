@@ -22,6 +22,8 @@ impl Piece<'_> {
     ghost use Rattle.hesc_engine.specs.Pieces.{part_of};
 
     /// The piece's text, which is not empty in a piece of `Pieces`.
+    ///
+    /// `Piece::Kept { start: 1, text: "b" }.as_str()` is `b`.
     #[inline(always)]
     pub fn as_str(&self) -> &str
         ensures { result.now ≡ part_bytes (part_of self.now) }
@@ -69,6 +71,8 @@ impl<'t, R: Rule> Pieces<'t, R> {
     ghost use Rattle.hesc_engine.specs.Text.{replacement_bytes};
 
     /// The pieces of what `rule` makes of `text`.
+    ///
+    /// Of the encoder of text and `a<b` they are the kept `a`, the new `&lt;` and the kept `b`.
     #[inline(always)]
     pub fn new(rule: &'t R, text: &'t str) -> Pieces<'t, R>
         ensures pieces { parts_left result ≡ parts text.now 0 (R.changes_from rule.now text.now 0) }

@@ -18,12 +18,17 @@ pub trait Rule {
     ghost made: { Self → List ℕ → List ℕ };
 
     /// The first change at or after `from`, a character boundary, or `None` where there is none.
+    ///
+    /// Of the encoder of text, in `a<b` from 0, it is the byte 1, which becomes `&lt;`.
     fn next(&self, text: &str, from: usize) -> Option<Found<'_>>
         requires { IsCharBoundary text.now from }
         ensures none { IfNone result (changes_from self.now text.now from ≡ []) }
         ensures found { IfSome result (IsNext text.now from (changes_from self.now text.now)) };
 
     /// The same, by what is known of the bytes ahead, which stays true.
+    ///
+    /// Of the encoder of text, in `a<b` from 0, it is the byte 1 again, and of `ahead` the `hits`
+    /// are then `0b10`.
     #[inline(always)]
     fn next_ahead(&self, text: &str, from: usize, ahead: &mut Ahead) -> Option<Found<'_>>
         requires boundary { IsCharBoundary text.now from }
@@ -37,6 +42,8 @@ pub trait Rule {
     }
 
     /// How many bytes the rule's text has, or `None` where they pass the greatest `usize`.
+    ///
+    /// Of the encoder of text and `a<b` they are 6.
     #[inline(always)]
     fn total(&self, text: &str) -> Option<usize>
         ensures count { IfSome result (λ count. count ≡ length (made self.now text.now)) }
@@ -46,6 +53,8 @@ pub trait Rule {
     }
 
     /// The same, by scanning for each change.
+    ///
+    /// Of the encoder of text and `a<b` they are 6.
     #[inline(always)]
     fn total_by_changes(&self, text: &str) -> Option<usize>
         ensures count { IfSome result (λ count. count ≡ length (made self.now text.now)) }
@@ -64,6 +73,8 @@ pub trait Rule {
 
     /// An upper bound of the length of the rule's text, computed without scanning for changes, and 0
     /// where the text is empty; `None` where the rule knows none.
+    ///
+    /// Of the encoder of a script's strings and `it's` it is 7, where the rule's text has 5 bytes.
     #[inline(always)]
     fn bound(&self, text: &str) -> Option<usize>
         ensures enough { IfSome result (λ bound. length (made self.now text.now) ≤ bound) }

@@ -25,6 +25,8 @@ pub trait Sink {
     ghost before: { Self → Option (List ℕ) };
 
     /// Takes the whole piece, or fails after a beginning of it. An empty piece is always taken.
+    ///
+    /// After `put("ab")?` a vector that held `x` holds `xab`.
     fn put(&mut self, piece: &str) -> Result<(), Self::Fault>
         ensures ok_taken { OnOk result (taken self.new ≡ taken self.old ++ piece.now) }
         ensures ok_failures { OnOk result (failures self.new ≡ failures self.old) }
@@ -40,6 +42,8 @@ pub trait Sink {
         ensures same_before { before self.new ≡ before self.old };
 
     /// Takes the stretch of a segment and then the text after it, or fails after a beginning of both.
+    ///
+    /// Of the stretch `a` and the text `&lt;` it takes `a&lt;`.
     #[inline(always)]
     fn put_segment(&mut self, segment: Segment<'_>) -> Result<(), Self::Fault>
         ensures ok_taken { OnOk result (taken self.new ≡ taken self.old ++ segment_bytes segment.entry) }
@@ -57,6 +61,8 @@ pub trait Sink {
     }
 
     /// Takes the piece, unless it is empty.
+    ///
+    /// After `put_some("")?` a writer was offered nothing.
     #[inline(always)]
     fn put_some(&mut self, piece: &str) -> Result<(), Self::Fault>
         ensures ok_taken { OnOk result (taken self.new ≡ taken self.old ++ piece.now) }

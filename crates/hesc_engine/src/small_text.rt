@@ -61,6 +61,8 @@ impl SmallText {
     }
 
     /// The text of the first of eight ASCII bytes, at most six.
+    ///
+    /// `SmallText::from_ascii(*b"&lt;\0\0\0\0", 4).as_str()` is `&lt;`.
     #[inline(always)]
     pub fn from_ascii(bytes: [u8; 8], len: usize) -> SmallText
         requires short { len ≤ 6 }
@@ -71,6 +73,8 @@ impl SmallText {
     }
 
     /// The text.
+    ///
+    /// `SmallText::new("&lt;").as_str()` is `&lt;`.
     #[inline(always)]
     pub fn as_str(&self) -> &str
         ensures { result.now ≡ small_text_bytes self.now }
@@ -80,6 +84,8 @@ impl SmallText {
     }
 
     /// The number of its bytes.
+    ///
+    /// `SmallText::new("&lt;").len()` is 4.
     #[inline(always)]
     pub fn len(&self) -> usize
         ensures { result ≡ length (small_text_bytes self.now) }

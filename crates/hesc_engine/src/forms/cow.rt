@@ -9,6 +9,8 @@ use std::alloc::{AllocError, Allocator};
 use std::borrow::CowStr;
 
 /// What `rule` makes of `text`: `text` itself where nothing changes, which takes no memory.
+///
+/// Of the encoder of text and `a<b` it is `a&lt;b`, and of `ab` it is `ab`, borrowed.
 #[inline(always)]
 pub fn to_cow<'t, R: Rule, A: Allocator>(
     alloc: A,

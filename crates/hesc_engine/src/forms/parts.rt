@@ -16,6 +16,8 @@ pub trait Parts {
     ghost text: { Self → List ℕ };
 
     /// Puts all parts, in order.
+    ///
+    /// Of what the encoder of text makes of `a<b` it puts `a`, `&lt;` and `b`.
     fn put_into<S: Sink>(&self, sink: &mut S) -> Result<(), S::Fault>
         ensures ok_taken { OnOk result (S.taken sink.new ≡ S.taken sink.old ++ text self.now) }
         ensures ok_failures { OnOk result (S.failures sink.new ≡ S.failures sink.old) }
@@ -26,6 +28,8 @@ pub trait Parts {
     /// How many bytes to have room for before the text is appended to an output that has room for
     /// `spare`: at least as many as it has, none where it has none, and no more than `spare` where
     /// those suffice.
+    ///
+    /// Of what the encoder of text makes of `a<b` it is 6.
     fn room_for(&self, spare: usize) -> Result<usize, CountOverflow>
         ensures enough { IfOk result (λ room. length (text self.now) ≤ room) }
         ensures empty { text self.now ≡ [] → IfOk result (λ room. room ≡ 0) }
@@ -40,6 +44,8 @@ pub trait Parts {
 }
 
 /// Appends the text of the parts, or leaves the output as it was.
+///
+/// Of what the encoder of text makes of `a<b`, it appends `a&lt;b`.
 #[inline(always)]
 pub fn append_parts<P: Parts, A: Allocator>(
     output: &mut String<A>,
@@ -69,6 +75,8 @@ fn appended<P: Parts, A: Allocator>(
 }
 
 /// The same for a vector of bytes.
+///
+/// Of what the encoder of text makes of `a<b`, it appends the bytes of `a&lt;b`.
 #[inline(always)]
 pub fn append_parts_to_vec<P: Parts, A: Allocator>(
     output: &mut Vec<u8, A>,

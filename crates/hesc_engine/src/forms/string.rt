@@ -13,6 +13,8 @@ use crate::unchanged::Unchanged;
 use std::alloc::{AllocError, Allocator};
 
 /// Appends what `rule` makes of `text`, or leaves the output as it was.
+///
+/// Of the encoder of text and `a<b` it appends `a&lt;b`.
 #[inline(always)]
 pub fn append_to_string<R: Rule, A: Allocator>(
     output: &mut String<A>,
@@ -38,6 +40,8 @@ pub fn append_to_string<R: Rule, A: Allocator>(
 
 /// Appends what `rule` makes of `text`, and answers the part that was added. On a refusal the
 /// output is as it was.
+///
+/// Of the encoder of text and `a<b` it appends and answers `a&lt;b`.
 #[inline(always)]
 pub fn onto_string<'o, R: Rule, A: Allocator>(
     output: &'o mut String<A>,

@@ -8,6 +8,8 @@ use std::io::{self, Write};
 
 /// Writes what `rule` makes of `text`, or a beginning of it and then the writer's fault. It takes
 /// no memory and never flushes.
+///
+/// Of the encoder of text and `a<b` it writes `a&lt;b`.
 #[inline(always)]
 pub fn to_writer<R: Rule, W: Write>(rule: &R, text: &str, output: &mut W) -> Result<(), io::Error>
     ensures { WritesText (W.contents output.old) (W.contents output.new)

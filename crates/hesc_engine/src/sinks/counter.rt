@@ -20,6 +20,8 @@ impl Counter {
     ghost use Rattle.hesc_engine.specs.Sinks.{counted};
 
     /// Nothing taken yet.
+    ///
+    /// `Counter::new().count()` is 0.
     #[inline(always)]
     pub fn new() -> Counter
         ensures { counted result ≡ [] }

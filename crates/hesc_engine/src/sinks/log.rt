@@ -29,6 +29,8 @@ impl Model for Log {
 
 impl Log {
     /// Nothing taken, and no failure.
+    ///
+    /// `Log::new()` has taken no byte, and its failures are 0.
     #[inline(always)]
     pub fn new() -> Log
         ensures { (result.taken ≡ []) × (result.failures ≡ 0) }
@@ -39,6 +41,8 @@ impl Log {
     }
 
     /// The log after `bytes` were taken too.
+    ///
+    /// `Log::new().after_taking(b"ab")` has taken `ab`.
     #[inline(always)]
     pub fn after_taking(&self, bytes: &[u8]) -> Log
         ensures taken { result.taken ≡ self.now.taken ++ bytes.now }
@@ -48,6 +52,8 @@ impl Log {
     }
 
     /// The log after one more failure.
+    ///
+    /// Of `Log::new().after_failing()` the failures are 1.
     #[inline(always)]
     pub fn after_failing(&self) -> Log
         ensures taken { result.taken ≡ self.now.taken }

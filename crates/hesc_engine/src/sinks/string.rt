@@ -20,6 +20,8 @@ impl<'a, A: Allocator> StringSink<'a, A> {
     ghost use Rattle.hesc_engine.specs.Sinks.{string_sink_output, string_sink_start, string_sink_taken};
 
     /// A sink over this output, which stays as it was.
+    ///
+    /// After `StringSink::new(&mut output)` over `x`, `put("ab")?` makes `xab` of it.
     #[inline(always)]
     pub fn new(output: &'a mut String<A>) -> StringSink<'a, A>
         ensures same_reference { (string_sink_output result).ghost_name ≡ output.entry.ghost_name }
@@ -36,6 +38,8 @@ impl<'a, A: Allocator> StringSink<'a, A> {
     }
 
     /// The output, to be used again: a caller knows of it only what is asked for here.
+    ///
+    /// After `put("ab")?` over `x` it holds `xab`.
     #[inline(always)]
     pub fn into_output(self) -> &'a mut String<A>
         ensures same_reference { result.ghost_name ≡ (string_sink_output self.entry).ghost_name }

@@ -33,6 +33,8 @@ impl<'a, A: Allocator> VecSink<'a, A> {
     ghost use Rattle.hesc_engine.specs.Text.{small_text_bytes};
 
     /// A sink over this output, which stays as it was.
+    ///
+    /// After `VecSink::new(&mut output)` over `x`, `put("ab")?` makes `xab` of it.
     #[inline(always)]
     pub fn new(output: &'a mut Vec<u8, A>) -> VecSink<'a, A>
         ensures same_reference { (vec_sink_output result).ghost_name ≡ output.entry.ghost_name }
@@ -49,6 +51,8 @@ impl<'a, A: Allocator> VecSink<'a, A> {
     }
 
     /// The output, to be used again: a caller knows of it only what is asked for here.
+    ///
+    /// After `put("ab")?` over `x` it holds `xab`.
     #[inline(always)]
     pub fn into_output(self) -> &'a mut Vec<u8, A>
         ensures same_reference { result.ghost_name ≡ (vec_sink_output self.entry).ghost_name }

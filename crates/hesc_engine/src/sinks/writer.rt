@@ -23,6 +23,8 @@ impl<'a, W: Write> WriterSink<'a, W> {
     ghost use Rattle.hesc_engine.specs.Sinks.{writer_sink_output, writer_sink_start, writer_sink_taken};
 
     /// A sink over this output, which stays as it was.
+    ///
+    /// `WriterSink::new(&mut writer)` has written nothing; after `put("ab")?` it has written `ab`.
     #[inline(always)]
     pub fn new(output: &'a mut W) -> WriterSink<'a, W>
         ensures same_reference { (writer_sink_output result).ghost_name ≡ output.entry.ghost_name }
@@ -39,6 +41,8 @@ impl<'a, W: Write> WriterSink<'a, W> {
     }
 
     /// The output, to be used again: a caller knows of it only what is asked for here.
+    ///
+    /// After `put("ab")?` it is the writer, which got `ab`.
     #[inline(always)]
     pub fn into_output(self) -> &'a mut W
         ensures same_reference { result.ghost_name ≡ (writer_sink_output self.entry).ghost_name }
