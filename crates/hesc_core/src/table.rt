@@ -87,6 +87,9 @@ impl<'a> EntityTable<'a> {
 
     /// The same of rows whose values are also shown to be at most a fifth longer than their
     /// references, as all of HTML's are: decoding then asks for its room without counting first.
+    ///
+    /// `html_entities()` of the crate `html_entities` is made so: its `get(b"hearts")` is
+    /// `Some("\u{2665}")`.
     pub fn of_near(rows: &'a [(&'a [u8], &'a str)]) -> EntityTable<'a>
         requires table { IsTrue (is_table (rows_in rows.now)) }
         requires near { IsTrue (are_near (rows_in rows.now)) }
@@ -125,6 +128,8 @@ impl<'a> EntityTable<'a> {
     }
 
     /// The rows that the table was made of, in order.
+    ///
+    /// Of the built-in table they are 77, of which the first is `(b"AElig", "\u{C6}")`.
     pub fn rows(&self) -> &'a [(&'a [u8], &'a str)]
         ensures { rows_in result.now ≡ rows_of self.now }
     {

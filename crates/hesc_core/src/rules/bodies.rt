@@ -132,6 +132,8 @@ impl Rule for DecodeStyle {
 }
 
 /// The `\` that goes into the first opening at or after `from`, a character boundary.
+///
+/// In `a</script>` from 0, of a script, it goes in at the byte 2.
 #[inline(always)]
 pub fn next_body_escape(element: Element, text: &str, from: usize) -> Option<Found<'static>>
     requires { IsCharBoundary text.now from }
@@ -152,6 +154,8 @@ pub fn next_body_escape(element: Element, text: &str, from: usize) -> Option<Fou
 
 /// The first `\` at or after `from`, a character boundary, that an escaped opening loses. Its `<`
 /// may stand right before `from`.
+///
+/// In `a<\/script>` from 0, of a script, it is the byte 2.
 #[inline(always)]
 pub fn next_body_unescape(element: Element, text: &str, from: usize) -> Option<Found<'static>>
     requires { IsCharBoundary text.now from }

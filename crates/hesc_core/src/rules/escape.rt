@@ -71,6 +71,9 @@ pub fn next_escape(class: Class, text: &str, from: usize) -> Option<Found<'stati
 }
 
 /// The same, by what is known of the bytes ahead, which stays true.
+///
+/// In `a<b` from 0, of `Class::Text`, it is the byte 1 again, and of `ahead` the `hits` are then
+/// `0b10`.
 #[inline(always)]
 pub fn next_escape_ahead(
     class: Class,

@@ -86,6 +86,8 @@ pub const NAMED_ENTITIES: [(&[u8], &str); 77] = [
 
 /// The rows are those of the definition, each name with the character of its code point: this is
 /// its contract, and it answers nothing.
+///
+/// For instance the first row is `(b"AElig", "\u{C6}")`.
 pub fn entities_agree()
     ensures { map (λ row. (row.0.now, row.1.now)) NAMED_ENTITIES ≡ named_rows }
 {}

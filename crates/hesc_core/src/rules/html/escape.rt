@@ -15,6 +15,8 @@ use hesc_scan::scan::first_in;
 use hesc_specs::Class;
 
 /// The first byte of the class at or after `from`, a character boundary, and its reference.
+///
+/// In `a<b` from 0, of `Class::Text`, it is the byte 1, which becomes `&lt;`.
 #[inline(always)]
 pub fn next_html_escape(class: Class, text: &str, from: usize) -> Option<Found<'static>>
     requires boundary { IsCharBoundary text.now from }

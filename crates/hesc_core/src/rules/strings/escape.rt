@@ -27,6 +27,8 @@ use hesc_specs::{Class, Element};
 
 /// The first character at or after `from`, a character boundary, that the encoder of the class
 /// replaces, and its escape.
+///
+/// In `it's` from 0, of `Class::ScriptQuoted`, it is the byte 2, which becomes `\'`.
 #[inline(always)]
 pub fn next_string_escape(
     class: Class,

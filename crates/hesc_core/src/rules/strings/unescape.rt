@@ -48,6 +48,8 @@ impl Rule for Unescape {
 
 /// The first escape at or after `from`, a character boundary, where the reading begins, and its
 /// character. In an HTML encoder's class there is none.
+///
+/// In `it\'s` from 0, of `Class::ScriptQuoted`, it is the bytes 2 to 4, which become `'`.
 #[inline(always)]
 pub fn next_unescape(class: Class, text: &str, from: usize) -> Option<Found<'static>>
     requires { IsCharBoundary text.now from }
@@ -62,6 +64,8 @@ pub fn next_unescape(class: Class, text: &str, from: usize) -> Option<Found<'sta
 
 /// The first escape of an encoded string at or after `from`, a character boundary, where the
 /// reading begins, and its character.
+///
+/// In `a\3C b` from 0, of a style and both marks, it is the bytes 1 to 5, which become `<`.
 #[inline(always)]
 pub fn next_string_unescape(
     element: Element,
