@@ -53,6 +53,8 @@ impl Rule for Decoder {
 
 /// The first change of the decoder at or after `from`, a character boundary, where a string
 /// decoder's reading begins.
+///
+/// In `a&lt;b` from 0, of `Decoder::HtmlEntities`, it is the bytes 1 to 5, which become `<`.
 pub fn next_decoded(decoder: Decoder, text: &str, from: usize) -> Option<Found<'static>>
     requires { IsCharBoundary text.now from }
     ensures none { IfNone result (decoder_changes decoder text.now from ≡ []) }

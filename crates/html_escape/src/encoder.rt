@@ -109,6 +109,8 @@ fn class_of(encoder: Encoder) -> Option<Class>
 }
 
 /// The first change of the encoder at or after `from`, a character boundary.
+///
+/// In `a<b` from 0, of `Encoder::Text`, it is the byte 1, which becomes `&lt;`.
 pub fn next_encoded(encoder: Encoder, text: &str, from: usize) -> Option<Found<'static>>
     requires { IsCharBoundary text.now from }
     ensures none { IfNone result (encoder_changes encoder text.now from ≡ []) }

@@ -34,6 +34,8 @@ impl BodyEncoder {
     ghost use Rattle.html_escape.specs.BodyEncoders.{HasEncoded, added_with, held_by, kind_of};
 
     /// A session of this kind, which holds nothing.
+    ///
+    /// `BodyEncoder::new(BodyKind::Script).finish(&mut page)?` appends nothing.
     #[tactic(auto, using(crate::proofs::Sessions::begun))]
     pub fn new(kind: Element) -> BodyEncoder
         ensures kind { kind_of result ≡ kind }
@@ -100,6 +102,9 @@ impl BodyEncoder {
 
     /// [`push`](Self::push) with the output first: a caller's proof learns the answered part, and
     /// all of what `output` holds afterwards.
+    ///
+    /// Given `</scr`, it appends nothing yet; given then `ipt>`, it appends and answers
+    /// `<\/script>`.
     pub fn append_piece<'o, A: Allocator>(
         output: &'o mut String<A>,
         session: &mut BodyEncoder,
@@ -126,6 +131,8 @@ impl BodyEncoder {
     }
 
     /// [`finish`](Self::finish) with the output first.
+    ///
+    /// After the piece `a<` it appends and answers `<`.
     pub fn append_rest<'o, A: Allocator>(
         output: &'o mut String<A>,
         session: &mut BodyEncoder,
