@@ -45,6 +45,8 @@ pub enum Step {
 }
 
 /// What begins at a position of a place.
+///
+/// `step_of(Place::Text, Mode::Plain, b"&lt;b")` is `Step::Character(3, '<', Mode::Plain)`.
 pub fn step_of(place: Place, mode: Mode, bytes: &[u8]) -> Step
     ensures { result ≡ step_of place mode bytes.now }
 {
@@ -63,6 +65,8 @@ pub fn step_of(place: Place, mode: Mode, bytes: &[u8]) -> Step
 }
 
 /// The mode at the opening mark.
+///
+/// `first_mode(Place::Text)` is `Mode::Plain`.
 pub fn first_mode(place: Place) -> Mode
     ensures { result ≡ first_mode place }
 {

@@ -22,6 +22,9 @@ use html_escape::Encoder;
 /// Where an encoder suits a place, what it writes for a text ends exactly at the closing mark,
 /// whatever follows, and is read as the text (with U+FFFD for NUL where `read_back` says so, and a
 /// body as its encoding).
+///
+/// For instance `a<b` is written as `a&lt;b` in text, which before any `<` is read as `a<b` and
+/// ends at byte 6.
 pub fn place_law(encoder: Encoder, place: Place, text: &str, rest: &[u8])
     requires suits { IsTrue (suits encoder place) }
     requires may_hold { MayHold place text.now }
@@ -31,6 +34,9 @@ pub fn place_law(encoder: Encoder, place: Place, text: &str, rest: &[u8])
 
 /// An encoded body ends exactly at any end tag of its element that follows it, in any ASCII case and
 /// whatever ends the tag's name, and whatever follows that.
+///
+/// For instance the encoding of `<!--` in a script is `<\!--`, which ends at byte 5 where
+/// `</SCRIPT >` follows.
 pub fn end_tag_law(element: Element, text: &str, tag: &[u8])
     requires { IsTrue (is_end_tag element tag.now) }
     ensures { reading (body_of element) (body_encoding element text.now ++ tag.now)
@@ -39,6 +45,9 @@ pub fn end_tag_law(element: Element, text: &str, tag: &[u8])
 
 /// Only an encoder that suits a place passes the place's trial: what another one writes for the
 /// trial text does not end exactly at the closing mark, or is not read as the text.
+///
+/// For instance `Encoder::Text` keeps a `"`, so what it writes for one ends at byte 0 in
+/// `Place::DoubleAttribute`.
 pub fn no_other_pair(encoder: Encoder, place: Place)
     requires { suits encoder place ≡ false }
     ensures { PassesTrial encoder place → ⊥ }
@@ -46,6 +55,8 @@ pub fn no_other_pair(encoder: Encoder, place: Place)
 
 /// The text of a page of three texts, the first not empty, is read back as the three (the first with
 /// U+FFFD for NUL), whatever follows it, and ends exactly where it ends.
+///
+/// For instance the page of `a`, `b` and `c` is read back as these three.
 pub fn page_law(a: &str, b: &str, c: &str, rest: &[u8])
     requires { length a.now ≢ 0 }
     ensures { page_reading (page_text a.now b.now c.now ++ rest.now)
@@ -55,6 +66,9 @@ pub fn page_law(a: &str, b: &str, c: &str, rest: &[u8])
 /// The text of a form with good attributes is read back as these attributes in order (an unquoted
 /// value with U+FFFD for NUL) and the script's string, whatever follows it, and ends exactly where it
 /// ends.
+///
+/// For instance the form of the one attribute `value`, which is `a b` without quotes, and of the
+/// string `x` is read back as these.
 pub fn form_law(attributes: &[Attribute], script: &str, rest: &[u8])
     requires { AreGood (map written attributes.now) }
     ensures { form_reading (form_text (map written attributes.now) script.now ++ rest.now)
@@ -62,6 +76,8 @@ pub fn form_law(attributes: &[Attribute], script: &str, rest: &[u8])
 {}
 
 /// Attributes have no fault exactly where they are good.
+///
+/// For instance two attributes `value` are not good, and have the fault `BadName(1)`.
 pub fn good_attributes_law(attributes: &[Attribute])
     ensures { (first_fault (map written attributes.now) ≡ None)
         ↔ AreGood (map written attributes.now) }

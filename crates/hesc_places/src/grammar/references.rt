@@ -18,6 +18,8 @@ use hesc_core::find::first_byte;
 const PAST_CHARACTERS: u32 = 0x110000;
 
 /// What a `&` before the bytes begins.
+///
+/// `reference(b"lt;b")` is `Step::Character(3, '<', Mode::Plain)`.
 pub fn reference(bytes: &[u8]) -> Step
     ensures { result ≡ reference bytes.now }
 {
@@ -32,6 +34,8 @@ pub fn reference(bytes: &[u8]) -> Step
 }
 
 /// The character of a reference's body, which stands between its `&` and its `;`.
+///
+/// `body_character(b"#x3C")` is `Some('<')`.
 pub fn body_character(body: &[u8]) -> Option<char>
     ensures { result ≡ body_character body.now }
 {

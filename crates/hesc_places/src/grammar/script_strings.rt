@@ -12,6 +12,8 @@ use crate::grammar::hex::hex_number;
 use crate::grammar::{Mode, Step};
 
 /// The step of a string literal, which the byte `mark` ends.
+///
+/// `script_string_step(b'"', Mode::Plain, b"a\"")` is `Step::Byte(0, b'a', Mode::Plain)`.
 #[tactic(auto, unfolding(crate::specs::Grammars::ScriptStrings::script_string_step))]
 pub fn script_string_step(mark: u8, mode: Mode, bytes: &[u8]) -> Step
     ensures { result ≡ script_string_step mark mode bytes.now }
@@ -32,6 +34,8 @@ pub fn script_string_step(mark: u8, mode: Mode, bytes: &[u8]) -> Step
 }
 
 /// What a `\` before the bytes begins.
+///
+/// `script_escape(b"nb")` is `Step::Character(1, '\n', Mode::Plain)`.
 pub fn script_escape(bytes: &[u8]) -> Step
     ensures { result ≡ script_escape bytes.now }
 {

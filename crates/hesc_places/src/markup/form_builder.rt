@@ -42,6 +42,9 @@ pub fn build_form<'o, A: Allocator>(
 
 /// [`build_form`] with the output first: a caller's proof learns the answered part, and all of what
 /// `output` holds afterwards.
+///
+/// With the attribute `value`, unquoted, of value `a b`, and the script string `x`, it is
+/// `<input value=a&#x20;b /><script>alert('x');</script>`.
 pub fn append_form<'o, A: Allocator>(
     output: &'o mut String<A>,
     attributes: &[Attribute],

@@ -39,6 +39,8 @@ pub fn build_page<'o, A: Allocator>(
 
 /// [`build_page`] with the output first: a caller's proof learns the answered part, and all of what
 /// `output` holds afterwards.
+///
+/// Of `a`, `b` and `c` it is `<input value=a placeholder="b"/><script>alert('c');</script>`.
 pub fn append_page<'o, A: Allocator>(
     output: &'o mut String<A>,
     a: &str,

@@ -64,6 +64,8 @@ pub fn enclose<'o, A: Allocator>(
 
 /// [`enclose`] with the output first: a caller's proof learns the answered part, and all of what
 /// `output` holds afterwards.
+///
+/// `append_enclosed(&mut page, Encoder::Text, Place::Text, "a<b")?` appends and answers `>a&lt;b<`.
 pub fn append_enclosed<'o, A: Allocator>(
     output: &'o mut String<A>,
     encoder: Encoder,
