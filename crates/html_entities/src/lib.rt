@@ -19,6 +19,8 @@ use html_escape::EntityTable;
 
 /// The table of [`ROWS`]. It is total: the rows are shown to make a table when this crate is
 /// proved, and no row is checked when a program runs.
+///
+/// `html_entities().get(b"hearts")` is `Some("\u{2665}")`.
 pub fn html_entities() -> EntityTable<'static>
     ensures { rows_of result ≡ named_references }
 {
@@ -35,6 +37,8 @@ fn all_rows() -> &'static [(&'static [u8], &'static str); 2125]
 
 /// Each name of the built-in table has the same value in this one: this is its contract, and it
 /// answers nothing.
+///
+/// For instance `AElig` is U+00C6 in both.
 pub fn built_in_names_law()
     ensures { (name value : List ℕ) → value_of named_rows name ≡ Some value
         → value_of named_references name ≡ Some value }
