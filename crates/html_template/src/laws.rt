@@ -33,6 +33,9 @@ use crate::tokenizer::states::Content;
 /// A page of a template whose slots all stand where a text may stand: whatever follows it, the
 /// tokenizer's actions are those at the template, where each text is handed to its slot whole, and
 /// then those at what follows, from the state in which a page begins.
+///
+/// For instance in the page `<p>&lt;</p>` of `<p>`, a slot and `</p>`, the slot is handed `<`, and
+/// whatever follows the page is tokenized as it would be alone.
 #[tactic(auto, using(crate::proofs::Structure::is_read_as))]
 pub fn template_law(pieces: &[Piece], texts: &[&str])
     requires sound { state_after_all data_state (map kept pieces.now) ≡ data_state }
@@ -44,6 +47,9 @@ pub fn template_law(pieces: &[Piece], texts: &[&str])
 
 /// The structure of a page, which is all of the tokenizer's actions but the bytes of texts and
 /// values, is the same for any texts.
+///
+/// For instance the pages of `<p>`, a slot and `</p>` for `a` and for `</p>` both have one start
+/// tag and one end tag.
 #[tactic(auto, using(crate::proofs::Structure::structure_of_page))]
 pub fn structure_law(pieces: &[Piece], texts: &[&str], others: &[&str])
     requires sound { state_after_all data_state (map kept pieces.now) ≡ data_state }
@@ -57,6 +63,8 @@ pub fn structure_law(pieces: &[Piece], texts: &[&str], others: &[&str])
 
 /// Templates join: the pieces of two, one after the other, are again those of a template, whose pages
 /// are a page of the first and then one of the second, read as both are.
+///
+/// For instance `<p>`, a slot and `</p>`, twice, has for `a` and `b` the page `<p>a</p><p>b</p>`.
 #[tactic(auto, using(crate::proofs::Joined::joined_state, crate::proofs::Joined::joined_page, crate::proofs::Joined::joined_actions))]
 pub fn joined_law(first: &[Piece], second: &[Piece], texts: &[&str], others: &[&str])
     requires first_sound { state_after_all data_state (map kept first.now) ≡ data_state }
@@ -76,6 +84,9 @@ pub fn joined_law(first: &[Piece], second: &[Piece], texts: &[&str], others: &[&
 
 /// Pages join: what is a page of some parts, and behind it one of others, is a page of these parts
 /// and then the others, filled by the texts of both. No part and no text make an empty page.
+///
+/// For instance `<p>a</p><p>b</p>` is a page of `<p>`, a slot and `</p>`, twice, filled by `a` and
+/// `b`.
 #[tactic(auto, using(crate::proofs::Joined::no_page, crate::proofs::Joined::joined_pages))]
 pub fn pages_law()
     ensures none { IsPageOf [] [] [] }
@@ -86,6 +97,8 @@ pub fn pages_law()
 
 /// The tokens of a page, but for characters and for the values of attributes and strings, are the
 /// same for any texts: the same doctypes, comments, tags, names and code, in the same order.
+///
+/// For instance the tags of `<p title="`, a slot and `">` are one `p` with a `title`, for any text.
 #[tactic(auto, using(crate::proofs::TokenLaw::skeleton_of_pages))]
 pub fn token_law(pieces: &[Piece], texts: &[&str], others: &[&str])
     requires sound { state_after_all data_state (map kept pieces.now) ≡ data_state }
@@ -105,6 +118,8 @@ pub fn token_law(pieces: &[Piece], texts: &[&str], others: &[&str])
 /// In a value without quotes a carriage return, which the grammar keeps, is a line feed, which ends
 /// the value. A string it may refuse, but only one in which `</` or `<!` stands, or in a style a `<`
 /// behind a `\`.
+///
+/// For instance both read `a&lt;b` before `<`, in text, as `a<b`.
 pub fn agreement_law(content: Content, bytes: &[u8])
     ensures text { AgreesWith slot.Text content place.Text less_than bytes.now }
     ensures double { AgreesWith slot.DoubleQuoted content place.DoubleAttribute
