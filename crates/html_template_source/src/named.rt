@@ -32,6 +32,9 @@ impl<'a, A: Allocator + Copy> NamedTemplate<'a, A> {
 
     /// The template of a source, in which a slot is a name between `{{` and `}}`. A name may stand
     /// more than once.
+    ///
+    /// Of `<p>{{name}}</p>` it has one slot, `name`; of `<p {{name}}>` the fault is
+    /// `NoTemplate(NoPlace(1))`.
     pub fn parse(alloc: A, source: &'a str) -> Result<NamedTemplate<'a, A>, SourceFault>
         ensures source { IfOk result (λ t.
             IsSourceOf (map part_of (chunks_of t)) (names_of t) source.now) }
@@ -54,6 +57,8 @@ impl<'a, A: Allocator + Copy> NamedTemplate<'a, A> {
     ///
     /// Whatever follows the page, it is tokenized as the template is, with each text handed to its
     /// slots whole.
+    ///
+    /// Of `<p>{{name}}</p>`, the page of `a<b` for `name` is `<p>a&lt;b</p>`.
     pub fn append<B: Allocator>(
         &self,
         output: &mut String<B>,
