@@ -1,12 +1,28 @@
 //! The examples of the documents that are not rows of an operation.
+mod engine;
+mod laws;
+mod rules;
+mod searches;
+mod sinks;
+
 use hesc_core::rules::{next_escape, next_references};
 use hesc_core::scan::first_in;
 use html_escape::{
-    BodyEncoder, BodyKind, Class, Encoder, EntityTable, Operation, SmallText, append,
+    BodyEncoder, BodyKind, Class, Encoder, EntityTable, Found, Operation, SmallText, append,
     append_to_vec, encode_pieces, pieces,
 };
 use std::process::Abort;
 use std::test::Fail;
+
+/// Whether the change is this one.
+pub fn is_change(found: Option<Found<'_>>, start: usize, end: usize, text: &str) -> bool {
+    match found {
+        Some(found) => {
+            found.start == start && found.end == end && found.replacement.as_str() == text
+        }
+        None => false,
+    }
+}
 
 #[test]
 fn values_and_sessions_append_as_they_are_said_to(rt: HostRuntime) -> Result<(), Fail> {
@@ -28,6 +44,19 @@ fn values_and_sessions_append_as_they_are_said_to(rt: HostRuntime) -> Result<(),
 }
 
 #[test]
+fn sessions_append_as_they_are_said_to(rt: HostRuntime) -> Result<(), Fail> {
+    let mut page = String::new(rt.alloc());
+    let mut session = BodyEncoder::new(BodyKind::Script);
+    assert!(rt; session.finish(&mut page)?.is_empty());
+    assert!(rt; BodyEncoder::append_piece(&mut page, &mut session, "</scr")?.is_empty());
+    let part = BodyEncoder::append_piece(&mut page, &mut session, "ipt>")?;
+    assert!(rt; part == "<\\/script>");
+    assert!(rt; BodyEncoder::append_piece(&mut page, &mut session, "a<")? == "a");
+    assert!(rt; BodyEncoder::append_rest(&mut page, &mut session)? == "<");
+    Ok(())
+}
+
+#[test]
 fn tables_searches_and_rules_answer_as_they_are_said_to(rt: HostRuntime) {
     let table = EntityTable::built_in();
     assert!(rt; table.get(b"AElig") == Some("\u{C6}"));
@@ -36,14 +65,11 @@ fn tables_searches_and_rules_answer_as_they_are_said_to(rt: HostRuntime) {
     assert!(rt; first_in(Class::Text, b"a<b", 0) == 1);
     assert!(rt; first_in(Class::Text, b"a<b", 2) == 3);
     assert!(rt; SmallText::from_char('\u{C6}').len() == 2);
-    let Some(found) = next_escape(Class::Text, "a<b", 0) else {
-        panic!(rt; "`<` is replaced");
-    };
-    assert!(rt; found.start == 1 && found.end == 2);
-    assert!(rt; found.replacement.as_str() == "&lt;");
-    let Some(found) = next_references(&table, "a&lt;b", 0) else {
-        panic!(rt; "the reference has a value");
-    };
-    assert!(rt; found.start == 1 && found.end == 5);
-    assert!(rt; found.replacement.as_str() == "<");
+    let found = next_escape(Class::Text, "a<b", 0);
+    assert!(rt; is_change(found, 1, 2, "&lt;"));
+    let found = next_references(&table, "a&lt;b", 0);
+    assert!(rt; is_change(found, 1, 5, "<"));
+    let rows = table.rows();
+    assert!(rt; rows.len() == 77);
+    assert!(rt; rows[0].0 == b"AElig".as_slice() && rows[0].1 == "\u{C6}");
 }

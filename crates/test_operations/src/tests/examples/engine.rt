@@ -1,0 +1,120 @@
+//! The examples of the engine: rules, pieces and forms.
+use crate::tests::examples::is_change;
+use hesc_core::forms::made::Made;
+use hesc_core::forms::measure::{measure, room_for};
+use hesc_core::forms::{
+    Parts, append_parts, append_parts_to_vec, append_to_string, append_to_vec, onto_string,
+    onto_vec, to_cow, to_writer,
+};
+use hesc_core::rules::Escape;
+use hesc_core::{Class, Counter, Piece, Pieces, Replacement, Rule, SmallText, run};
+use hesc_engine::Ahead;
+use std::process::Abort;
+use std::test::Fail;
+use test_support::{Trouble, WeakWriter, Weakness};
+
+#[test]
+fn a_rule_answers_as_it_is_said_to(rt: HostRuntime) {
+    let encoder = Escape(Class::Text);
+    assert!(rt; is_change(encoder.next("a<b", 0), 1, 2, "&lt;"));
+    let mut ahead = Ahead::nothing("a<b");
+    assert!(rt; ahead.start == 3 && ahead.hits == 0);
+    assert!(rt; is_change(encoder.next_ahead("a<b", 0, &mut ahead), 1, 2, "&lt;"));
+    assert!(rt; ahead.hits == 0b10);
+    assert!(rt; encoder.total("a<b") == Some(6));
+    assert!(rt; encoder.total_by_changes("a<b") == Some(6));
+    let encoder = Escape(Class::ScriptQuoted);
+    assert!(rt; encoder.bound("it's") == Some(7));
+    assert!(rt; encoder.total("it's") == Some(5));
+}
+
+#[test]
+fn a_text_is_measured_as_it_is_said_to_be(rt: HostRuntime) -> Result<(), Fail> {
+    assert!(rt; measure(&Escape(Class::Text), "a<b") == Ok(6));
+    let encoder = Escape(Class::ScriptQuoted);
+    assert!(rt; room_for(&encoder, "it's", 0) == Ok(7));
+    assert!(rt; room_for(&encoder, "it's", 5) == Ok(5));
+    let mut counter = Counter::new();
+    run(&encoder, "it's", &mut counter)?;
+    assert!(rt; counter.count() == 5);
+    Ok(())
+}
+
+fn is_kept(piece: Option<Piece<'_>>, place: usize, kept: &str) -> bool {
+    match piece {
+        Some(Piece::Kept { start, text }) => start == place && text == kept,
+        _ => false,
+    }
+}
+
+fn is_new(piece: Option<Piece<'_>>, new: &str) -> bool {
+    match piece {
+        Some(Piece::New(replacement)) => replacement.as_str() == new,
+        _ => false,
+    }
+}
+
+#[test]
+fn pieces_are_as_they_are_said_to_be(rt: HostRuntime) {
+    let encoder = Escape(Class::Text);
+    let mut pieces = Pieces::new(&encoder, "a<b");
+    assert!(rt; is_kept(pieces.next(), 0, "a"));
+    assert!(rt; is_new(pieces.next(), "&lt;"));
+    assert!(rt; is_kept(pieces.next(), 2, "b"));
+    assert!(rt; pieces.next().is_none());
+    let piece = Piece::Kept {
+        start: 1,
+        text: "b",
+    };
+    assert!(rt; piece.as_str() == "b");
+    assert!(rt; Replacement::Borrowed("&lt;").as_str() == "&lt;");
+    assert!(rt; SmallText::from_ascii(*b"&lt;\0\0\0\0", 4).as_str() == "&lt;");
+    assert!(rt; SmallText::new("&lt;").as_str() == "&lt;");
+    assert!(rt; SmallText::new("&lt;").len() == 4);
+}
+
+#[test]
+fn forms_append_as_they_are_said_to(rt: HostRuntime) -> Result<(), Fail> {
+    let encoder = Escape(Class::Text);
+    assert!(rt; to_cow(rt.alloc(), &encoder, "a<b")?.as_str() == "a&lt;b");
+    let mut page = String::from_str(rt.alloc(), "x")?;
+    append_to_string(&mut page, &encoder, "a<b")?;
+    assert!(rt; page.as_str() == "xa&lt;b");
+    assert!(rt; onto_string(&mut page, &encoder, "a<b")? == "a&lt;b");
+    let mut bytes = b"x".to_vec(rt.alloc())?;
+    append_to_vec(&mut bytes, &encoder, "a<b")?;
+    assert!(rt; bytes.as_slice() == b"xa&lt;b".as_slice());
+    assert!(rt; onto_vec(&mut bytes, &encoder, "a<b")? == b"a&lt;b".as_slice());
+    let mut writer = WeakWriter::new(
+        rt.alloc(),
+        Weakness {
+            step: 8,
+            at: 0,
+            trouble: Trouble::Calm,
+        },
+    );
+    to_writer(&encoder, "a<b", &mut writer)?;
+    assert!(rt; writer.taken.as_slice() == b"a&lt;b".as_slice());
+    Ok(())
+}
+
+#[test]
+fn parts_are_put_as_they_are_said_to_be(rt: HostRuntime) -> Result<(), Fail> {
+    let encoder = Escape(Class::Text);
+    let made = Made {
+        rule: &encoder,
+        text: "a<b",
+        ahead: Ahead::nothing("a<b"),
+    };
+    assert!(rt; made.room_for(0) == Ok(6));
+    let mut counter = Counter::new();
+    made.put_into(&mut counter)?;
+    assert!(rt; counter.count() == 6);
+    let mut page = String::from_str(rt.alloc(), "x")?;
+    append_parts(&mut page, &made)?;
+    assert!(rt; page.as_str() == "xa&lt;b");
+    let mut bytes = b"x".to_vec(rt.alloc())?;
+    append_parts_to_vec(&mut bytes, &made)?;
+    assert!(rt; bytes.as_slice() == b"xa&lt;b".as_slice());
+    Ok(())
+}

@@ -1,0 +1,42 @@
+//! The examples of the rules.
+use crate::tests::examples::is_change;
+use hesc_core::rules::escape::next_escape_ahead;
+use hesc_core::rules::html::escape::next_html_escape;
+use hesc_core::rules::strings::escape::next_string_escape;
+use hesc_core::rules::{next_body_escape, next_body_unescape, next_string_unescape, next_unescape};
+use hesc_core::table::entities::entities_agree;
+use hesc_core::{Class, Element, Quotes};
+use hesc_engine::Ahead;
+use html_escape::decoder::next_decoded;
+use html_escape::encoder::next_encoded;
+use html_escape::{Decoder, Encoder, NAMED_ENTITIES};
+
+#[test]
+fn encoders_change_what_they_are_said_to(rt: HostRuntime) {
+    let found = next_body_escape(Element::Script, "a</script>", 0);
+    assert!(rt; is_change(found, 2, 2, "\\"));
+    let mut ahead = Ahead::nothing("a<b");
+    let found = next_escape_ahead(Class::Text, "a<b", 0, &mut ahead);
+    assert!(rt; is_change(found, 1, 2, "&lt;"));
+    assert!(rt; ahead.hits == 0b10);
+    let found = next_html_escape(Class::Text, "a<b", 0);
+    assert!(rt; is_change(found, 1, 2, "&lt;"));
+    let found = next_string_escape(Class::ScriptQuoted, Element::Script, "it's", 0);
+    assert!(rt; is_change(found, 2, 3, "\\'"));
+    let found = next_encoded(Encoder::Text, "a<b", 0);
+    assert!(rt; is_change(found, 1, 2, "&lt;"));
+}
+
+#[test]
+fn decoders_change_what_they_are_said_to(rt: HostRuntime) {
+    let found = next_body_unescape(Element::Script, "a<\\/script>", 0);
+    assert!(rt; is_change(found, 2, 3, ""));
+    let found = next_unescape(Class::ScriptQuoted, "it\\'s", 0);
+    assert!(rt; is_change(found, 2, 4, "'"));
+    let found = next_string_unescape(Element::Style, Quotes::Both, "a\\3C b", 0);
+    assert!(rt; is_change(found, 1, 5, "<"));
+    let found = next_decoded(Decoder::HtmlEntities, "a&lt;b", 0);
+    assert!(rt; is_change(found, 1, 5, "<"));
+    entities_agree();
+    assert!(rt; NAMED_ENTITIES[0].0 == b"AElig".as_slice() && NAMED_ENTITIES[0].1 == "\u{C6}");
+}
