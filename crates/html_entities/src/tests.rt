@@ -1,9 +1,9 @@
 //! What no contract says: that the rows are those of a second source, and that a text is decoded.
 mod by_character;
 
-use crate::html_entities;
 use crate::tests::by_character::NAMES;
-use html_escape::decode_html_entities_with;
+use crate::{built_in_names_law, html_entities};
+use html_escape::{EntityTable, decode_html_entities_with};
 use std::alloc::{AllocError, Global};
 use std::process::Abort;
 use std::test::Fail;
@@ -58,4 +58,13 @@ fn texts_are_decoded(rt: HostRuntime) -> Result<(), Fail> {
         assert_eq!(rt; made.as_str(), wanted);
     }
     Ok(())
+}
+
+#[test]
+fn the_tables_answer_as_they_are_said_to(rt: HostRuntime) {
+    let table = html_entities();
+    assert!(rt; table.get(b"hearts") == Some("\u{2665}"));
+    built_in_names_law();
+    assert!(rt; table.get(b"AElig") == Some("\u{C6}"));
+    assert!(rt; EntityTable::built_in().get(b"AElig") == Some("\u{C6}"));
 }
