@@ -1,7 +1,9 @@
 //! Tests of templates: memory that is refused, and hostile texts in every place, read back by the
-//! grammars of places, which share no code with templates.
+//! grammars of places, which share no code with templates. The examples of the documents are here too.
 #![tactic(auto)]
 
+#[cfg(test)]
+mod examples;
 #[cfg(test)]
 mod hostile;
 #[cfg(test)]

@@ -1,0 +1,99 @@
+//! The examples of templates and of their laws.
+use hesc_places::{Place, read_place};
+use html_template::{Content, FillFault, Part, Template, TemplateFault, laws};
+use html_template_source::{BindFault, NamedTemplate, SourceFault};
+use std::alloc::{AllocError, Global};
+use std::process::Abort;
+use std::test::Fail;
+
+/// The page of the template of these parts, or the fault of its texts.
+fn page(alloc: Global, template: &Template, texts: &[&str]) -> Result<String, FillFault> {
+    let mut page = String::new(alloc);
+    template.append(&mut page, texts)?;
+    Ok(page)
+}
+
+fn is_page(alloc: Global, template: &Template, texts: &[&str], wanted: &str) -> bool {
+    match page(alloc, template, texts) {
+        Ok(page) => page.as_str() == wanted,
+        Err(_) => false,
+    }
+}
+
+const TITLE: [Part; 3] = [Part::Markup("<p title=\""), Part::Slot, Part::Markup("\">")];
+
+const PARAGRAPH: [Part; 3] = [Part::Markup("<p>"), Part::Slot, Part::Markup("</p>")];
+
+const TWO_PARAGRAPHS: [Part; 6] = [
+    Part::Markup("<p>"),
+    Part::Slot,
+    Part::Markup("</p>"),
+    Part::Markup("<p>"),
+    Part::Slot,
+    Part::Markup("</p>"),
+];
+
+#[test]
+fn a_template_is_made_and_filled_as_it_is_said_to_be(rt: HostRuntime) {
+    let Ok(template) = Template::new(rt.alloc(), &TITLE) else {
+        panic!(rt; "the slot stands in a value");
+    };
+    assert!(rt; is_page(rt.alloc(), &template, &["a\""], "<p title=\"a&quot;\">"));
+    assert!(rt; is_page(rt.alloc(), &template, &["\">"], "<p title=\"&quot;&gt;\">"));
+    let parts = [Part::Markup("<p "), Part::Slot, Part::Markup(">")];
+    assert!(rt; Template::new(rt.alloc(), &parts).err() == Some(TemplateFault::NoPlace(1)));
+}
+
+#[test]
+fn a_source_is_parsed_and_filled_as_it_is_said_to_be(rt: HostRuntime) {
+    let Ok(template) = NamedTemplate::parse(rt.alloc(), "<p>{{name}}</p>") else {
+        panic!(rt; "the slot stands in text");
+    };
+    let mut page = String::new(rt.alloc());
+    assert!(rt; template.append(&mut page, &[]) == Err(BindFault::Missing(0)));
+    assert!(rt; template.append(&mut page, &[("name", "a<b")]) == Ok(()));
+    assert!(rt; page.as_str() == "<p>a&lt;b</p>");
+    let fault = NamedTemplate::parse(rt.alloc(), "<p {{name}}>").err();
+    assert!(rt; fault == Some(SourceFault::NoTemplate(TemplateFault::NoPlace(1))));
+}
+
+// How many tags a page of plain tags has.
+fn tags(page: &str) -> usize {
+    page.as_bytes().iter().filter(|byte| **byte == b'<').count()
+}
+
+#[test]
+fn pages_have_the_structure_that_the_laws_say(rt: HostRuntime) -> Result<(), Fail> {
+    let Ok(template) = Template::new(rt.alloc(), &PARAGRAPH) else {
+        panic!(rt; "the slot stands in text");
+    };
+    assert!(rt; is_page(rt.alloc(), &template, &["<"], "<p>&lt;</p>"));
+    let Ok(plain) = page(rt.alloc(), &template, &["a"]) else {
+        panic!(rt; "the text fills the slot");
+    };
+    let Ok(hostile) = page(rt.alloc(), &template, &["</p>"]) else {
+        panic!(rt; "the text fills the slot");
+    };
+    assert!(rt; tags(&plain) == 2 && tags(&hostile) == 2);
+    laws::pages_law();
+    let mut both = String::new(rt.alloc());
+    assert!(rt; template.append(&mut both, &["a"]) == Ok(()));
+    assert!(rt; template.append(&mut both, &["b"]) == Ok(()));
+    assert!(rt; both.as_str() == "<p>a</p><p>b</p>");
+    let Ok(joined) = Template::new(rt.alloc(), &TWO_PARAGRAPHS) else {
+        panic!(rt; "the slots stand in text");
+    };
+    assert!(rt; is_page(rt.alloc(), &joined, &["a", "b"], "<p>a</p><p>b</p>"));
+    Ok(())
+}
+
+#[test]
+fn texts_are_read_as_the_law_of_agreement_says(rt: HostRuntime) -> Result<(), AllocError> {
+    laws::agreement_law(Content::Normal, b"a&lt;b<");
+    let Some(reading) = read_place(rt.alloc(), Place::Text, b"a&lt;b<")? else {
+        panic!(rt; "the text has an end");
+    };
+    assert!(rt; reading.value.as_slice() == b"a<b".as_slice());
+    assert!(rt; reading.end == 6);
+    Ok(())
+}
