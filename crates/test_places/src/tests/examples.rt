@@ -1,5 +1,13 @@
 //! The examples of the documents.
-use hesc_places::{Place, append_enclosed, end_of_place, read_place, suits};
+mod laws;
+
+use hesc_places::grammar::references::{body_character, reference};
+use hesc_places::grammar::script_strings::{script_escape, script_string_step};
+use hesc_places::grammar::{Mode, Step, first_mode, step_of};
+use hesc_places::{
+    Attribute, Place, Quoting, append_enclosed, append_form, append_page, end_of_place, read_place,
+    suits,
+};
 use html_escape::Encoder;
 use std::process::Abort;
 use std::test::Fail;
@@ -19,4 +27,30 @@ fn places_are_read_as_they_are_said_to_be(rt: HostRuntime) -> Result<(), Fail> {
     assert!(rt; end_of_place(Place::Text, b"a&lt;b</p>") == Some(6));
     assert!(rt; suits(Encoder::Text, Place::Text) && !suits(Encoder::Text, Place::ScriptBody));
     Ok(())
+}
+
+#[test]
+fn pages_and_forms_are_appended_as_they_are_said_to_be(rt: HostRuntime) {
+    let mut page = String::new(rt.alloc());
+    let written = append_page(&mut page, "a", "b", "c");
+    assert!(rt; written == Ok("<input value=a placeholder=\"b\"/><script>alert('c');</script>"));
+    let attributes = [Attribute {
+        name: "value",
+        quoting: Quoting::Unquoted,
+        value: "a b",
+    }];
+    let written = append_form(&mut page, &attributes, "x");
+    assert!(rt; written == Ok("<input value=a&#x20;b /><script>alert('x');</script>"));
+}
+
+#[test]
+fn steps_are_taken_as_they_are_said_to_be(rt: HostRuntime) {
+    let less = Step::Character(3, '<', Mode::Plain);
+    assert!(rt; step_of(Place::Text, Mode::Plain, b"&lt;b") == less);
+    assert!(rt; first_mode(Place::Text) == Mode::Plain);
+    assert!(rt; reference(b"lt;b") == less);
+    assert!(rt; body_character(b"#x3C") == Some('<'));
+    let step = script_string_step(b'"', Mode::Plain, b"a\"");
+    assert!(rt; step == Step::Byte(0, b'a', Mode::Plain));
+    assert!(rt; script_escape(b"nb") == Step::Character(1, '\n', Mode::Plain));
 }
