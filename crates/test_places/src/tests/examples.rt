@@ -5,8 +5,8 @@ use hesc_places::grammar::references::{body_character, reference};
 use hesc_places::grammar::script_strings::{script_escape, script_string_step};
 use hesc_places::grammar::{Mode, Step, first_mode, step_of};
 use hesc_places::{
-    Attribute, Place, Quoting, append_enclosed, append_form, append_page, end_of_place, read_place,
-    suits,
+    Attribute, Place, Quoting, append_enclosed, append_form, append_page, build_page, enclose,
+    end_of_place, read_place, suits,
 };
 use html_escape::Encoder;
 use std::process::Abort;
@@ -41,6 +41,15 @@ fn pages_and_forms_are_appended_as_they_are_said_to_be(rt: HostRuntime) {
     }];
     let written = append_form(&mut page, &attributes, "x");
     assert!(rt; written == Ok("<input value=a&#x20;b /><script>alert('x');</script>"));
+}
+
+#[test]
+fn what_is_appended_is_answered_with_the_output_last(rt: HostRuntime) {
+    let mut page = String::new(rt.alloc());
+    let written = enclose(Encoder::Text, Place::Text, "a<b", &mut page);
+    assert!(rt; written == Ok(">a&lt;b<"));
+    let written = build_page("a", "b", "c", &mut page);
+    assert!(rt; written == Ok("<input value=a placeholder=\"b\"/><script>alert('c');</script>"));
 }
 
 #[test]
