@@ -1,4 +1,4 @@
-use Rattle.std.proofs.Common.{map}
+use Rattle.std.proofs.Common.{rules, map}
 use Rattle.hesc_places.specs.Pages.FormTexts.{written}
 use Rattle.hesc_places.proofs.Pages.AnsweredFaults.{answered, good, not_good}
 use Rattle.hesc_places.proofs.markup.form_builder.add_form.Goals as goal
@@ -12,3 +12,12 @@ returns-in-Some-clause-fits g c is_good room =
 
 pub returns-clause-good : goal.returns-clause-good
 returns-clause-good g c ok = good (map written c.args.attributes.now) c.in_default.ensures
+
+pub returns-in_err-append_parts-clause-appended : goal.returns-in_err-append_parts-clause-appended
+returns-in_err-append_parts-clause-appended g c = search rules
+
+pub returns-clause-appended : goal.returns-clause-appended
+returns-clause-appended g c = search rules
+
+pub returns-clause-faults : goal.returns-clause-faults
+returns-clause-faults g c = search rules
