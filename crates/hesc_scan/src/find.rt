@@ -1,9 +1,11 @@
 //! The search for the next of one or two bytes.
-ghost use Rattle.std.specs.Prelude.{◌≤◌, length};
+ghost use Rattle.std.specs.Prelude.{◌≡◌, ◌≤◌, ◌<◌, ◌+◌, ℕ, Bool, drop, length, map};
+ghost use Rattle.std.specs.Simd.Lanes.{mask_l};
 ghost use Rattle.memchr.specs.Find.{is_byte, is_byte2};
 ghost use Rattle.hesc_specs.specs.Text.FirstPlace.{IsFirstPlace};
 
-use crate::lanes::{hits_of_one, hits_of_two};
+use crate::block::Block;
+use crate::lanes::{block_hits_of_one, block_hits_of_two, hits_of_one, hits_of_two};
 use memchr::{memchr, memchr2};
 use std::simd::prelude::*;
 
@@ -20,13 +22,25 @@ pub fn first_byte(byte: u8, bytes: &[u8], from: usize) -> usize
         return from;
     }
     let (chunks, _) = bytes[from..].as_chunks::<32>();
-    if !chunks.is_empty() {
-        let mask = hits_of_one(byte, u8x32::from_array(chunks[0]));
-        if mask != 0 {
-            return from + mask.trailing_zeros() as usize;
-        }
+    if chunks.is_empty() {
+        return first_byte_near(byte, bytes, from);
+    }
+    let mask = hits_of_one(byte, u8x32::from_array(chunks[0]));
+    if mask != 0 {
+        return from + mask.trailing_zeros() as usize;
     }
     first_byte_far(byte, bytes, from)
+}
+
+// Where fewer than 32 bytes are left, they are looked at as one block.
+#[inline(never)]
+fn first_byte_near(byte: u8, bytes: &[u8], from: usize) -> usize
+    requires within { from ≤ length bytes.now }
+    requires few { length bytes.now < from + 32 }
+    ensures { IsFirstPlace (is_byte byte) bytes.now from result }
+{
+    let mask = block_hits_of_one(byte, &Block::rest(bytes, from));
+    first_set(mask, bytes, from)
 }
 
 #[inline(never)]
@@ -49,13 +63,24 @@ pub fn first_of_two(one: u8, other: u8, bytes: &[u8], from: usize) -> usize
     ensures { IsFirstPlace (is_byte2 one other) bytes.now from result }
 {
     let (chunks, _) = bytes[from..].as_chunks::<32>();
-    if !chunks.is_empty() {
-        let mask = hits_of_two(one, other, u8x32::from_array(chunks[0]));
-        if mask != 0 {
-            return from + mask.trailing_zeros() as usize;
-        }
+    if chunks.is_empty() {
+        return first_of_two_near(one, other, bytes, from);
+    }
+    let mask = hits_of_two(one, other, u8x32::from_array(chunks[0]));
+    if mask != 0 {
+        return from + mask.trailing_zeros() as usize;
     }
     first_of_two_far(one, other, bytes, from)
+}
+
+#[inline(never)]
+fn first_of_two_near(one: u8, other: u8, bytes: &[u8], from: usize) -> usize
+    requires within { from ≤ length bytes.now }
+    requires few { length bytes.now < from + 32 }
+    ensures { IsFirstPlace (is_byte2 one other) bytes.now from result }
+{
+    let mask = block_hits_of_two(one, other, &Block::rest(bytes, from));
+    first_set(mask, bytes, from)
 }
 
 #[inline(never)]
@@ -67,4 +92,18 @@ fn first_of_two_far(one: u8, other: u8, bytes: &[u8], from: usize) -> usize
         Some(distance) => from + distance,
         None => bytes.len(),
     }
+}
+
+// The place of the first byte whose bit is set in the mask of all bytes from `from` on.
+#[inline(always)]
+fn first_set(mask: u64, bytes: &[u8], from: usize) -> usize
+    requires within { from ≤ length bytes.now }
+    requires few { length bytes.now < from + 32 }
+    ensures { (test : ℕ → Bool) → mask ≡ mask_l (map test (drop from bytes.now))
+        → IsFirstPlace test bytes.now from result }
+{
+    if mask == 0 {
+        return bytes.len();
+    }
+    from + mask.trailing_zeros() as usize
 }

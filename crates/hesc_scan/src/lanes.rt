@@ -61,6 +61,14 @@ pub(crate) fn hits_of_one(byte: u8, v: u8x32) -> u64
     v.simd_eq(u8x32::splat(byte)).to_bitmask()
 }
 
+/// The same for the bytes of a block.
+#[inline(always)]
+pub(crate) fn block_hits_of_one(byte: u8, block: &Block) -> u64
+    ensures { result ≡ mask_l (map (is_byte byte) (block_bytes block.now)) }
+{
+    block.mask_of(hits_of_one(byte, block.lanes()))
+}
+
 /// Bit `k` of the answer is set exactly if byte `k` is one of the two.
 #[inline(always)]
 pub(crate) fn hits_of_two(one: u8, other: u8, v: u8x32) -> u64
@@ -68,4 +76,12 @@ pub(crate) fn hits_of_two(one: u8, other: u8, v: u8x32) -> u64
     ensures { result ≡ mask_l (map (is_byte2 one other) v) }
 {
     (v.simd_eq(u8x32::splat(one)) | v.simd_eq(u8x32::splat(other))).to_bitmask()
+}
+
+/// The same for the bytes of a block.
+#[inline(always)]
+pub(crate) fn block_hits_of_two(one: u8, other: u8, block: &Block) -> u64
+    ensures { result ≡ mask_l (map (is_byte2 one other) (block_bytes block.now)) }
+{
+    block.mask_of(hits_of_two(one, other, block.lanes()))
 }

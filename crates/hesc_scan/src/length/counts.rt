@@ -6,7 +6,7 @@ ghost use Rattle.hesc_scan.specs.Blocks.{block_bytes};
 
 use crate::block::Block;
 use crate::flags::is_in;
-use crate::lanes::hits_of_one;
+use crate::lanes::block_hits_of_one;
 use hesc_specs::Class;
 
 /// How many of the bytes are this one.
@@ -14,7 +14,7 @@ use hesc_specs::Class;
 pub(crate) fn count(block: &Block, byte: u8) -> usize
     ensures { result ≡ count_by (λ b. b == byte) (block_bytes block.now) }
 {
-    block.mask_of(hits_of_one(byte, block.lanes())).count_ones() as usize
+    block_hits_of_one(byte, block).count_ones() as usize
 }
 
 /// The same, or 0 where the byte is not in the class.

@@ -8,11 +8,11 @@ pub hits_of_two-mask-requires : goal.hits_of_two-mask-requires
 hits_of_two-mask-requires c =
     let chunks = c.as_chunks.ensures in
     below_256 c.args.bytes.now _ c.args.from c.type_inv.bytes
-    (chunk_stands c.args.bytes.now _ c.args.from c.as_chunks.result.0.now 0 c.requires (slice_rest c.args.bytes.now c.args.from c.requires) chunks.front chunks.front_len (omega (arith, eqb-false _ _ (sym c.if-not-is_empty.ensures))) c.args.from (omega arith))
+    (chunk_stands c.args.bytes.now _ c.args.from c.as_chunks.result.0.now 0 c.requires (slice_rest c.args.bytes.now c.args.from c.requires) chunks.front chunks.front_len (omega (arith, eqb-false _ _ (sym c.if-is_empty.ensures))) c.args.from (omega arith))
 
 pub returns-then-mask-ne0 : goal.returns-then-mask-ne0
 returns-then-mask-ne0 c =
     let chunks = c.as_chunks.ensures in
     first_by_mask (is_byte2 c.args.one c.args.other) c.args.bytes.now _ c.args.from c.args.from c.hits_of_two-mask.result (omega arith) (λ k after below. absurd (omega arith))
-    (chunk_stands c.args.bytes.now _ c.args.from c.as_chunks.result.0.now 0 c.requires (slice_rest c.args.bytes.now c.args.from c.requires) chunks.front chunks.front_len (omega (arith, eqb-false _ _ (sym c.if-not-is_empty.ensures))) c.args.from (omega arith))
+    (chunk_stands c.args.bytes.now _ c.args.from c.as_chunks.result.0.now 0 c.requires (slice_rest c.args.bytes.now c.args.from c.requires) chunks.front chunks.front_len (omega (arith, eqb-false _ _ (sym c.if-is_empty.ensures))) c.args.from (omega arith))
     c.hits_of_two-mask.ensures (omega arith)
