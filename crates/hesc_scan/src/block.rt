@@ -57,13 +57,18 @@ impl Block {
         requires { length bytes.now < 32 }
         ensures { block_bytes result ≡ bytes.now }
     {
-        match bytes.len() {
-            16.. => Block::halves(bytes, 16),
-            8.. => Block::halves(bytes, 8),
-            4.. => Block::halves(bytes, 4),
-            2.. => Block::halves(bytes, 2),
-            1 => Block::halves(bytes, 1),
-            _ => Block::halves(bytes, 0),
+        if bytes.len() >= 16 {
+            Block::halves(bytes, 16)
+        } else if bytes.len() >= 8 {
+            Block::halves(bytes, 8)
+        } else if bytes.len() >= 4 {
+            Block::halves(bytes, 4)
+        } else if bytes.len() >= 2 {
+            Block::halves(bytes, 2)
+        } else if bytes.len() == 1 {
+            Block::halves(bytes, 1)
+        } else {
+            Block::halves(bytes, 0)
         }
     }
 
