@@ -83,6 +83,15 @@ pub trait Rule {
         None
     }
 
+    /// The same bound, or a greater one for which no byte of the text is looked at.
+    #[inline(always)]
+    fn longest(&self, text: &str) -> Option<usize>
+        ensures enough { IfSome result (λ longest. length (made self.now text.now) ≤ longest) }
+        ensures empty { IfSome result (λ longest. made self.now text.now ≡ [] → longest ≡ 0) }
+    {
+        self.bound(text)
+    }
+
     // The changes, made, are the rule's text.
     ghost makes: { (rule : Self) (source : List ℕ) → IsUtf8 source →
         applied source 0 (changes_from rule source 0) ≡ made rule source };

@@ -6,6 +6,7 @@ pub mod FlagTable
 pub mod FoundBytes
 pub mod GrowthSums
 pub mod LaneLemmas
+pub mod Longest
 pub mod Lookups
 pub mod Masks
 pub mod OpeningSearch

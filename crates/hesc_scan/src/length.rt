@@ -4,8 +4,10 @@ mod counts;
 mod growth;
 pub mod html;
 mod html_growth;
+pub mod longest;
 pub mod strings;
 
 pub use crate::length::bodies::body_bound;
 pub use crate::length::html::encoded_length;
+pub use crate::length::longest::{longest_body, longest_escaped};
 pub use crate::length::strings::string_bound;

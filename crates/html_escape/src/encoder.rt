@@ -15,7 +15,7 @@ use hesc_core::rules::escape::next_escape_ahead;
 use hesc_core::rules::{Escape, next_body_escape, next_escape};
 use hesc_core::{Class, Element, Found, Rule};
 use hesc_engine::ahead::Ahead;
-use hesc_scan::length::body_bound;
+use hesc_scan::length::{body_bound, longest_body};
 
 /// An encoder by its name.
 #[derive(Clone, Copy, Debug, PartialEq, Eq)]
@@ -77,6 +77,13 @@ impl Rule for Encoder {
         match class_of(*self) {
             Some(class) => Escape(class).bound(text),
             None => body_bound(text.as_bytes()),
+        }
+    }
+
+    fn longest(&self, text: &str) -> Option<usize> {
+        match class_of(*self) {
+            Some(class) => Escape(class).longest(text),
+            None => longest_body(text.as_bytes()),
         }
     }
 

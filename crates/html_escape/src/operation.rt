@@ -53,6 +53,13 @@ impl Rule for Operation {
         }
     }
 
+    fn longest(&self, text: &str) -> Option<usize> {
+        match *self {
+            Operation::Encode(encoder) => encoder.longest(text),
+            Operation::Decode(decoder) => decoder.longest(text),
+        }
+    }
+
     ghost makes = { applied-operation_changes };
 }
 

@@ -13,7 +13,7 @@ use hesc_engine::ahead::Ahead;
 use hesc_engine::found::{Found, Replacement};
 use hesc_engine::rule::Rule;
 use hesc_engine::small_text::SmallText;
-use hesc_scan::length::body_bound;
+use hesc_scan::length::{body_bound, longest_body};
 use hesc_scan::openings::{first_escaped_opening, first_opening};
 use hesc_specs::Element;
 
@@ -54,6 +54,11 @@ impl Rule for EncodeScript {
         body_bound(text.as_bytes())
     }
 
+    #[inline(always)]
+    fn longest(&self, text: &str) -> Option<usize> {
+        longest_body(text.as_bytes())
+    }
+
     ghost makes = { λ rule source _. applied-body_encoding_changes Script source };
 }
 
@@ -76,6 +81,11 @@ impl Rule for EncodeStyle {
     #[inline(always)]
     fn bound(&self, text: &str) -> Option<usize> {
         body_bound(text.as_bytes())
+    }
+
+    #[inline(always)]
+    fn longest(&self, text: &str) -> Option<usize> {
+        longest_body(text.as_bytes())
     }
 
     ghost makes = { λ rule source _. applied-body_encoding_changes Style source };

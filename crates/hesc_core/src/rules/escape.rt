@@ -13,7 +13,7 @@ use crate::rules::strings::escape::{next_string_escape, next_string_escape_ahead
 use hesc_engine::ahead::Ahead;
 use hesc_engine::found::Found;
 use hesc_engine::rule::Rule;
-use hesc_scan::length::{encoded_length, string_bound};
+use hesc_scan::length::{encoded_length, longest_escaped, string_bound};
 use hesc_specs::{Class, Element};
 
 /// The encoder of a class.
@@ -50,6 +50,11 @@ impl Rule for Escape {
             Some(_) => string_bound(self.0, text),
             None => encoded_length(self.0, text.as_bytes()),
         }
+    }
+
+    #[inline(always)]
+    fn longest(&self, text: &str) -> Option<usize> {
+        longest_escaped(self.0, text)
     }
 
     ghost makes = { λ rule source text. applied-escape_changes rule.0 source text };

@@ -19,7 +19,8 @@ pub fn measure<R: Rule>(rule: &R, text: &str) -> Result<usize, CountOverflow>
 /// has room for `spare`: at least as many as it has, none where it has none, and no more than
 /// `spare` where those suffice.
 ///
-/// Where the rule gives an upper bound, the text is not scanned for changes, unless the bound asks for
+/// Where there is room for what any text of this length may become, the text is not looked at. Where
+/// the rule gives an upper bound, the text is not scanned for changes, unless the bound asks for
 /// memory that the length itself may not need.
 ///
 /// Of the encoder of a script's strings and `it's` it is 7, an upper bound, where nothing is spare,
@@ -31,6 +32,11 @@ pub fn room_for<R: Rule>(rule: &R, text: &str, spare: usize) -> Result<usize, Co
     ensures spare { length (R.made rule.now text.now) ≤ spare → IfOk result (λ room. room ≤ spare) }
     ensures fits { length (R.made rule.now text.now) < 2 ^ 64 → IsOk result }
 {
+    if let Some(longest) = rule.longest(text) {
+        if spare != 0 && longest <= spare {
+            return Ok(longest);
+        }
+    }
     match rule.bound(text) {
         Some(bound) if spare == 0 || bound <= spare => Ok(bound),
         _ => measure(rule, text),
