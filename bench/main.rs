@@ -2,6 +2,7 @@
 //! of ours to that of a plain copy.
 mod corpora;
 mod ours;
+mod page;
 
 use corpora::Corpus;
 use html_escape as theirs;
@@ -68,6 +69,9 @@ const OPERATIONS: [Operation; 9] = [
 fn main() {
     keep_memory();
     let wanted: Vec<String> = std::env::args().skip(1).collect();
+    if wanted == ["page"] {
+        return page::print();
+    }
     let corpora = corpora::all();
     println!("Their time / ours, at 16 B, 64 B, 1 KB, 16 KB, 16 MB; least of {TURNS} turns.");
     println!("Last: the time of a plain copy / ours, at 16 KB, for each text.");
@@ -115,7 +119,7 @@ fn measure(operation: &Operation, form: Form, corpora: &[Corpus]) -> Vec<f64> {
             if form == Form::Appended && size > PAGE {
                 continue;
             }
-            let text = (operation.source)(part(&corpus.text, size));
+            let text = (operation.source)(part(&corpus.text, corpus.text.len() / 2, size));
             compare(operation, corpus.name, &text);
             let [ours, theirs, copy] = race(operation, form, &text);
             cells.push(format!("{:.2}", theirs / ours));
@@ -130,8 +134,8 @@ fn measure(operation: &Operation, form: Form, corpora: &[Corpus]) -> Vec<f64> {
     ratios
 }
 
-/// So many bytes of the text or some more; short parts from its middle, where something may change.
-fn part(text: &str, size: usize) -> &str {
+/// So many bytes of the text or some more, from a place on; the whole text where it has no more.
+fn part(text: &str, from: usize, size: usize) -> &str {
     let boundary = |mut at: usize| {
         while !text.is_char_boundary(at) {
             at += 1;
@@ -141,7 +145,7 @@ fn part(text: &str, size: usize) -> &str {
     if size >= text.len() {
         return text;
     }
-    let start = boundary(text.len() / 2);
+    let start = boundary(from);
     &text[start..boundary(start + size)]
 }
 
@@ -180,7 +184,7 @@ fn race(operation: &Operation, form: Form, text: &str) -> [f64; 3] {
     }
 }
 
-fn least(runs: [&dyn Fn() -> usize; 3]) -> [f64; 3] {
+fn least<const SIDES: usize>(runs: [&dyn Fn() -> usize; SIDES]) -> [f64; SIDES] {
     let calls = runs.map(|run| {
         let mut calls = 1u32;
         while time(run, calls) < LEAST {
@@ -188,9 +192,9 @@ fn least(runs: [&dyn Fn() -> usize; 3]) -> [f64; 3] {
         }
         calls
     });
-    let mut least = [f64::MAX; 3];
+    let mut least = [f64::MAX; SIDES];
     for _ in 0..TURNS {
-        for side in 0..3 {
+        for side in 0..SIDES {
             let spent = time(runs[side], calls[side]).as_nanos() as f64;
             least[side] = least[side].min(spent / f64::from(calls[side]));
         }

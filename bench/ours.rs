@@ -11,10 +11,29 @@ unsafe extern "C" {
         buffer: *mut u8,
         room: usize,
     ) -> usize;
+    fn hesc_template(
+        is_kept: bool,
+        times: usize,
+        lines: *const u8,
+        length: usize,
+        buffer: *mut u8,
+        room: usize,
+    ) -> usize;
+    fn hesc_by_hand(
+        is_kept: bool,
+        times: usize,
+        lines: *const u8,
+        length: usize,
+        buffer: *mut u8,
+        room: usize,
+    ) -> usize;
 }
 
 /// The greatest growth of a byte.
 const GROWTH: usize = 6;
+
+/// More than the markup of a page.
+const MARKUP: usize = 1000;
 
 pub fn cow(operation: u32, text: &str) -> usize {
     checked(unsafe { hesc_cow(operation, text.as_ptr(), text.len()) })
@@ -33,6 +52,27 @@ pub fn copy(operation: u32, text: &str) -> Vec<u8> {
     let length = checked(unsafe {
         hesc_copy(operation, text.as_ptr(), text.len(), buffer.as_mut_ptr(), buffer.len())
     });
+    buffer.truncate(length);
+    buffer
+}
+
+/// The last of so many pages of twenty slots, by a template.
+pub fn template(is_kept: bool, times: usize, lines: &str) -> Vec<u8> {
+    page(lines, |buffer, room| unsafe {
+        hesc_template(is_kept, times, lines.as_ptr(), lines.len(), buffer, room)
+    })
+}
+
+/// The same by hand.
+pub fn by_hand(is_kept: bool, times: usize, lines: &str) -> Vec<u8> {
+    page(lines, |buffer, room| unsafe {
+        hesc_by_hand(is_kept, times, lines.as_ptr(), lines.len(), buffer, room)
+    })
+}
+
+fn page(lines: &str, make: impl Fn(*mut u8, usize) -> usize) -> Vec<u8> {
+    let mut buffer = vec![0; GROWTH * lines.len() + MARKUP];
+    let length = checked(make(buffer.as_mut_ptr(), buffer.len()));
     buffer.truncate(length);
     buffer
 }

@@ -2,8 +2,9 @@
 //! and a call answers how long the made text is, or `REFUSED` where there is none.
 #![tactic(auto)]
 
-ghost use Rattle.std.specs.Prelude.{◌≡◌, ◌≤◌, ◌↔◌, IfSome, IsSome, IsTrue, length};
+ghost use Rattle.std.specs.Prelude.{◌≡◌, ◌≢◌, ◌≤◌, ◌<◌, ◌↔◌, IfOk, IfSome, IsSome, IsTrue, length, take};
 ghost use Rattle.std.specs.Str.{IsUtf8};
+ghost use Rattle.std.specs.Str.Lines.{lines};
 ghost use Rattle.hesc_engine.specs.Forms.{AnswersText};
 ghost use Rattle.html_escape.specs.Operations.{operation_changes, operation_text};
 ghost use Rattle.hesc_speed.specs.Measured.{
@@ -14,10 +15,15 @@ ghost use Rattle.hesc_speed.specs.Measured.{
   CopiesText,
   is_measured,
   operation_of,
+  refused,
 };
+ghost use Rattle.hesc_speed.specs.Slots.{rows_of, twenty_slots};
+ghost use Rattle.html_template.specs.Structure.{IsPageOf};
+ghost use Rattle.html_template.specs.Templates.{texts_of};
 
 mod cow;
 mod page;
+mod slots;
 mod string;
 
 use html_escape::*;
@@ -132,6 +138,71 @@ pub extern "C" fn hesc_copy(alloc: Global, number: u32, text: &[u8], buffer: &mu
         }
         _ => REFUSED,
     }
+}
+
+/// Makes a page of twenty slots so many times by a template, with the lines of a text, and copies the
+/// last page into a buffer that is long enough. The pages stand in one string, which is cleared before
+/// each, or each in a new one.
+#[unsafe(no_mangle)]
+pub extern "C" fn hesc_template(
+    alloc: Global,
+    is_kept: bool,
+    times: usize,
+    text: &[u8],
+    buffer: &mut [u8],
+) -> usize
+    requires { IsUtf8 text.now }
+    ensures { 0 < times → result ≢ refused
+        → IsPageOf twenty_slots (lines text.now) (take result buffer.new) }
+{
+    let text = unsafe { str::from_utf8_unchecked(text) };
+    let Ok(texts) = lines_of(alloc, text) else {
+        return REFUSED;
+    };
+    match slots::by_template(alloc, is_kept, times, &texts) {
+        Some(page) => copied(page.as_str(), buffer),
+        None => REFUSED,
+    }
+}
+
+/// The same page by hand.
+#[unsafe(no_mangle)]
+pub extern "C" fn hesc_by_hand(
+    alloc: Global,
+    is_kept: bool,
+    times: usize,
+    text: &[u8],
+    buffer: &mut [u8],
+) -> usize
+    requires { IsUtf8 text.now }
+    ensures { 0 < times → result ≢ refused → take result buffer.new ≡ rows_of (lines text.now) }
+{
+    let text = unsafe { str::from_utf8_unchecked(text) };
+    let Ok(texts) = lines_of(alloc, text) else {
+        return REFUSED;
+    };
+    match slots::by_hand(alloc, is_kept, times, &texts) {
+        Some(page) => copied(page.as_str(), buffer),
+        None => REFUSED,
+    }
+}
+
+fn lines_of(alloc: Global, text: &str) -> Result<Vec<&str>, AllocError>
+    ensures { IfOk result (λ texts. texts_of texts.items ≡ lines text.now) }
+{
+    text.lines().collect(alloc)
+}
+
+// The page's length, if the buffer is long enough for a copy of it.
+fn copied(page: &str, buffer: &mut [u8]) -> usize
+    ensures { result ≢ refused → take result buffer.new ≡ page.now }
+{
+    let page = page.as_bytes();
+    if page.len() > buffer.len() {
+        return REFUSED;
+    }
+    buffer[..page.len()].copy_from_slice(page);
+    page.len()
 }
 
 // The operation of a number.
