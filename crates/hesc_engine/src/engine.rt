@@ -34,7 +34,7 @@ pub fn run<R: Rule, S: Sink>(rule: &R, text: &str, sink: &mut S) -> Result<(), S
 
 /// The same, where something is known of the first bytes.
 #[inline(always)]
-pub(crate) fn run_knowing<R: Rule, S: Sink>(
+pub fn run_knowing<R: Rule, S: Sink>(
     rule: &R,
     text: &str,
     ahead: Ahead,

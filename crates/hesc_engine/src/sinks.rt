@@ -2,6 +2,7 @@
 mod blocks;
 pub mod counter;
 pub mod log;
+pub(crate) mod room;
 pub mod string;
 pub mod vec;
 pub mod writer;

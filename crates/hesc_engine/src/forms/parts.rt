@@ -1,12 +1,13 @@
 //! A text made of parts, appended: room is found out and reserved once, and then the parts are put.
 //! Nothing else grows an output.
-ghost use Rattle.std.specs.Prelude.{◌≡◌, ◌≤◌, ◌<◌, ◌^◌, ℕ, List, [], ◌++◌, length, IfOk, IsOk, OnOk};
+ghost use Rattle.std.specs.Prelude.{◌≡◌, ◌≤◌, ◌<◌, ◌^◌, ℕ, List, [], ◌++◌, if◌then◌else◌, length, IfOk, IsOk, IsTrue, OnOk};
 ghost use Rattle.std.specs.Str.{IsUtf8};
 ghost use Rattle.std.specs.String.{string_bytes};
 ghost use Rattle.hesc_engine.specs.Forms.{Appended, string_room, vec_room};
 
 use crate::sink::Sink;
 use crate::sinks::counter::{CountOverflow, Counter};
+use crate::sinks::room::RoomSink;
 use crate::sinks::vec::VecSink;
 use core::mem::replace_with;
 use std::alloc::{AllocError, Allocator};
@@ -40,6 +41,14 @@ pub trait Parts {
         let mut counter = Counter::new();
         self.put_into(&mut counter)?;
         Ok(counter.count())
+    }
+
+    /// Whether to put the parts into an output that has room for `spare` before anything is measured.
+    /// Where that room does not suffice, they are put twice.
+    #[inline(always)]
+    fn may_fit(&self, spare: usize) -> bool {
+        let _spare = spare;
+        false
     }
 }
 
@@ -86,7 +95,11 @@ pub fn append_parts_to_vec<P: Parts, A: Allocator>(
     ensures fits { length (P.text parts.now) ≤ vec_room output.old → IsOk result }
     ensures utf8 { OnOk result (IsUtf8 (P.text parts.now)) }
 {
-    let Ok(room) = parts.room_for(output.capacity() - output.len()) else {
+    let spare = output.capacity() - output.len();
+    if parts.may_fit(spare) && put_in_room(output, parts) {
+        return Ok(());
+    }
+    let Ok(room) = parts.room_for(spare) else {
         return Err(AllocError);
     };
     if room == 0 {
@@ -97,4 +110,22 @@ pub fn append_parts_to_vec<P: Parts, A: Allocator>(
     let outcome = parts.put_into(&mut sink);
     let _output = sink.into_output();
     outcome
+}
+
+// Appends the text of the parts to the room that is there, or leaves the output as it was.
+#[inline(always)]
+fn put_in_room<P: Parts, A: Allocator>(output: &mut Vec<u8, A>, parts: &P) -> bool
+    ensures items { output.new.items
+        ≡ (if result then output.old.items ++ P.text parts.now else output.old.items) }
+    ensures fits { length (P.text parts.now) ≤ vec_room output.old → IsTrue result }
+    ensures utf8 { IsTrue result → IsUtf8 (P.text parts.now) }
+{
+    let start = output.len();
+    let mut sink = RoomSink::new(output);
+    let is_put = parts.put_into(&mut sink).is_ok();
+    let output = sink.into_output();
+    if !is_put {
+        output.truncate(start);
+    }
+    is_put
 }

@@ -62,6 +62,14 @@ impl<'a, A: Allocator> VecSink<'a, A> {
         self.output
     }
 
+    /// How many more bytes the output takes without growing.
+    #[inline(always)]
+    pub(crate) fn room(&self) -> usize
+        ensures { result ≡ vec_room (vec_sink_output self.now).now }
+    {
+        self.output.capacity() - self.output.len()
+    }
+
     #[inline(always)]
     fn put_stretch(&mut self, segment: Segment<'_>) -> Result<(), AllocError>
         ensures ok_taken { OnOk result
