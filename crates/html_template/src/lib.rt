@@ -9,6 +9,7 @@ mod faults;
 pub mod laws;
 mod page;
 mod parts;
+mod short_page;
 mod template;
 mod tokenizer;
 

@@ -1,29 +1,39 @@
 //! The page of a template and texts: whether there is one, and as parts that are put.
-ghost use Rattle.std.specs.Prelude.{◌≡◌, ◌<◌, ◌≤◌, ◌+◌, ◌^◌, ◌++◌, ◌↔◌, length, map, IfSome, IsOk, IsSome, IsTrue, OnOk};
+ghost use Rattle.std.specs.Prelude.{◌≡◌, ◌<◌, ◌≤◌, ◌+◌, ◌^◌, ◌++◌, ◌↔◌, ℕ, List, length, map, IfSome, IsOk, IsSome, IsTrue, OnOk};
 ghost use Rattle.std.specs.List.{AllByRecursion};
 ghost use Rattle.std.specs.Result.{result_err};
 ghost use Rattle.std.specs.Str.{IsUtf8};
+ghost use Rattle.std.specs.String.{string_bytes};
+ghost use Rattle.hesc_specs.specs.Text.Escaped.{escaped};
+ghost use Rattle.hesc_engine.specs.Forms.{Appended, string_room};
+ghost use Rattle.html_escape.specs.Encoders.{encoded};
 ghost use Rattle.html_template.specs.FillFaults.{fill_fault, may_fill};
 ghost use Rattle.html_template.specs.Templates.{Fill, MayFill, encoder_for, kept, page, texts_of};
 
 use crate::faults::FillFault;
 use crate::parts::{Piece, SlotPlace};
-use hesc_core::forms::Parts;
-use hesc_core::{CountOverflow, Rule, Sink, run};
-use html_escape::Encoder;
+use crate::short_page::{SHORT, ShortPage};
+use hesc_core::forms::{Parts, append_parts};
+use hesc_core::rules::Escape;
+use hesc_core::{Class, CountOverflow, Rule, Sink};
+use hesc_engine::ahead::Ahead;
+use hesc_engine::engine::run_knowing;
+use std::alloc::{AllocError, Allocator};
 
-fn encoder_for(place: SlotPlace) -> Encoder
-    ensures { result ≡ encoder_for place }
+// The class of the encoder for a place.
+#[inline(always)]
+fn class_for(place: SlotPlace) -> Class
+    ensures { (text : List ℕ) → escaped result text ≡ encoded (encoder_for place) text }
 {
     match place {
-        SlotPlace::Text => Encoder::Text,
-        SlotPlace::DoubleQuoted => Encoder::DoubleQuotedAttribute,
-        SlotPlace::SingleQuoted => Encoder::SingleQuotedAttribute,
-        SlotPlace::Unquoted => Encoder::UnquotedAttribute,
-        SlotPlace::ScriptSingle => Encoder::ScriptSingleQuoted,
-        SlotPlace::ScriptDouble => Encoder::ScriptDoubleQuoted,
-        SlotPlace::StyleSingle => Encoder::StyleSingleQuoted,
-        SlotPlace::StyleDouble => Encoder::StyleDoubleQuoted,
+        SlotPlace::Text => Class::Text,
+        SlotPlace::DoubleQuoted => Class::DoubleQuotedAttribute,
+        SlotPlace::SingleQuoted => Class::SingleQuotedAttribute,
+        SlotPlace::Unquoted => Class::UnquotedAttribute,
+        SlotPlace::ScriptSingle => Class::ScriptSingleQuoted,
+        SlotPlace::ScriptDouble => Class::ScriptDoubleQuoted,
+        SlotPlace::StyleSingle => Class::StyleSingleQuoted,
+        SlotPlace::StyleDouble => Class::StyleDoubleQuoted,
     }
 }
 
@@ -36,8 +46,8 @@ fn may_fill(place: SlotPlace, text: &str) -> bool
     place != SlotPlace::Unquoted || !text.is_empty()
 }
 
-/// Whether the texts fill the slots of these pieces.
-pub(crate) fn check(pieces: &[Piece], texts: &[&str]) -> Result<(), FillFault>
+/// The lengths of the markup and the texts together, if the texts fill the slots of these pieces.
+pub(crate) fn check(pieces: &[Piece], texts: &[&str]) -> Result<usize, FillFault>
     ensures full { OnOk result (Fill (map kept pieces.now) (texts_of texts.now)) }
     ensures utf8 { OnOk result (AllByRecursion IsUtf8 (texts_of texts.now)) }
     ensures faults { result_err result
@@ -45,10 +55,15 @@ pub(crate) fn check(pieces: &[Piece], texts: &[&str]) -> Result<(), FillFault>
 {
     let mut rest = pieces;
     let mut left = texts;
+    let mut sum: usize = 0;
     'pieces: while let [piece, others @ ..] = rest {
         rest = others;
-        let Piece::Slot(place) = *piece else {
-            continue 'pieces;
+        let place = match *piece {
+            Piece::Markup(text) => {
+                sum = sum.saturating_add(text.len());
+                continue 'pieces;
+            }
+            Piece::Slot(place) => place,
         };
         let [text, more @ ..] = left else {
             return Err(FillFault::WrongCount);
@@ -56,10 +71,11 @@ pub(crate) fn check(pieces: &[Piece], texts: &[&str]) -> Result<(), FillFault>
         if !may_fill(place, *text) {
             return Err(FillFault::EmptyUnquoted(texts.len() - left.len()));
         }
+        sum = sum.saturating_add(text.len());
         left = more;
     }
     if left.is_empty() {
-        Ok(())
+        Ok(sum)
     } else {
         Err(FillFault::WrongCount)
     }
@@ -70,6 +86,8 @@ pub(crate) fn check(pieces: &[Piece], texts: &[&str]) -> Result<(), FillFault>
 pub(crate) struct Page<'p> {
     pub(crate) pieces: &'p [Piece<'p>],
     pub(crate) texts: &'p [&'p str],
+    // About how long the page is at least.
+    pub(crate) least: usize,
 }
 
 impl Parts for Page<'_> {
@@ -79,11 +97,65 @@ impl Parts for Page<'_> {
         put_pieces(self.pieces, self.texts, sink)
     }
 
+    // A page that is made again and again mostly fits, and is then not measured.
+    fn may_fit(&self, spare: usize) -> bool {
+        self.least <= spare
+    }
+
     // Counted by lanes, in place of writing each text twice.
     fn room_for(&self, spare: usize) -> Result<usize, CountOverflow> {
         let _spare = spare;
         page_length(self.pieces, self.texts).ok_or(CountOverflow)
     }
+}
+
+/// Appends the page, or leaves the output as it was.
+#[inline(always)]
+pub(crate) fn append_page<B: Allocator>(
+    output: &mut String<B>,
+    made: &Page<'_>,
+) -> Result<(), AllocError>
+    ensures appended { Appended (string_bytes output.old) (string_bytes output.new)
+        (page (map kept made.now.pieces.now) (texts_of made.now.texts.now)) result }
+    ensures fits { length (page (map kept made.now.pieces.now) (texts_of made.now.texts.now))
+        ≤ string_room output.old → IsOk result }
+{
+    if made.least <= SHORT && made.least > output.capacity() - output.len() {
+        return append_short_page(output, made);
+    }
+    append_long_page(output, made)
+}
+
+// By the stack, which is set up in this function and no other.
+#[inline(never)]
+fn append_short_page<B: Allocator>(
+    output: &mut String<B>,
+    made: &Page<'_>,
+) -> Result<(), AllocError>
+    ensures appended { Appended (string_bytes output.old) (string_bytes output.new)
+        (page (map kept made.now.pieces.now) (texts_of made.now.texts.now)) result }
+    ensures fits { length (page (map kept made.now.pieces.now) (texts_of made.now.texts.now))
+        ≤ string_room output.old → IsOk result }
+{
+    let mut short = ShortPage::new();
+    if made.put_into(&mut short).is_ok() {
+        return output.push_str(short.as_str());
+    }
+    append_long_page(output, made)
+}
+
+// Measured first, where the room that is there does not suffice.
+#[inline(never)]
+fn append_long_page<B: Allocator>(
+    output: &mut String<B>,
+    made: &Page<'_>,
+) -> Result<(), AllocError>
+    ensures appended { Appended (string_bytes output.old) (string_bytes output.new)
+        (page (map kept made.now.pieces.now) (texts_of made.now.texts.now)) result }
+    ensures fits { length (page (map kept made.now.pieces.now) (texts_of made.now.texts.now))
+        ≤ string_room output.old → IsOk result }
+{
+    append_parts(output, made)
 }
 
 fn page_length(pieces: &[Piece], texts: &[&str]) -> Option<usize>
@@ -107,7 +179,7 @@ fn page_length(pieces: &[Piece], texts: &[&str]) -> Option<usize>
         let [text, more @ ..] = left else {
             continue 'pieces;
         };
-        let added = encoder_for(place).total(*text)?;
+        let added = Escape(class_for(place)).total(*text)?;
         count = count.checked_add(added)?;
         left = more;
     }
@@ -137,8 +209,28 @@ fn put_pieces<S: Sink>(pieces: &[Piece], texts: &[&str], sink: &mut S) -> Result
         let [text, more @ ..] = left else {
             continue 'pieces;
         };
-        run(&encoder_for(place), *text, sink)?;
+        put_made(&Escape(class_for(place)), *text, sink)?;
         left = more;
     }
     Ok(())
+}
+
+// Puts what the rule makes of the text.
+#[inline(always)]
+fn put_made<R: Rule, S: Sink>(rule: &R, text: &str, sink: &mut S) -> Result<(), S::Fault>
+    ensures ok_taken { OnOk result
+        (S.taken sink.new ≡ S.taken sink.old ++ R.made rule.now text.now) }
+    ensures ok_failures { OnOk result (S.failures sink.new ≡ S.failures sink.old) }
+    ensures fits { length (R.made rule.now text.now) ≤ S.room sink.old → IsOk result }
+    ensures room { OnOk result
+        (S.room sink.old ≤ S.room sink.new + length (R.made rule.now text.now)) }
+    ensures same_reference { S.reference sink.new ≡ S.reference sink.old }
+    ensures same_before { S.before sink.new ≡ S.before sink.old }
+{
+    // Most texts stay as they are.
+    let mut ahead = Ahead::nothing(text);
+    if rule.next_ahead(text, 0, &mut ahead).is_none() {
+        return sink.put(text);
+    }
+    run_knowing(rule, text, ahead, sink)
 }

@@ -19,10 +19,9 @@ ghost use Rattle.html_template.specs.Templates.{
 };
 
 use crate::faults::{FillFault, TemplateFault};
-use crate::page::{Page, check};
+use crate::page::{Page, append_page, check};
 use crate::parts::{Part, Piece};
 use crate::tokenizer::reader::{Reader, Standing};
-use hesc_core::forms::append_parts;
 use std::alloc::{AllocError, Allocator, Global};
 
 /// A page with slots, each of which stands where a text may stand.
@@ -85,14 +84,16 @@ impl<'a, A: Allocator + Copy> Template<'a, A> {
             → IsPageOf (parts ++ map part_of (pieces_of self.now)) (before ++ texts_of texts.now)
             (string_bytes output.new)) }
     {
-        if let Err(fault) = check(&self.pieces, texts) {
-            return Err(fault);
-        }
+        let least = match check(&self.pieces, texts) {
+            Ok(least) => least,
+            Err(fault) => return Err(fault),
+        };
         let page = Page {
             pieces: &self.pieces,
             texts,
+            least,
         };
-        match append_parts(output, &page) {
+        match append_page(output, &page) {
             Ok(()) => Ok(()),
             Err(AllocError) => Err(FillFault::Memory),
         }
