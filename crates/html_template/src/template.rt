@@ -2,7 +2,7 @@
 ghost use Rattle.std.specs.Prelude.{◌≡◌, ◌++◌, ◌∷◌, [], ◌≤◌, ℕ, List, None, IfOk, IsOk, OnOk, length, map};
 ghost use Rattle.std.specs.String.{string_bytes};
 ghost use Rattle.hesc_engine.specs.Forms.{Appended, string_room};
-ghost use Rattle.html_template.specs.FillFaults.{AnswersFill, fill_fault};
+ghost use Rattle.html_template.specs.FillFaults.{AnswersFill, fill_fault, has_unquoted, slot_count};
 ghost use Rattle.html_template.specs.Tokenizer.Phases.{tokenizer_of};
 ghost use Rattle.html_template.specs.Tokenizer.States.{data_state};
 ghost use Rattle.html_template.specs.Structure.{IsPageOf, IsReadAs};
@@ -19,7 +19,7 @@ ghost use Rattle.html_template.specs.Templates.{
 };
 
 use crate::faults::{FillFault, TemplateFault};
-use crate::page::{Page, append_page, check};
+use crate::page::{Page, Summary, append_page, check};
 use crate::parts::{Part, Piece};
 use crate::tokenizer::reader::{Reader, Standing};
 use std::alloc::{AllocError, Allocator, Global};
@@ -28,6 +28,9 @@ use std::alloc::{AllocError, Allocator, Global};
 #[derive(Drop)]
 pub struct Template<'a, A: Allocator = Global> {
     pieces: Vec<Piece<'a>, A>,
+    summary: Summary,
+    ghost slots: { summary.slots ≡ slot_count (map kept pieces.items) },
+    ghost unquoted: { summary.has_unquoted ≡ has_unquoted (map kept pieces.items) },
     ghost sound: { state_after_all data_state (map kept pieces.items) ≡ data_state },
 }
 
@@ -55,7 +58,8 @@ impl<'a, A: Allocator + Copy> Template<'a, A> {
         if !reader.may_end() {
             return Err(TemplateFault::Unfinished);
         }
-        Ok(Template { pieces })
+        let summary = Summary::of(&pieces);
+        Ok(Template { pieces, summary })
     }
 
     /// Appends the page of these texts, one for each slot. On a fault `output` is as it was.
@@ -84,7 +88,7 @@ impl<'a, A: Allocator + Copy> Template<'a, A> {
             → IsPageOf (parts ++ map part_of (pieces_of self.now)) (before ++ texts_of texts.now)
             (string_bytes output.new)) }
     {
-        let least = match check(&self.pieces, texts) {
+        let least = match check(&self.pieces, self.summary, texts) {
             Ok(least) => least,
             Err(fault) => return Err(fault),
         };

@@ -1,15 +1,13 @@
-use Rattle.std.proofs.Common.{◌≡◌, ◌≤◌, ◌-◌, IsUtf8, length, map}
-use Rattle.std.specs.List.{AllByRecursion}
+use Rattle.std.proofs.Common.{◌≡◌, ◌≤◌, ◌-◌, length, map}
 use Rattle.html_template.specs.FillFaults.{fill_fault}
 use Rattle.html_template.specs.Templates.{Fill, kept, texts_of}
-use Rattle.html_template.proofs.page.check.Given as goal
+use Rattle.html_template.proofs.page.check_each.Given as goal
 
 abbrev pub invariant-pieces : goal.invariant-pieces
 invariant-pieces l = record {
   full : Fill (map kept l.rest) (texts_of l.left) → Fill (map kept l.pieces) (texts_of l.texts);
   first : fill_fault (length l.texts - length l.left) (map kept l.rest) (texts_of l.left) ≡ fill_fault 0 (map kept l.pieces) (texts_of l.texts);
   shorter : length l.left ≤ length l.texts;
-  utf8 : AllByRecursion IsUtf8 (texts_of l.left) → AllByRecursion IsUtf8 (texts_of l.texts);
 }
 
 abbrev pub decreases-pieces : goal.decreases-pieces
