@@ -13,8 +13,8 @@ ghost use Rattle.html_template.specs.Templates.{Fill, MayFill, encoder_for, kept
 use crate::faults::FillFault;
 use crate::parts::{Piece, SlotPlace};
 use crate::short_page::{SHORT, ShortPage};
-use hesc_core::forms::{Parts, append_parts};
-use hesc_core::rules::Escape;
+use hesc_core::forms::{Parts, append_parts, append_to_string};
+use hesc_core::rules::{Escape, Unchanged};
 use hesc_core::{Class, CountOverflow, Rule, Sink};
 use hesc_engine::ahead::Ahead;
 use hesc_engine::engine::run_knowing;
@@ -84,11 +84,7 @@ impl Summary {
 
 /// The lengths of the markup and the texts together, if the texts fill the slots of these pieces.
 #[inline(always)]
-pub(crate) fn check(
-    pieces: &[Piece],
-    summary: Summary,
-    texts: &[&str],
-) -> Result<usize, FillFault>
+pub(crate) fn check(pieces: &[Piece], summary: Summary, texts: &[&str]) -> Result<usize, FillFault>
     requires slots { summary.slots ≡ slot_count (map kept pieces.now) }
     requires unquoted { summary.has_unquoted ≡ has_unquoted (map kept pieces.now) }
     ensures full { OnOk result (Fill (map kept pieces.now) (texts_of texts.now)) }
@@ -209,17 +205,14 @@ fn append_short_page<B: Allocator>(
 {
     let mut short = ShortPage::new();
     if made.put_into(&mut short).is_ok() {
-        return output.push_str(short.as_str());
+        return append_to_string(output, &Unchanged, short.as_str());
     }
     append_long_page(output, made)
 }
 
 // Measured first, where the room that is there does not suffice.
 #[inline(never)]
-fn append_long_page<B: Allocator>(
-    output: &mut String<B>,
-    made: &Page<'_>,
-) -> Result<(), AllocError>
+fn append_long_page<B: Allocator>(output: &mut String<B>, made: &Page<'_>) -> Result<(), AllocError>
     ensures appended { Appended (string_bytes output.old) (string_bytes output.new)
         (page (map kept made.now.pieces.now) (texts_of made.now.texts.now)) result }
     ensures fits { length (page (map kept made.now.pieces.now) (texts_of made.now.texts.now))
