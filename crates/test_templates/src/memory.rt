@@ -1,7 +1,7 @@
 //! Memory that is refused: the answer is Memory and the output as it was. An append asks once where
 //! there is no room, and not at all where there is.
 use crate::pages::parts;
-use html_template::{FillFault, Template, TemplateFault};
+use html_template::{FillFault, Part, Template, TemplateFault};
 use html_template_source::{BindFault, NamedTemplate, SourceFault};
 use std::process::Abort;
 use std::test::Fail;
@@ -55,6 +55,50 @@ fn an_append_asks_once_or_not_at_all(rt: HostRuntime) -> Result<(), Fail> {
     assert!(rt; template.append(&mut roomy, &TEXTS) == Ok(()));
     assert!(rt; heap.asked(1) == 0);
     assert!(rt; output.as_str().strip_prefix("x") == Some(roomy.as_str()));
+    Ok(())
+}
+
+// Of `<`, of which each becomes four bytes: a page that is made on the stack, one that outgrows it,
+// and one that is too long for it from the first.
+const LENGTHS: [usize; 3] = [400, 1000, 3000];
+
+#[test]
+fn an_append_of_any_length_asks_once_or_not_at_all(rt: HostRuntime) -> Result<(), Fail> {
+    let parts = [Part::Markup("<p>"), Part::Slot, Part::Markup("</p>")];
+    let Ok(template) = Template::new(rt.alloc(), &parts) else {
+        panic!(rt; "the parts are a template");
+    };
+    let heap = Refusing::new(rt.alloc(), 0);
+    for length in LENGTHS {
+        let (mut text, mut page) = (String::new(rt.alloc()), String::new(rt.alloc()));
+        page.push_str("x<p>")?;
+        for _ in 0..length {
+            text.push_str("<")?;
+            page.push_str("&lt;")?;
+        }
+        page.push_str("</p>")?;
+        heap.refuse(0);
+        let mut output = String::from_str(&heap, "x")?;
+        heap.refuse(1);
+        assert!(rt; template.append(&mut output, &[text.as_str()]) == Err(FillFault::Memory));
+        assert!(rt; output.as_str() == "x" && heap.asked(1) == 1, "{length}");
+        heap.refuse(2);
+        assert!(rt; template.append(&mut output, &[text.as_str()]) == Ok(()));
+        assert!(rt;
+            output.as_str() == page.as_str() && heap.asked(2) == 1,
+            "{length}"
+        );
+        // Into the room that is there.
+        heap.refuse(0);
+        let mut roomy = String::with_capacity(&heap, page.len())?;
+        roomy.push_str("x")?;
+        heap.refuse(1);
+        assert!(rt; template.append(&mut roomy, &[text.as_str()]) == Ok(()));
+        assert!(rt;
+            roomy.as_str() == page.as_str() && heap.asked(1) == 0,
+            "{length}"
+        );
+    }
     Ok(())
 }
 
