@@ -1,9 +1,9 @@
+pub mod ParserLaws
 pub mod AttributeLaws
 pub mod ScriptTexts
 pub mod FormLaw
 pub mod PageLaw
 pub mod AttributeTurns
-pub mod PagesOfTwo
 pub mod NamesOfLetters
 pub mod LastGaps
 pub mod GoodAttributes

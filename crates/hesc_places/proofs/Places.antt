@@ -1,4 +1,3 @@
-pub mod ReadBacks
 pub mod Marked
 pub mod Unquoted
 pub mod ScriptStrings
@@ -9,4 +8,3 @@ pub mod EnclosedTexts
 pub mod UnquotedEndings
 pub mod PartsTaken
 pub mod Trials
-pub mod ReadTexts

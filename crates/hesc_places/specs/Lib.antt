@@ -1,3 +1,2 @@
-pub mod Grammars
 pub mod Places
 pub mod Pages

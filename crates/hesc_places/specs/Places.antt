@@ -1,5 +1,4 @@
 pub mod Marks
-pub mod Readings
 pub mod Suits
 pub mod ReadBack
 pub mod Trials

@@ -8,15 +8,15 @@ ghost use Rattle.hesc_places.specs.Pages.FormTexts.{AreGood, form_back, form_tex
 ghost use Rattle.hesc_places.specs.Places.Marks.{closing};
 ghost use Rattle.hesc_places.specs.Pages.PageReadings.{page_reading};
 ghost use Rattle.hesc_places.specs.Pages.PageTexts.{page_back, page_text};
-ghost use Rattle.hesc_places.specs.Places.Readings.{body_of, reading};
+ghost use Rattle.hesc_grammars.specs.Places.{body_of, reading};
 ghost use Rattle.hesc_places.specs.Places.Suits.{suits, MayHold};
 ghost use Rattle.hesc_places.specs.Places.ReadBack.{read_back};
 ghost use Rattle.hesc_places.specs.Places.Trials.{PassesTrial};
-ghost use Rattle.hesc_places.specs.Grammars.Words.{is_end_tag};
+ghost use Rattle.hesc_grammars.specs.Words.{is_end_tag};
 
 use crate::markup::types::Attribute;
-use crate::place::places::Place;
 use hesc_core::Element;
+use hesc_grammars::Place;
 use html_escape::Encoder;
 
 /// Where an encoder suits a place, what it writes for a text ends exactly at the closing mark,

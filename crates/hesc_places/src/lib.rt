@@ -19,6 +19,5 @@ pub use crate::markup::page_builder::{append_page, build_page};
 pub use crate::markup::page_reader::{Page, read_page};
 pub use crate::markup::types::{Attribute, FormFault, Quoting};
 pub use crate::place::enclosing::{PlaceFault, append_enclosed, enclose};
-pub use crate::place::places::{End, Place};
-pub use crate::place::readers::{Reading, end_of_place, read_place};
 pub use crate::place::suiting::suits;
+pub use hesc_grammars::{End, Place, Reading, end_of_place, read_place};

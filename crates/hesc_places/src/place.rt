@@ -1,7 +1,5 @@
-//! Places: their marks, which encoder suits which, and a text put into one and read from it.
+//! Places: their marks, which encoder suits which, and a text put into one.
 pub mod enclosed;
 pub mod enclosing;
 pub mod marks;
-pub mod places;
-pub mod readers;
 pub mod suiting;

@@ -13,8 +13,8 @@ use Rattle.hesc_places.specs.Pages.PageReadings.{PageRead, page_reading}
 use Rattle.hesc_places.specs.Pages.PageTexts.{page_text}
 use Rattle.hesc_places.specs.Places.Suits.{suits}
 use Rattle.hesc_places.specs.declared.markup.types.FormFault.{FormFault}
-use Rattle.hesc_places.specs.declared.place.places.Place.{Place}
-use Rattle.hesc_places.specs.declared.place.places.Place.TheVariants.{UnquotedAttribute}
+use Rattle.hesc_grammars.specs.declared.place.Place.{Place}
+use Rattle.hesc_grammars.specs.declared.place.Place.TheVariants.{UnquotedAttribute}
 use Rattle.hesc_tool.specs.Faults.{form_refusal}
 use Rattle.hesc_tool.specs.FormWords.{AreWordsOf}
 use Rattle.hesc_tool.specs.Lines.{form_lines, page_lines}

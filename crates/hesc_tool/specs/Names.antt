@@ -10,9 +10,9 @@ use Rattle.html_escape.specs.declared.operation.Operation.{Operation}
 use Rattle.html_escape.specs.declared.operation.Operation.TheVariants.{Encode, Decode}
 use Rattle.hesc_places.specs.declared.markup.types.Quoting.{Quoting}
 use Rattle.hesc_places.specs.declared.markup.types.Quoting.TheVariants as quoting
-use Rattle.hesc_places.specs.declared.place.places.End.TheVariants.{Tab, LineFeed, FormFeed, Space, Greater}
-use Rattle.hesc_places.specs.declared.place.places.Place.{Place}
-use Rattle.hesc_places.specs.declared.place.places.Place.TheVariants.{Text, DoubleAttribute, SingleAttribute, UnquotedAttribute, ScriptSingle, ScriptDouble, StyleSingle, StyleDouble, ScriptBody, StyleBody}
+use Rattle.hesc_grammars.specs.declared.place.End.TheVariants.{Tab, LineFeed, FormFeed, Space, Greater}
+use Rattle.hesc_grammars.specs.declared.place.Place.{Place}
+use Rattle.hesc_grammars.specs.declared.place.Place.TheVariants.{Text, DoubleAttribute, SingleAttribute, UnquotedAttribute, ScriptSingle, ScriptDouble, StyleSingle, StyleDouble, ScriptBody, StyleBody}
 
 -- the name of an encoder
 abbrev pub encoder_name : Encoder → List ℕ

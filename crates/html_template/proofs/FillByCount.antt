@@ -1,8 +1,8 @@
 -- Texts fill the slots where they are as many as these and none of these is a value without quotes.
 use Rattle.std.proofs.Common.{ℕ, ◌≡◌, ◌+◌, List, [], ◌∷◌, length, refl, arith, false, true, Bool, if◌then◌else◌}
 use Rattle.std.specs.Prelude.{None}
-use Rattle.html_template.specs.declared.parts.SlotPlace.{SlotPlace}
-use Rattle.html_template.specs.declared.parts.SlotPlace.TheVariants.{Text, DoubleQuoted, SingleQuoted, Unquoted, ScriptSingle, ScriptDouble, StyleSingle, StyleDouble}
+use Rattle.html_tokenizer.specs.declared.slot_place.SlotPlace.{SlotPlace}
+use Rattle.html_tokenizer.specs.declared.slot_place.SlotPlace.TheVariants.{Text, DoubleQuoted, SingleQuoted, Unquoted, ScriptSingle, ScriptDouble, StyleSingle, StyleDouble}
 use Rattle.html_template.specs.FillFaults.{fill_fault, has_unquoted, is_unquoted, may_fill, slot_count}
 use Rattle.html_template.specs.Templates.{Chunk, Markup, Slot, Fill, MayFill}
 

@@ -3,11 +3,12 @@ use Rattle.std.proofs.Common.{ℕ, ◌≡◌, List, [], ◌∷◌, ◌++◌, map
 use Rattle.std.proofs.lemmas.List.{map-append}
 use Rattle.html_escape.specs.Encoders.{encoded}
 use Rattle.hesc_places.specs.Places.ReadBack.{read_back}
-use Rattle.html_template.specs.Tokenizer.Actions.{Action, read_byte}
-use Rattle.html_template.specs.Tokenizer.States.{Tokenizer, data_state}
+use Rattle.html_tokenizer.specs.Tokenizer.Actions.{Action, read_byte}
+use Rattle.html_tokenizer.specs.Tokenizer.States.{Tokenizer, data_state}
 use Rattle.html_template.specs.Structure.{IsPageOf, IsReadAs}
-use Rattle.html_template.specs.Templates.{Chunk, Given, Markup, Slot, Fill, encoder_for, page, part_of, actions_all, state_after_all, state_after_slot}
-use Rattle.html_template.specs.Tokenizer.Tokenization.{state_after, actions_of}
+use Rattle.html_tokenizer.specs.Standing.{state_after_slot}
+use Rattle.html_template.specs.Templates.{Chunk, Given, Markup, Slot, Fill, encoder_for, page, part_of, actions_all, state_after_all}
+use Rattle.html_tokenizer.specs.Tokenizer.Tokenization.{state_after, actions_of}
 use Rattle.html_template.proofs.Pieces.{state_after_all-append}
 
 pub joined_state : (first second : List Chunk) → state_after_all data_state first ≡ data_state →

@@ -1,6 +1,3 @@
-pub mod HeldWords
-pub mod Passing
-pub mod Slots
 pub mod TemplateLaw
 pub mod Pieces
 pub mod Structure
@@ -8,4 +5,3 @@ pub mod FillAnswers
 pub mod FillByCount
 pub mod Joined
 pub mod TokenLaw
-pub mod Agreement

@@ -5,10 +5,11 @@ use Rattle.std.specs.Borrow.{Bor}
 use Rattle.html_template.specs.declared.parts.Part.{Part}
 use Rattle.html_template.specs.declared.parts.Piece.{Piece}
 use Rattle.html_template.specs.declared.parts.Piece.TheVariants as piece
-use Rattle.html_template.specs.declared.parts.SlotPlace.{SlotPlace}
-use Rattle.html_template.specs.Tokenizer.States.{Tokenizer, data_state}
-use Rattle.html_template.specs.Templates.{Chunk, Markup, Slot, Given, given, kept, part_of, state_after_all, state_after_slot}
-use Rattle.html_template.specs.Tokenizer.Tokenization.{state_after}
+use Rattle.html_tokenizer.specs.declared.slot_place.SlotPlace.{SlotPlace}
+use Rattle.html_tokenizer.specs.Tokenizer.States.{Tokenizer, data_state}
+use Rattle.html_tokenizer.specs.Standing.{state_after_slot}
+use Rattle.html_template.specs.Templates.{Chunk, Markup, Slot, Given, given, kept, part_of, state_after_all}
+use Rattle.html_tokenizer.specs.Tokenizer.Tokenization.{state_after}
 
 pub state_after_all-append : (t : Tokenizer) (first second : List Chunk) →
     state_after_all t (first ++ second) ≡ state_after_all (state_after_all t first) second

@@ -3,14 +3,15 @@ use Rattle.std.proofs.Common.{ℕ, ◌≡◌, false, List, [], ◌∷◌, ◌++�
 use Rattle.std.specs.List.{AllByRecursion}
 use Rattle.std.proofs.lemmas.List.Elements.{filter-append}
 use Rattle.hesc_places.specs.Places.ReadBack.{read_back}
-use Rattle.html_template.specs.declared.parts.SlotPlace.{SlotPlace}
-use Rattle.html_template.specs.declared.parts.SlotPlace.TheVariants.{Text, DoubleQuoted, SingleQuoted, Unquoted, ScriptSingle, ScriptDouble, StyleSingle, StyleDouble}
-use Rattle.html_template.specs.Tokenizer.Actions.{Action, read_byte}
-use Rattle.html_template.specs.Tokenizer.States.{Tokenizer, data_state}
+use Rattle.html_tokenizer.specs.declared.slot_place.SlotPlace.{SlotPlace}
+use Rattle.html_tokenizer.specs.declared.slot_place.SlotPlace.TheVariants.{Text, DoubleQuoted, SingleQuoted, Unquoted, ScriptSingle, ScriptDouble, StyleSingle, StyleDouble}
+use Rattle.html_tokenizer.specs.Tokenizer.Actions.{Action, read_byte}
+use Rattle.html_tokenizer.specs.Tokenizer.States.{Tokenizer, data_state}
 use Rattle.html_template.specs.Structure.{is_structure, structure, IsReadAs}
-use Rattle.html_template.specs.Templates.{Chunk, Markup, Slot, Fill, encoder_for, page, actions_all, state_after_all, state_after_slot}
-use Rattle.html_template.specs.Tokenizer.Tokenization.{state_after, actions_of}
-use Rattle.html_template.proofs.Passing.{actions_of-append, state_after-append}
+use Rattle.html_tokenizer.specs.Standing.{state_after_slot}
+use Rattle.html_template.specs.Templates.{Chunk, Markup, Slot, Fill, encoder_for, page, actions_all, state_after_all}
+use Rattle.html_tokenizer.specs.Tokenizer.Tokenization.{state_after, actions_of}
+use Rattle.html_tokenizer.proofs.Passing.{actions_of-append, state_after-append}
 use Rattle.html_template.proofs.TemplateLaw.{pieces_pass}
 
 structure-append : (first second : List Action) → structure (first ++ second) ≡ structure first ++ structure second

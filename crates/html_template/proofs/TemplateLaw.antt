@@ -4,18 +4,19 @@ use Rattle.std.specs.List.{AllByRecursion}
 use Rattle.std.proofs.lemmas.Bool.{cases_Bool}
 use Rattle.html_escape.specs.Encoders.{encoded}
 use Rattle.hesc_places.specs.Places.ReadBack.{read_back}
-use Rattle.html_template.specs.declared.parts.SlotPlace.{SlotPlace}
-use Rattle.html_template.specs.declared.parts.SlotPlace.TheVariants as place
-use Rattle.html_template.specs.declared.tokenizer.states.Content.{Content}
-use Rattle.html_template.specs.declared.tokenizer.states.Content.TheVariants.{Normal, Title, Textarea, Script, DataBlock, Style}
-use Rattle.html_template.specs.Tokenizer.Actions.{read_byte}
-use Rattle.html_template.specs.Tokenizer.States.{State, Attribute, Ordinary, Tokenizer, In, BeforeValue, Refused, InCode, at, at_value, refused, data_state}
-use Rattle.html_template.specs.Templates.{Chunk, Markup, Slot, encoder_for, in_code, standing_in, standing, stands, state_after_slot, state_after_all, page, actions_all, MayFill, Fill}
-use Rattle.html_template.specs.Tokenizer.Tokenization.{state_after}
-use Rattle.html_template.proofs.Slots.Html.{text_stays, double_stays, single_stays, unquoted_stays, first_stays}
-use Rattle.html_template.proofs.Passing.{Passes, passes_itself, passes_both, stays_refused}
-use Rattle.html_template.proofs.Slots.Scripts.{script_stays, script_single_reads, script_double_reads}
-use Rattle.html_template.proofs.Slots.Styles.{style_stays, style_single_reads, style_double_reads}
+use Rattle.html_tokenizer.specs.declared.slot_place.SlotPlace.{SlotPlace}
+use Rattle.html_tokenizer.specs.declared.slot_place.SlotPlace.TheVariants as place
+use Rattle.html_tokenizer.specs.declared.states.Content.{Content}
+use Rattle.html_tokenizer.specs.declared.states.Content.TheVariants.{Normal, Title, Textarea, Script, DataBlock, Style}
+use Rattle.html_tokenizer.specs.Tokenizer.Actions.{read_byte}
+use Rattle.html_tokenizer.specs.Tokenizer.States.{State, Attribute, Ordinary, Tokenizer, In, BeforeValue, Refused, InCode, at, at_value, refused, data_state}
+use Rattle.html_tokenizer.specs.Standing.{in_code, standing_in, standing, stands, state_after_slot}
+use Rattle.html_template.specs.Templates.{Chunk, Markup, Slot, encoder_for, state_after_all, page, actions_all, MayFill, Fill}
+use Rattle.html_tokenizer.specs.Tokenizer.Tokenization.{state_after}
+use Rattle.html_tokenizer.proofs.Slots.Html.{text_stays, double_stays, single_stays, unquoted_stays, first_stays}
+use Rattle.html_tokenizer.proofs.Passing.{Passes, passes_itself, passes_both, stays_refused}
+use Rattle.html_tokenizer.proofs.Slots.Scripts.{script_stays, script_single_reads, script_double_reads}
+use Rattle.html_tokenizer.proofs.Slots.Styles.{style_stays, style_single_reads, style_double_reads}
 
 no : false ≡ true → ⊥
 no h = cc

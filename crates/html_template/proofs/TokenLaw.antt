@@ -4,12 +4,12 @@ use Rattle.std.proofs.lemmas.Bool.{cases_Bool}
 use Rattle.std.specs.List.{AllByRecursion, filter}
 use Rattle.std.proofs.lemmas.List.{map-append}
 use Rattle.std.proofs.lemmas.List.Elements.{filter-append}
-use Rattle.html_template.specs.Tokenizer.Actions.{Action, EmitDoctype, NewComment, CommentByte, EmitComment, EmitByte, NewStartTag, NewEndTag, TagNameByte, NewAttribute, NameByte, ValueByte, SetSelfClosing, EmitTag, CodeByte, StringStart, StringByte, StringEnd}
-use Rattle.html_template.specs.Tokenizer.States.{data_state}
+use Rattle.html_tokenizer.specs.Tokenizer.Actions.{Action, EmitDoctype, NewComment, CommentByte, EmitComment, EmitByte, NewStartTag, NewEndTag, TagNameByte, NewAttribute, NameByte, ValueByte, SetSelfClosing, EmitTag, CodeByte, StringStart, StringByte, StringEnd}
+use Rattle.html_tokenizer.specs.Tokenizer.States.{data_state}
 use Rattle.html_template.specs.Structure.{is_structure, structure}
 use Rattle.html_template.specs.Templates.{Chunk, Fill, page, state_after_all}
-use Rattle.html_template.specs.Tokenizer.Tokenization.{actions_of}
-use Rattle.html_template.specs.Tokens.{Attribute, Tag, Token, Building, Comment, TagToken, Character, bare, bare_attribute, bare_tag, build, built, emits, is_markup, longer_name, longer_value, nothing, skeleton, tokens}
+use Rattle.html_tokenizer.specs.Tokenizer.Tokenization.{actions_of}
+use Rattle.html_tokenizer.specs.Tokens.{Attribute, Tag, Token, Building, Comment, TagToken, Character, bare, bare_attribute, bare_tag, build, built, emits, is_markup, longer_name, longer_value, nothing, skeleton, tokens}
 use Rattle.html_template.proofs.Structure.{structure_of_page}
 
 -- what is built is the same but for characters and values

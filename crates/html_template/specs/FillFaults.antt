@@ -2,8 +2,8 @@
 use Rattle.std.specs.Prelude.{◌≡◌, ℕ, ◌+◌, Bool, true, false, if◌then◌else◌, List, [], ◌∷◌, Option, Some, None, Result, Ok, Err}
 use Rattle.html_template.specs.declared.faults.FillFault.{FillFault}
 use Rattle.html_template.specs.declared.faults.FillFault.TheVariants.{WrongCount, EmptyUnquoted, Memory}
-use Rattle.html_template.specs.declared.parts.SlotPlace.{SlotPlace}
-use Rattle.html_template.specs.declared.parts.SlotPlace.TheVariants.{Unquoted}
+use Rattle.html_tokenizer.specs.declared.slot_place.SlotPlace.{SlotPlace}
+use Rattle.html_tokenizer.specs.declared.slot_place.SlotPlace.TheVariants.{Unquoted}
 use Rattle.html_template.specs.Templates.{Chunk, Markup, Slot}
 
 abbrev pub may_fill : SlotPlace → List ℕ → Bool

@@ -1,10 +1,10 @@
 -- The structure of a page: the actions at it, without the bytes of its texts and values.
 use Rattle.std.specs.Prelude.{◌≡◌, ℕ, Bool, true, false, List, ◌++◌, map}
 use Rattle.std.specs.List.{filter}
-use Rattle.html_template.specs.Tokenizer.Actions.{Action, EmitByte, ValueByte, StringByte}
-use Rattle.html_template.specs.Tokenizer.States.{data_state}
+use Rattle.html_tokenizer.specs.Tokenizer.Actions.{Action, EmitByte, ValueByte, StringByte}
+use Rattle.html_tokenizer.specs.Tokenizer.States.{data_state}
 use Rattle.html_template.specs.Templates.{Chunk, Fill, Given, actions_all, page, part_of, state_after_all}
-use Rattle.html_template.specs.Tokenizer.Tokenization.{state_after, actions_of}
+use Rattle.html_tokenizer.specs.Tokenizer.Tokenization.{state_after, actions_of}
 
 -- tags and their names, attributes and their names, comments, code, and where strings begin and end
 abbrev pub is_structure : Action → Bool

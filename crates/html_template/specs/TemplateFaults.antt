@@ -1,36 +1,14 @@
 -- What keeps parts from being a template.
-use Rattle.std.specs.Prelude.{◌≡◌, ⊤, ℕ, ◌+◌, Bool, true, false, ◌&&◌, if◌then◌else◌, List, [], ◌∷◌, Option, Some, None, Result, Ok, Err}
+use Rattle.std.specs.Prelude.{◌≡◌, ⊤, ℕ, ◌+◌, if◌then◌else◌, List, [], ◌∷◌, Option, Some, None, Result, Ok, Err}
 use Rattle.html_template.specs.declared.faults.TemplateFault.{TemplateFault}
 use Rattle.html_template.specs.declared.faults.TemplateFault.TheVariants.{Malformed, NoPlace, Forbidden, Unfinished, Memory}
-use Rattle.html_template.specs.declared.parts.SlotPlace.{SlotPlace}
-use Rattle.html_template.specs.declared.parts.SlotPlace.TheVariants as place
-use Rattle.html_template.specs.declared.tokenizer.reader.Standing.{Standing}
-use Rattle.html_template.specs.declared.tokenizer.reader.Standing.TheVariants.{Stands, Nowhere, Barred}
-use Rattle.html_template.specs.declared.tokenizer.states.Content.{Content}
-use Rattle.html_template.specs.declared.tokenizer.states.Content.TheVariants.{Normal}
-use Rattle.html_template.specs.Tokenizer.States.{State, Attribute, Ordinary, Tokenizer, In, Refused}
-use Rattle.html_template.specs.Templates.{Given, GivenMarkup, GivenSlot, standing, state_after_slot}
-use Rattle.html_template.specs.Tokenizer.Tokenization.{state_after}
-
-abbrev pub is_refused : State → Bool
-is_refused Refused = true
-is_refused other = false
-
-abbrev pub is_normal : Content → Bool
-is_normal Normal = true
-is_normal other = false
-
-abbrev pub is_ordinary : Attribute → Bool
-is_ordinary Ordinary = true
-is_ordinary other = false
-
--- a page may end here
-abbrev pub may_end_in : State → Content → Attribute → Bool
-may_end_in (In place.Text) content attribute = is_normal content && is_ordinary attribute
-may_end_in other content attribute = false
-
-abbrev pub may_end : Tokenizer → Bool
-may_end t = may_end_in t.state t.content t.attribute
+use Rattle.html_template.specs.Templates.{Given, GivenMarkup, GivenSlot}
+use Rattle.html_tokenizer.specs.declared.reader.Standing.{Standing}
+use Rattle.html_tokenizer.specs.declared.reader.Standing.TheVariants.{Stands, Nowhere, Barred}
+use Rattle.html_tokenizer.specs.declared.slot_place.SlotPlace.{SlotPlace}
+use Rattle.html_tokenizer.specs.Standing.{is_refused, may_end, standing, state_after_slot}
+use Rattle.html_tokenizer.specs.Tokenizer.States.{Tokenizer}
+use Rattle.html_tokenizer.specs.Tokenizer.Tokenization.{state_after}
 
 -- at a slot that is this part
 abbrev pub slot_fault : ℕ → Standing → (SlotPlace → Option TemplateFault) → Option TemplateFault

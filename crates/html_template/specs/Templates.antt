@@ -1,5 +1,5 @@
 -- Templates: where their slots stand, and their pages.
-use Rattle.std.specs.Prelude.{◌≡◌, ◌≢◌, ⊤, ℕ, Bool, true, false, List, [], ◌∷◌, ◌++◌, length, map, if◌then◌else◌}
+use Rattle.std.specs.Prelude.{◌≢◌, ⊤, ℕ, List, [], ◌∷◌, ◌++◌, length, map}
 use Rattle.std.specs.Borrow.{Bor}
 use Rattle.html_escape.specs.declared.encoder.Encoder.{Encoder}
 use Rattle.html_escape.specs.declared.encoder.Encoder.TheVariants as encoder
@@ -9,16 +9,12 @@ use Rattle.html_template.specs.declared.parts.Part.{Part}
 use Rattle.html_template.specs.declared.parts.Part.TheVariants as part
 use Rattle.html_template.specs.declared.parts.Piece.{Piece}
 use Rattle.html_template.specs.declared.parts.Piece.TheVariants as piece
-use Rattle.html_template.specs.declared.parts.SlotPlace.{SlotPlace}
-use Rattle.html_template.specs.declared.parts.SlotPlace.TheVariants.{Text, DoubleQuoted, SingleQuoted, Unquoted, ScriptSingle, ScriptDouble, StyleSingle, StyleDouble}
-use Rattle.html_template.specs.declared.tokenizer.reader.Standing.{Standing}
-use Rattle.html_template.specs.declared.tokenizer.reader.Standing.TheVariants.{Stands, Nowhere, Barred}
-use Rattle.html_template.specs.declared.tokenizer.states.Content.{Content}
-use Rattle.html_template.specs.declared.tokenizer.states.Content.TheVariants as content
-use Rattle.html_template.specs.Tokenizer.Actions.{Action, read_byte}
-use Rattle.html_template.specs.Tokenizer.States as state
-use Rattle.html_template.specs.Tokenizer.States.{State, Attribute, Tokenizer, at, refused}
-use Rattle.html_template.specs.Tokenizer.Tokenization.{state_after, actions_of}
+use Rattle.html_tokenizer.specs.declared.slot_place.SlotPlace.{SlotPlace}
+use Rattle.html_tokenizer.specs.declared.slot_place.SlotPlace.TheVariants.{Text, DoubleQuoted, SingleQuoted, Unquoted, ScriptSingle, ScriptDouble, StyleSingle, StyleDouble}
+use Rattle.html_tokenizer.specs.Standing.{state_after_slot}
+use Rattle.html_tokenizer.specs.Tokenizer.Actions.{Action, read_byte}
+use Rattle.html_tokenizer.specs.Tokenizer.States.{Tokenizer}
+use Rattle.html_tokenizer.specs.Tokenizer.Tokenization.{state_after, actions_of}
 
 -- a piece of a template
 pub data Chunk : Type 0 where
@@ -35,50 +31,6 @@ encoder_for ScriptSingle = encoder.ScriptSingleQuoted
 encoder_for ScriptDouble = encoder.ScriptDoubleQuoted
 encoder_for StyleSingle = encoder.StyleSingleQuoted
 encoder_for StyleDouble = encoder.StyleDoubleQuoted
-
--- a slot in the value of an attribute, if its text would mean itself
-abbrev pub unless_forbidden : Attribute → SlotPlace → Standing
-unless_forbidden state.Ordinary p = Stands p
-unless_forbidden other p = Barred
-
--- a slot in the code of a script is nowhere, and in a data block in a second language
-abbrev pub in_code : Content → Standing
-in_code content.DataBlock = Barred
-in_code other = Nowhere
-
--- where a slot stands: within a value, or where a value without quotes may begin
-abbrev pub standing_in : State → Content → Attribute → Standing
-standing_in (state.In p) content attribute = unless_forbidden attribute p
-standing_in state.BeforeValue content attribute = unless_forbidden attribute Unquoted
-standing_in (state.InCode kind) content attribute = in_code content
-standing_in other content attribute = Nowhere
-
-abbrev pub standing : Tokenizer → Standing
-standing t = standing_in t.state t.content t.attribute
-
-abbrev pub is_same : SlotPlace → SlotPlace → Bool
-is_same Text Text = true
-is_same DoubleQuoted DoubleQuoted = true
-is_same SingleQuoted SingleQuoted = true
-is_same Unquoted Unquoted = true
-is_same ScriptSingle ScriptSingle = true
-is_same ScriptDouble ScriptDouble = true
-is_same StyleSingle StyleSingle = true
-is_same StyleDouble StyleDouble = true
-is_same other another = false
-
-abbrev pub stands : SlotPlace → Standing → Bool
-stands p (Stands q) = is_same p q
-stands p other = false
-
--- the tokenizer behind a slot at this place, by the template alone
-abbrev pub state_after_slot : SlotPlace → Tokenizer → Tokenizer
-state_after_slot p t = if stands p (standing t) then at (state.In p) t.content else refused
-
--- where the tokenizer goes at a slot
-abbrev pub AfterStanding : Standing → Tokenizer → Tokenizer → Type 0
-AfterStanding (Stands p) old new = new ≡ state_after_slot p old
-AfterStanding other old new = ⊤
 
 -- the tokenizer behind the pieces
 abbrev pub state_after_all : Tokenizer → List Chunk → Tokenizer

@@ -2,7 +2,9 @@
 ghost use Rattle.std.specs.Prelude.{◌≡◌, ◌++◌, ℕ, List, [], map};
 ghost use Rattle.std.specs.List.{AllByRecursion};
 ghost use Rattle.std.specs.Str.{IsUtf8};
-ghost use Rattle.html_template.specs.Tokenizer.States.{BeforeValue, In, at, data_state};
+ghost use Rattle.html_tokenizer.specs.Tokenizer.States.{data_state};
+ghost use Rattle.html_tokenizer.specs.Tokenizer.Tokenization.{actions_of};
+ghost use Rattle.html_tokenizer.specs.Tokens.{skeleton, tokens};
 ghost use Rattle.html_template.specs.Structure.{IsPageOf, IsReadAs, structure};
 ghost use Rattle.html_template.specs.Templates.{
   Fill,
@@ -13,22 +15,9 @@ ghost use Rattle.html_template.specs.Templates.{
   state_after_all,
   texts_of,
 };
-ghost use Rattle.html_template.specs.Tokenizer.Tokenization.{actions_of, consume};
-ghost use Rattle.hesc_specs.specs.Text.Ascii.{
-  carriage_return,
-  double_quote,
-  less_than,
-  line_feed,
-  single_quote,
-};
-ghost use Rattle.hesc_places.specs.declared.place.places.End.{End};
-ghost use Rattle.hesc_places.specs.declared.place.places.Place.TheVariants as place;
-ghost use Rattle.html_template.specs.Agreement.{AgreesInString, AgreesUnquoted, AgreesWith};
-ghost use Rattle.html_template.specs.Tokens.{skeleton, tokens};
-ghost use Rattle.html_template.specs.declared.parts.SlotPlace.TheVariants as slot;
 
 use crate::parts::Piece;
-use crate::tokenizer::states::Content;
+pub use html_tokenizer::laws::agreement_law;
 
 /// A page of a template whose slots all stand where a text may stand: whatever follows it, the
 /// tokenizer's actions are those at the template, where each text is handed to its slot whole, and
@@ -110,33 +99,4 @@ pub fn token_law(pieces: &[Piece], texts: &[&str], others: &[&str])
         (page (map kept pieces.now) (texts_of texts.now))))
         ≡ skeleton (tokens (actions_of data_state
         (page (map kept pieces.now) (texts_of others.now)))) }
-{}
-
-/// The tokenizer agrees with the grammars of the places in `hesc_places`: up to the mark at which a
-/// place's reading ends it stays in the value, and it reads the same value.
-///
-/// In a value without quotes a carriage return, which the grammar keeps, is a line feed, which ends
-/// the value. A string it may refuse, but only one in which `</` or `<!` stands, or in a style a `<`
-/// behind a `\`.
-///
-/// For instance both read `a&lt;b` before `<`, in text, as `a<b`.
-pub fn agreement_law(content: Content, bytes: &[u8])
-    ensures text { AgreesWith slot.Text content place.Text less_than bytes.now }
-    ensures double { AgreesWith slot.DoubleQuoted content place.DoubleAttribute
-        double_quote bytes.now }
-    ensures single { AgreesWith slot.SingleQuoted content place.SingleAttribute
-        single_quote bytes.now }
-    ensures unquoted { (end : End) → AgreesUnquoted content end bytes.now }
-    ensures carriage_return { consume (at (In slot.Unquoted) content) carriage_return
-        ≡ consume (at (In slot.Unquoted) content) line_feed }
-    ensures first_carriage_return { consume (at BeforeValue content) carriage_return
-        ≡ consume (at BeforeValue content) line_feed }
-    ensures script_single { AgreesInString slot.ScriptSingle content place.ScriptSingle
-        single_quote bytes.now }
-    ensures script_double { AgreesInString slot.ScriptDouble content place.ScriptDouble
-        double_quote bytes.now }
-    ensures style_single { AgreesInString slot.StyleSingle content place.StyleSingle
-        single_quote bytes.now }
-    ensures style_double { AgreesInString slot.StyleDouble content place.StyleDouble
-        double_quote bytes.now }
 {}

@@ -6,14 +6,14 @@
 #![tactic(auto)]
 
 mod faults;
+mod fill;
 pub mod laws;
 mod page;
 mod parts;
 mod short_page;
 mod template;
-mod tokenizer;
 
 pub use crate::faults::{FillFault, TemplateFault};
-pub use crate::parts::{Part, Piece, SlotPlace};
+pub use crate::parts::{Part, Piece};
 pub use crate::template::Template;
-pub use crate::tokenizer::states::{Code, Content};
+pub use html_tokenizer::{Code, Content, SlotPlace};

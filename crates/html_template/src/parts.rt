@@ -1,4 +1,5 @@
 //! What a template is made of, and what it keeps.
+use html_tokenizer::SlotPlace;
 
 /// A part of a template.
 #[derive(Clone, Copy, Debug)]
@@ -7,27 +8,6 @@ pub enum Part<'a> {
     Markup(&'a str),
     /// A slot, for one text.
     Slot,
-}
-
-/// Where a text may stand in a page, and so which encoder writes it.
-#[derive(Clone, Copy, Debug, PartialEq, Eq)]
-pub enum SlotPlace {
-    /// Text between two tags, or in a `title` or `textarea`.
-    Text,
-    /// An attribute's value in double quotes.
-    DoubleQuoted,
-    /// An attribute's value in single quotes.
-    SingleQuoted,
-    /// An attribute's value without quotes. The text may not be empty.
-    Unquoted,
-    /// A string of a script in single quotes.
-    ScriptSingle,
-    /// A string of a script in double quotes.
-    ScriptDouble,
-    /// A string of a style in single quotes.
-    StyleSingle,
-    /// A string of a style in double quotes.
-    StyleDouble,
 }
 
 /// A part that has been read: of a slot it is known where it stands.

@@ -3,8 +3,8 @@ ghost use Rattle.std.specs.Prelude.{◌≡◌, ◌++◌, ◌∷◌, [], ◌≤�
 ghost use Rattle.std.specs.String.{string_bytes};
 ghost use Rattle.hesc_engine.specs.Forms.{Appended, string_room};
 ghost use Rattle.html_template.specs.FillFaults.{AnswersFill, fill_fault, has_unquoted, slot_count};
-ghost use Rattle.html_template.specs.Tokenizer.Phases.{tokenizer_of};
-ghost use Rattle.html_template.specs.Tokenizer.States.{data_state};
+ghost use Rattle.html_tokenizer.specs.Tokenizer.Phases.{tokenizer_of};
+ghost use Rattle.html_tokenizer.specs.Tokenizer.States.{data_state};
 ghost use Rattle.html_template.specs.Structure.{IsPageOf, IsReadAs};
 ghost use Rattle.html_template.specs.TemplateFaults.{AnswersFault, TakesPart, fault_from};
 ghost use Rattle.html_template.specs.Templates.{
@@ -19,9 +19,10 @@ ghost use Rattle.html_template.specs.Templates.{
 };
 
 use crate::faults::{FillFault, TemplateFault};
-use crate::page::{Page, Summary, append_page, check};
+use crate::fill::{Summary, check};
+use crate::page::{Page, append_page};
 use crate::parts::{Part, Piece};
-use crate::tokenizer::reader::{Reader, Standing};
+use html_tokenizer::{Reader, Standing};
 use std::alloc::{AllocError, Allocator, Global};
 
 /// A page with slots, each of which stands where a text may stand.

@@ -1,6 +1,6 @@
 -- What keeps bytes from being the source of a template.
 use Rattle.std.specs.Prelude.{◌≡◌, ⊤, ℕ, ◌+◌, false, List, ◌++◌, Some, Result, Ok, Err, length}
-use Rattle.html_template.specs.Tokenizer.States.{data_state}
+use Rattle.html_tokenizer.specs.Tokenizer.States.{data_state}
 use Rattle.html_template.specs.TemplateFaults.{fault_from}
 use Rattle.html_template.specs.Templates.{Given}
 use Rattle.html_template_source.specs.declared.faults.SourceFault.{SourceFault}

@@ -3,8 +3,8 @@ use Rattle.std.specs.Prelude.{◌≡◌, ℕ, List, ◌++◌, Some, codes, drop,
 use Rattle.html_escape.specs.Encoders.{encoded}
 use Rattle.html_escape.specs.declared.encoder.Encoder.TheVariants.{DoubleQuotedAttribute, Text}
 use Rattle.hesc_places.specs.Places.Enclosed.{enclosed}
-use Rattle.hesc_places.specs.Places.Readings.{reading}
-use Rattle.hesc_places.specs.declared.place.places.Place.TheVariants.{DoubleAttribute}
+use Rattle.hesc_grammars.specs.Places.{reading}
+use Rattle.hesc_grammars.specs.declared.place.Place.TheVariants.{DoubleAttribute}
 
 -- the card, each of its two texts encoded for its place
 abbrev pub card_text : List ℕ → List ℕ → List ℕ

@@ -5,8 +5,8 @@ ghost use Rattle.std.specs.Prelude.{◌≡◌, IfOk};
 ghost use Rattle.std.specs.Option.{option_map};
 ghost use Rattle.std.specs.String.{string_bytes};
 ghost use Rattle.hesc_places.specs.Pages.FormReadings.{form_reading};
-ghost use Rattle.hesc_places.specs.Places.Readings.{reading};
-ghost use Rattle.hesc_places.specs.declared.place.places.Place.TheVariants.{DoubleAttribute};
+ghost use Rattle.hesc_grammars.specs.Places.{reading};
+ghost use Rattle.hesc_grammars.specs.declared.place.Place.TheVariants.{DoubleAttribute};
 
 use hesc_places::{Place, read_form, read_place};
 use std::alloc::{AllocError, Global};

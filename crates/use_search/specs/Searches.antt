@@ -2,7 +2,7 @@
 use Rattle.std.specs.Prelude.{ℕ, List, ◌++◌, codes}
 use Rattle.html_escape.specs.declared.encoder.Encoder.TheVariants.{DoubleQuotedAttribute, ScriptDoubleQuoted}
 use Rattle.hesc_places.specs.Places.Enclosed.{enclosed}
-use Rattle.hesc_places.specs.declared.place.places.Place.TheVariants.{DoubleAttribute, ScriptDouble}
+use Rattle.hesc_grammars.specs.declared.place.Place.TheVariants.{DoubleAttribute, ScriptDouble}
 
 -- the query stands in a field and in a script, each time enclosed for its place
 abbrev pub search_text : List ℕ → List ℕ

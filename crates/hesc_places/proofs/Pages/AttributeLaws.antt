@@ -9,16 +9,16 @@ use Rattle.std.proofs.lemmas.Bool.Decides.{nat_tests}
 use Rattle.hesc_specs.specs.Text.Ascii.{space, double_quote, single_quote, equals_sign}
 use Rattle.hesc_specs.specs.Html.{encoding}
 use Rattle.hesc_specs.specs.declared.classes.Class.TheVariants as class
-use Rattle.hesc_places.specs.declared.place.places.End.TheVariants.{Space}
-use Rattle.hesc_places.specs.declared.place.places.Place.TheVariants.{SingleAttribute, DoubleAttribute}
+use Rattle.hesc_grammars.specs.declared.place.End.TheVariants.{Space}
+use Rattle.hesc_grammars.specs.declared.place.Place.TheVariants.{SingleAttribute, DoubleAttribute}
 use Rattle.hesc_places.specs.declared.markup.types.Quoting.{Quoting}
 use Rattle.hesc_places.specs.declared.markup.types.Quoting.TheVariants.{Unquoted, Single, Double}
 use Rattle.hesc_places.specs.Pages.AttributeReadings.{Entry, attribute_at, attributes_at, quoted_at, unquoted_at, value_at}
 use Rattle.hesc_places.specs.Pages.FormTexts.{IsFilled, attribute_text, entry_back, is_name, value_back, value_text}
 use Rattle.hesc_places.specs.Pages.Parsers.{some_while}
-use Rattle.hesc_places.specs.Grammars.Words.{is_white_space}
+use Rattle.hesc_grammars.specs.Words.{is_white_space}
 use Rattle.hesc_places.proofs.Places.Marked.{marked_text}
-use Rattle.hesc_places.proofs.Grammars.ParserLaws.{some_while-all}
+use Rattle.hesc_places.proofs.Pages.ParserLaws.{some_while-all}
 use Rattle.hesc_places.proofs.Places.UnquotedEndings.{first_ending-after, inner-encoding, is_inner}
 use Rattle.hesc_places.proofs.Places.Unquoted.{unquoted_nul, encoding-full}
 

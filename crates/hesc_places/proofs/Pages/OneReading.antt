@@ -9,7 +9,7 @@ use Rattle.hesc_specs.specs.Text.Ascii.{slash, greater_than}
 use Rattle.hesc_places.specs.Pages.AttributeReadings.{Entry, attribute_at}
 use Rattle.hesc_places.specs.Pages.FormReadings.{tag_end}
 use Rattle.hesc_places.specs.Pages.Parsers.{past, past_while}
-use Rattle.hesc_places.specs.Grammars.Words.{is_white_space}
+use Rattle.hesc_grammars.specs.Words.{is_white_space}
 
 -- a letter is no end of a tag
 letter_is_no_end : (bytes : List ℕ) → (prefix_len is_ascii_lowercase bytes == 0) ≡ false →

@@ -1,5 +1,5 @@
 -- The law of pages: a page's text is that of a form with two attributes, and so is read back.
-use Rattle.std.proofs.Common.{ℕ, ◌≡◌, ◌≢◌, List, [], ◌∷◌, ◌++◌, Some, IsUtf8, codes, length, refl, sym, ap, ◌∙◌, append_assoc, append-nil}
+use Rattle.std.proofs.Common.{ℕ, ◌≡◌, ◌≢◌, List, [], ◌∷◌, ◌++◌, Some, None, IsUtf8, codes, length, map, refl, sym, ap, ◌∙◌, append_assoc, append-nil}
 use Rattle.hesc_specs.specs.Text.Nul.{nul}
 use Rattle.html_escape.specs.declared.encoder.Encoder.TheVariants.{UnquotedAttribute}
 use Rattle.html_escape.specs.Encoders.{encoded}
@@ -7,7 +7,7 @@ use Rattle.hesc_places.specs.declared.markup.types.Quoting.TheVariants.{Unquoted
 use Rattle.hesc_places.specs.Pages.AttributeReadings.{Entry}
 use Rattle.hesc_places.specs.Pages.FormTexts.{AreGood, form_back, form_text, script_text}
 use Rattle.hesc_places.specs.Pages.FormReadings.{form_reading}
-use Rattle.hesc_places.specs.Pages.PageReadings.{page_reading}
+use Rattle.hesc_places.specs.Pages.PageReadings.{page_of, page_reading}
 use Rattle.hesc_places.specs.Pages.PageTexts.{page_back, page_text, placeholder_part}
 use Rattle.hesc_places.proofs.Pages.FormLaw.{form_again}
 
@@ -43,3 +43,11 @@ page_again a b c rest filled utf8 =
     ∙ form_again (page_attributes a b) c rest (pages_are_good a b filled) utf8 in
     rw read
     (ap (λ text. Some (record { first = nul a; second = b; third = c; end = length text })) (page_is_form a b c))
+
+-- a page has two attributes
+pub no_page : {X : Type 0} (attributes : List X) (view : X → Entry) (literal : List ℕ) (end : ℕ) → length attributes ≢ 2 →
+    None ≡ page_of (map view attributes) literal end
+no_page [] view literal end other = refl
+no_page (a ∷ []) view literal end other = refl
+no_page (a ∷ b ∷ []) view literal end other = absurd (other refl)
+no_page (a ∷ b ∷ c ∷ others) view literal end other = refl

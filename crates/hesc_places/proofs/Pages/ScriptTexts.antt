@@ -7,12 +7,12 @@ use Rattle.hesc_specs.specs.Strings.Encoding.{IsPlain, string_encoding}
 use Rattle.hesc_specs.specs.declared.elements.Element.TheVariants.{Script}
 use Rattle.hesc_specs.specs.declared.quotes.Quotes.TheVariants as quotes
 use Rattle.hesc_specs.proofs.Strings.Plain.{plain-string_encoding}
-use Rattle.hesc_places.specs.declared.place.places.Place.TheVariants.{ScriptBody}
+use Rattle.hesc_grammars.specs.declared.place.Place.TheVariants.{ScriptBody}
 use Rattle.hesc_places.specs.declared.markup.types.Quoting.{Quoting}
 use Rattle.hesc_places.specs.declared.markup.types.Quoting.TheVariants.{Unquoted, Single, Double}
 use Rattle.hesc_places.specs.Pages.FormReadings.{alerted, after_attributes, script_at}
 use Rattle.hesc_places.specs.Pages.FormTexts.{gap_after, script_text}
-use Rattle.hesc_places.specs.Places.Readings.{reading}
+use Rattle.hesc_grammars.specs.Places.{reading}
 use Rattle.hesc_places.proofs.Places.Bodies.{read_before_tag}
 use Rattle.hesc_places.proofs.Places.ScriptStrings.{script_string_reading}
 

@@ -12,14 +12,14 @@ use Rattle.hesc_specs.specs.Text.Words.{begins, begins_in_any_case}
 use Rattle.hesc_specs.specs.declared.elements.Element.{Element}
 use Rattle.hesc_specs.specs.declared.elements.Element.TheVariants.{Script, Style}
 use Rattle.hesc_specs.proofs.Bodies.Openings.{HasNoLessThan, name-no_less_than}
-use Rattle.hesc_places.specs.declared.grammar.Mode.{Mode}
-use Rattle.hesc_places.specs.declared.grammar.Mode.TheVariants.{Plain}
-use Rattle.hesc_places.specs.declared.grammar.Step.{Step}
-use Rattle.hesc_places.specs.declared.grammar.Step.TheVariants.{Close, Byte}
-use Rattle.hesc_places.specs.Grammars.Bodies.{script_body_step, style_body_step}
-use Rattle.hesc_places.specs.Places.Readings.{body_of, reading}
-use Rattle.hesc_places.specs.Grammars.Reading.{after, reading_after}
-use Rattle.hesc_places.specs.Grammars.Words.{ends_tag_name, is_end_tag}
+use Rattle.hesc_grammars.specs.declared.step.Mode.{Mode}
+use Rattle.hesc_grammars.specs.declared.step.Mode.TheVariants.{Plain}
+use Rattle.hesc_grammars.specs.declared.step.Step.{Step}
+use Rattle.hesc_grammars.specs.declared.step.Step.TheVariants.{Close, Byte}
+use Rattle.hesc_grammars.specs.Bodies.{script_body_step, style_body_step}
+use Rattle.hesc_grammars.specs.Places.{body_of, reading}
+use Rattle.hesc_grammars.specs.Reading.{after, reading_after}
+use Rattle.hesc_grammars.specs.Words.{ends_tag_name, is_end_tag}
 
 -- a word that stands before the `<` after an encoding stands in the text
 word_before : (element : Element) (word : List ℕ) (follows : List ℕ → Bool) → HasNoLessThan word →

@@ -3,7 +3,7 @@ use Rattle.std.proofs.Common.{ℕ, ◌≡◌, true, List, IsUtf8, ◌++◌, appe
 use Rattle.std.proofs.Math.Seq.{drop-append_seam}
 use Rattle.html_escape.specs.declared.encoder.Encoder.{Encoder}
 use Rattle.html_escape.specs.Encoders.{encoded}
-use Rattle.hesc_places.specs.declared.place.places.Place.{Place}
+use Rattle.hesc_grammars.specs.declared.place.Place.{Place}
 use Rattle.hesc_places.specs.Places.Enclosed.{enclosed, IsReadAsText}
 use Rattle.hesc_places.specs.Places.Marks.{opening, closing}
 use Rattle.hesc_places.specs.Places.Suits.{suits, MayHold}

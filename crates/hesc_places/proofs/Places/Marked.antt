@@ -6,12 +6,12 @@ use Rattle.hesc_specs.specs.Html.{encoding}
 use Rattle.hesc_specs.specs.Text.Nul.{nul}
 use Rattle.hesc_specs.specs.declared.classes.Class.{Class}
 use Rattle.hesc_specs.proofs.Html.Images.{in_class-ampersand, kept_is_other}
-use Rattle.hesc_places.specs.declared.grammar.Mode.TheVariants.{Plain}
-use Rattle.hesc_places.specs.Grammars.Html.{marked_step}
-use Rattle.hesc_places.specs.Grammars.Reading.{reading_after}
-use Rattle.hesc_places.proofs.Grammars.Takes.{takes_to_end}
-use Rattle.hesc_places.proofs.Grammars.HtmlPieces.{ReadsImages, read_image, takes_encoding}
-use Rattle.hesc_places.proofs.Places.ReadBacks.{read_back-text, read_back-nul}
+use Rattle.hesc_grammars.specs.declared.step.Mode.TheVariants.{Plain}
+use Rattle.hesc_grammars.specs.Html.{marked_step}
+use Rattle.hesc_grammars.specs.Reading.{reading_after}
+use Rattle.hesc_grammars.proofs.Takes.{takes_to_end}
+use Rattle.hesc_grammars.proofs.HtmlPieces.{ReadsImages, read_image, takes_encoding}
+use Rattle.hesc_grammars.proofs.ReadBacks.{read_back-text, read_back-nul}
 
 -- the class is an HTML encoder's and has the mark, which is no `&`
 abbrev pub HasMark : Class → ℕ → Type 0

@@ -7,10 +7,10 @@ use Rattle.hesc_specs.specs.declared.quotes.Quotes.TheVariants.{Single, Double, 
 use Rattle.html_escape.specs.declared.encoder.Encoder.{Encoder}
 use Rattle.html_escape.specs.declared.encoder.Encoder.TheVariants as encoder
 use Rattle.html_escape.specs.Encoders.{encoded}
-use Rattle.hesc_places.specs.declared.place.places.Place.{Place}
-use Rattle.hesc_places.specs.declared.place.places.Place.TheVariants.{Text, DoubleAttribute, SingleAttribute, UnquotedAttribute, ScriptSingle, ScriptDouble, StyleSingle, StyleDouble, ScriptBody, StyleBody}
+use Rattle.hesc_grammars.specs.declared.place.Place.{Place}
+use Rattle.hesc_grammars.specs.declared.place.Place.TheVariants.{Text, DoubleAttribute, SingleAttribute, UnquotedAttribute, ScriptSingle, ScriptDouble, StyleSingle, StyleDouble, ScriptBody, StyleBody}
 use Rattle.hesc_places.specs.Places.Marks.{closing}
-use Rattle.hesc_places.specs.Places.Readings.{reading}
+use Rattle.hesc_grammars.specs.Places.{reading}
 use Rattle.hesc_places.specs.Places.Suits.{suits, MayHold}
 use Rattle.hesc_places.specs.Places.ReadBack.{read_back}
 use Rattle.hesc_places.proofs.Places.Bodies.{read_before_tag}

@@ -9,14 +9,14 @@ use Rattle.hesc_specs.specs.Strings.Encoding.{is_escaped, is_mark, is_quote, lin
 use Rattle.hesc_specs.specs.Text.Words.{begins}
 use Rattle.hesc_specs.specs.declared.elements.Element.TheVariants.{Script}
 use Rattle.hesc_specs.specs.declared.quotes.Quotes.{Quotes}
-use Rattle.hesc_places.specs.declared.grammar.Mode.TheVariants.{Plain}
-use Rattle.hesc_places.specs.declared.grammar.Step.TheVariants.{Byte, Character}
-use Rattle.hesc_places.specs.Grammars.Reading.{reading_after}
-use Rattle.hesc_places.specs.Grammars.ScriptStrings.{script_escape, script_string_step}
-use Rattle.hesc_places.proofs.Grammars.Takes.{Takes, takes_character, takes_each, takes_to_end}
-use Rattle.hesc_places.proofs.Grammars.KeptCharacters.{KeepsHigh, next_byte, takes_kept}
-use Rattle.hesc_places.proofs.Grammars.HexEscapes.{is_digit-hex_digit, digits_value-two_digits, two_digits}
-use Rattle.hesc_places.proofs.Grammars.EscapedMarks.{mark_is_no_backslash, mark_is_ascii, kept_is_no_mark}
+use Rattle.hesc_grammars.specs.declared.step.Mode.TheVariants.{Plain}
+use Rattle.hesc_grammars.specs.declared.step.Step.TheVariants.{Byte, Character}
+use Rattle.hesc_grammars.specs.Reading.{reading_after}
+use Rattle.hesc_grammars.specs.ScriptStrings.{script_escape, script_string_step}
+use Rattle.hesc_grammars.proofs.Takes.{Takes, takes_character, takes_each, takes_to_end}
+use Rattle.hesc_grammars.proofs.KeptCharacters.{KeepsHigh, next_byte, takes_kept}
+use Rattle.hesc_grammars.proofs.HexEscapes.{is_digit-hex_digit, digits_value-two_digits, two_digits}
+use Rattle.hesc_grammars.proofs.EscapedMarks.{mark_is_no_backslash, mark_is_ascii, kept_is_no_mark}
 
 script_string_step-backslash : (mark : ℕ) (bytes : List ℕ) → (backslash == mark) ≡ false →
     script_string_step mark Plain (backslash ∷ bytes) ≡ script_escape bytes

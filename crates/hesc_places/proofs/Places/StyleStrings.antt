@@ -10,14 +10,14 @@ use Rattle.hesc_specs.specs.Strings.Encoding.{is_escaped, is_mark, is_quote, str
 use Rattle.hesc_specs.proofs.Text.NulCharacters.{nul_character, nul-chars}
 use Rattle.hesc_specs.specs.declared.elements.Element.TheVariants.{Style}
 use Rattle.hesc_specs.specs.declared.quotes.Quotes.{Quotes}
-use Rattle.hesc_places.specs.declared.grammar.Mode.TheVariants.{Plain}
-use Rattle.hesc_places.specs.declared.grammar.Step.TheVariants.{Byte, Character}
-use Rattle.hesc_places.specs.Grammars.Reading.{reading_after}
-use Rattle.hesc_places.specs.Grammars.StyleStrings.{style_escape, style_string_step}
-use Rattle.hesc_places.proofs.Grammars.Takes.{Takes, takes_character, takes_each, takes_to_end, takes_two}
-use Rattle.hesc_places.proofs.Grammars.KeptCharacters.{KeepsHigh, next_byte, takes_kept, takes_high}
-use Rattle.hesc_places.proofs.Grammars.HexEscapes.{is_digit-hex_digit, digits_value-two_digits, two_digits}
-use Rattle.hesc_places.proofs.Grammars.EscapedMarks.{mark_is_no_backslash, mark_is_ascii, kept_is_no_mark}
+use Rattle.hesc_grammars.specs.declared.step.Mode.TheVariants.{Plain}
+use Rattle.hesc_grammars.specs.declared.step.Step.TheVariants.{Byte, Character}
+use Rattle.hesc_grammars.specs.Reading.{reading_after}
+use Rattle.hesc_grammars.specs.StyleStrings.{style_escape, style_string_step}
+use Rattle.hesc_grammars.proofs.Takes.{Takes, takes_character, takes_each, takes_to_end, takes_two}
+use Rattle.hesc_grammars.proofs.KeptCharacters.{KeepsHigh, next_byte, takes_kept, takes_high}
+use Rattle.hesc_grammars.proofs.HexEscapes.{is_digit-hex_digit, digits_value-two_digits, two_digits}
+use Rattle.hesc_grammars.proofs.EscapedMarks.{mark_is_no_backslash, mark_is_ascii, kept_is_no_mark}
 
 style_string_step-backslash : (mark : ℕ) (bytes : List ℕ) → (backslash == mark) ≡ false →
     style_string_step mark Plain (backslash ∷ bytes) ≡ style_escape bytes

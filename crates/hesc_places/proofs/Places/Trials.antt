@@ -6,15 +6,15 @@ use Rattle.std.proofs.lemmas.Slice.Eq.{bytes_eq-Decides}
 use Rattle.html_escape.specs.declared.encoder.Encoder.{Encoder}
 use Rattle.html_escape.specs.declared.encoder.Encoder.TheVariants as encoder
 use Rattle.html_escape.specs.Encoders.{encoded}
-use Rattle.hesc_places.specs.declared.place.places.End.TheVariants.{Tab}
-use Rattle.hesc_places.specs.declared.place.places.Place.{Place}
-use Rattle.hesc_places.specs.declared.place.places.Place.TheVariants as place
-use Rattle.hesc_places.specs.Grammars.Bodies.{script_body_step, style_body_step}
-use Rattle.hesc_places.specs.Grammars.Html.{marked_step, unquoted_step}
+use Rattle.hesc_grammars.specs.declared.place.End.TheVariants.{Tab}
+use Rattle.hesc_grammars.specs.declared.place.Place.{Place}
+use Rattle.hesc_grammars.specs.declared.place.Place.TheVariants as place
+use Rattle.hesc_grammars.specs.Bodies.{script_body_step, style_body_step}
+use Rattle.hesc_grammars.specs.Html.{marked_step, unquoted_step}
 use Rattle.hesc_places.specs.Places.Marks.{closing}
-use Rattle.hesc_places.specs.Places.Readings.{reading}
-use Rattle.hesc_places.specs.Grammars.ScriptStrings.{script_string_step}
-use Rattle.hesc_places.specs.Grammars.StyleStrings.{style_string_step}
+use Rattle.hesc_grammars.specs.Places.{reading}
+use Rattle.hesc_grammars.specs.ScriptStrings.{script_string_step}
+use Rattle.hesc_grammars.specs.StyleStrings.{style_string_step}
 use Rattle.hesc_places.specs.Places.Suits.{suits}
 use Rattle.hesc_places.specs.Places.Trials.{trial, trial_value, PassesTrial}
 

@@ -7,16 +7,16 @@ use Rattle.hesc_specs.specs.Html.{encoding}
 use Rattle.hesc_specs.specs.Text.Nul.{nul}
 use Rattle.hesc_specs.specs.declared.classes.Class.TheVariants.{UnquotedAttribute}
 use Rattle.hesc_specs.proofs.Html.Images.{in_class_is_ascii, kept_is_other}
-use Rattle.hesc_places.specs.declared.grammar.Mode.TheVariants.{Empty, Plain}
-use Rattle.hesc_places.specs.declared.place.places.End.{End}
-use Rattle.hesc_places.specs.declared.place.places.End.TheVariants.{Tab, LineFeed, FormFeed, Space, Greater}
-use Rattle.hesc_places.specs.Grammars.Html.{unquoted_step}
-use Rattle.hesc_places.specs.Places.Marks.{end_byte}
-use Rattle.hesc_places.specs.Grammars.Reading.{reading_after}
-use Rattle.hesc_places.proofs.Grammars.Takes.{Takes, takes_both, takes_to_end}
-use Rattle.hesc_places.proofs.Grammars.HtmlPieces.{ReadsImages, read_image, takes_image, takes_encoding}
-use Rattle.hesc_places.proofs.Places.ReadBacks.{read_back-nul}
-use Rattle.hesc_places.proofs.Grammars.ReferenceImages.{reference_to_is_read}
+use Rattle.hesc_grammars.specs.declared.step.Mode.TheVariants.{Empty, Plain}
+use Rattle.hesc_grammars.specs.declared.place.End.{End}
+use Rattle.hesc_grammars.specs.declared.place.End.TheVariants.{Tab, LineFeed, FormFeed, Space, Greater}
+use Rattle.hesc_grammars.specs.Html.{unquoted_step}
+use Rattle.hesc_grammars.specs.Places.{end_byte}
+use Rattle.hesc_grammars.specs.Reading.{reading_after}
+use Rattle.hesc_grammars.proofs.Takes.{Takes, takes_both, takes_to_end}
+use Rattle.hesc_grammars.proofs.HtmlPieces.{ReadsImages, read_image, takes_image, takes_encoding}
+use Rattle.hesc_grammars.proofs.ReadBacks.{read_back-nul}
+use Rattle.hesc_grammars.proofs.ReferenceImages.{reference_to_is_read}
 
 -- a byte that the encoder keeps is none that it replaces
 differs : (b : ℕ) → in_class UnquotedAttribute b ≡ false →

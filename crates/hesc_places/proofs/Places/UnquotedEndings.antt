@@ -10,8 +10,8 @@ use Rattle.hesc_specs.specs.Html.{encoding, image, reference_to}
 use Rattle.hesc_specs.specs.declared.classes.Class.TheVariants.{UnquotedAttribute}
 use Rattle.hesc_specs.proofs.Html.Images.{in_class_is_ascii}
 use Rattle.hesc_places.specs.Pages.AttributeReadings.{ending, first_ending}
-use Rattle.hesc_places.specs.Grammars.Html.{ends_unquoted}
-use Rattle.hesc_places.proofs.Grammars.ReferenceImages.{passes_below, passes_each}
+use Rattle.hesc_grammars.specs.Html.{ends_unquoted}
+use Rattle.hesc_grammars.proofs.ReferenceImages.{passes_below, passes_each}
 
 -- neither an ending nor a quote mark
 abbrev pub is_inner : ℕ → Bool

@@ -7,15 +7,15 @@ use Rattle.std.specs.Char.{is_ascii_lowercase}
 use Rattle.std.specs.List.{list_any}
 use Rattle.std.specs.Option.{option_or}
 use Rattle.hesc_specs.specs.Text.Ascii.{tab, line_feed, form_feed, space, double_quote, single_quote, greater_than}
-use Rattle.hesc_places.specs.declared.place.places.End.{End}
-use Rattle.hesc_places.specs.declared.place.places.End.TheVariants.{Tab, LineFeed, FormFeed, Space, Greater}
-use Rattle.hesc_places.specs.declared.place.places.Place.{Place}
-use Rattle.hesc_places.specs.declared.place.places.Place.TheVariants.{DoubleAttribute, SingleAttribute, UnquotedAttribute}
+use Rattle.hesc_grammars.specs.declared.place.End.{End}
+use Rattle.hesc_grammars.specs.declared.place.End.TheVariants.{Tab, LineFeed, FormFeed, Space, Greater}
+use Rattle.hesc_grammars.specs.declared.place.Place.{Place}
+use Rattle.hesc_grammars.specs.declared.place.Place.TheVariants.{DoubleAttribute, SingleAttribute, UnquotedAttribute}
 use Rattle.hesc_places.specs.declared.markup.types.Quoting.{Quoting}
 use Rattle.hesc_places.specs.declared.markup.types.Quoting.TheVariants.{Unquoted, Single, Double}
 use Rattle.hesc_places.specs.Pages.Parsers.{◌>>=◌, past, some_while}
-use Rattle.hesc_places.specs.Places.Readings.{reading}
-use Rattle.hesc_places.specs.Grammars.Words.{is_white_space}
+use Rattle.hesc_grammars.specs.Places.{reading}
+use Rattle.hesc_grammars.specs.Words.{is_white_space}
 
 -- an attribute: its name, how its value is quoted, and its value
 pub record Entry : Type 0 where

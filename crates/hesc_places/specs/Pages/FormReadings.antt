@@ -4,11 +4,11 @@
 -- lower case, without white space inside the second and third.
 use Rattle.std.specs.Prelude.{ℕ, ◌-◌, List, Option, Some, None, codes, bytes_eq, drop, length, map, if◌then◌else◌}
 use Rattle.std.specs.Option.{option_or}
-use Rattle.hesc_places.specs.declared.place.places.Place.TheVariants.{ScriptSingle, ScriptBody}
+use Rattle.hesc_grammars.specs.declared.place.Place.TheVariants.{ScriptSingle, ScriptBody}
 use Rattle.hesc_places.specs.Pages.AttributeReadings.{Entry, attributes_at, differ}
 use Rattle.hesc_places.specs.Pages.Parsers.{◌>>=◌, past, past_in_any_case, past_while}
-use Rattle.hesc_places.specs.Places.Readings.{reading}
-use Rattle.hesc_places.specs.Grammars.Words.{is_white_space}
+use Rattle.hesc_grammars.specs.Places.{reading}
+use Rattle.hesc_grammars.specs.Words.{is_white_space}
 
 -- what is read in a form: its attributes in order, the script's literal, and the end
 pub record FormRead : Type 0 where

@@ -4,10 +4,10 @@ use Rattle.html_escape.specs.declared.encoder.Encoder.{Encoder}
 use Rattle.html_escape.specs.Encoders.{encoded}
 use Rattle.hesc_places.specs.declared.place.enclosing.PlaceFault.{PlaceFault}
 use Rattle.hesc_places.specs.declared.place.enclosing.PlaceFault.TheVariants.{NotForPlace, EmptyUnquoted}
-use Rattle.hesc_places.specs.declared.place.places.Place.{Place}
-use Rattle.hesc_places.specs.declared.place.places.Place.TheVariants.{UnquotedAttribute}
+use Rattle.hesc_grammars.specs.declared.place.Place.{Place}
+use Rattle.hesc_grammars.specs.declared.place.Place.TheVariants.{UnquotedAttribute}
 use Rattle.hesc_places.specs.Places.Marks.{opening, closing}
-use Rattle.hesc_places.specs.Places.Readings.{reading}
+use Rattle.hesc_grammars.specs.Places.{reading}
 use Rattle.hesc_places.specs.Places.ReadBack.{read_back}
 use Rattle.hesc_places.specs.Places.Suits.{suits}
 

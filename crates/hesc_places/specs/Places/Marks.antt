@@ -1,18 +1,9 @@
 -- The opening and closing marks of the places.
 use Rattle.std.specs.Prelude.{ℕ, List, [], ◌∷◌, codes}
-use Rattle.hesc_specs.specs.Text.Ascii.{tab, line_feed, form_feed, space, double_quote, single_quote, less_than, equals_sign, greater_than}
-use Rattle.hesc_places.specs.declared.place.places.End.{End}
-use Rattle.hesc_places.specs.declared.place.places.End.TheVariants.{Tab, LineFeed, FormFeed, Space, Greater}
-use Rattle.hesc_places.specs.declared.place.places.Place.{Place}
-use Rattle.hesc_places.specs.declared.place.places.Place.TheVariants.{Text, DoubleAttribute, SingleAttribute, UnquotedAttribute, ScriptSingle, ScriptDouble, StyleSingle, StyleDouble, ScriptBody, StyleBody}
-
--- the byte of an ending
-abbrev pub end_byte : End → ℕ
-end_byte Tab = tab
-end_byte LineFeed = line_feed
-end_byte FormFeed = form_feed
-end_byte Space = space
-end_byte Greater = greater_than
+use Rattle.hesc_specs.specs.Text.Ascii.{double_quote, single_quote, less_than, equals_sign, greater_than}
+use Rattle.hesc_grammars.specs.Places.{end_byte}
+use Rattle.hesc_grammars.specs.declared.place.Place.{Place}
+use Rattle.hesc_grammars.specs.declared.place.Place.TheVariants.{Text, DoubleAttribute, SingleAttribute, UnquotedAttribute, ScriptSingle, ScriptDouble, StyleSingle, StyleDouble, ScriptBody, StyleBody}
 
 -- the mark after which a place begins
 abbrev pub opening : Place → List ℕ

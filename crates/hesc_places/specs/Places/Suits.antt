@@ -2,8 +2,8 @@
 use Rattle.std.specs.Prelude.{ℕ, ◌≢◌, ⊤, Bool, true, false, List, length}
 use Rattle.html_escape.specs.declared.encoder.Encoder.{Encoder}
 use Rattle.html_escape.specs.declared.encoder.Encoder.TheVariants as encoder
-use Rattle.hesc_places.specs.declared.place.places.Place.{Place}
-use Rattle.hesc_places.specs.declared.place.places.Place.TheVariants as place
+use Rattle.hesc_grammars.specs.declared.place.Place.{Place}
+use Rattle.hesc_grammars.specs.declared.place.Place.TheVariants as place
 
 -- the HTML encoders
 abbrev pub is_html : Encoder → Bool

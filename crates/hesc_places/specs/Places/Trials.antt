@@ -5,10 +5,10 @@ use Rattle.hesc_specs.specs.Bodies.Encoding.{body_encoding}
 use Rattle.hesc_specs.specs.declared.elements.Element.TheVariants as element
 use Rattle.html_escape.specs.declared.encoder.Encoder.{Encoder}
 use Rattle.html_escape.specs.Encoders.{encoded}
-use Rattle.hesc_places.specs.declared.place.places.Place.{Place}
-use Rattle.hesc_places.specs.declared.place.places.Place.TheVariants.{Text, DoubleAttribute, SingleAttribute, UnquotedAttribute, ScriptSingle, ScriptDouble, StyleSingle, StyleDouble, ScriptBody, StyleBody}
+use Rattle.hesc_grammars.specs.declared.place.Place.{Place}
+use Rattle.hesc_grammars.specs.declared.place.Place.TheVariants.{Text, DoubleAttribute, SingleAttribute, UnquotedAttribute, ScriptSingle, ScriptDouble, StyleSingle, StyleDouble, ScriptBody, StyleBody}
 use Rattle.hesc_places.specs.Places.Marks.{closing}
-use Rattle.hesc_places.specs.Places.Readings.{reading}
+use Rattle.hesc_grammars.specs.Places.{reading}
 
 -- the trial text of a place
 abbrev pub trial : Place → List ℕ

@@ -15,8 +15,7 @@ ghost use Rattle.hesc_places.specs.Pages.FormReadings.{
 use crate::markup::prefix::{past, past_in_any_case, white_space_at};
 use crate::markup::tag_reader::{attributes_at, differ};
 use crate::markup::types::{Quoting, ReadAttribute};
-use crate::place::places::Place;
-use crate::place::readers::read_place;
+use hesc_grammars::{Place, read_place};
 use std::alloc::{AllocError, Allocator, Global};
 
 /// What stands in a form, and where it ends.

@@ -4,7 +4,7 @@ ghost use Rattle.std.specs.Char.{is_ascii_lowercase};
 ghost use Rattle.std.specs.List.{prefix_len};
 ghost use Rattle.std.specs.Option.{option_map};
 ghost use Rattle.hesc_places.specs.Pages.Parsers.{past, past_in_any_case};
-ghost use Rattle.hesc_places.specs.Grammars.Words.{is_white_space};
+ghost use Rattle.hesc_grammars.specs.Words.{is_white_space};
 
 /// The bytes after a word, if it stands there.
 pub(crate) fn past<'b>(bytes: &'b [u8], word: &[u8]) -> Option<&'b [u8]>

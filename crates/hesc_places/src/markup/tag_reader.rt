@@ -16,8 +16,7 @@ ghost use Rattle.hesc_places.specs.Pages.AttributeReadings.{
 use crate::markup::names::add_name;
 use crate::markup::prefix::{letters_at, past, white_space_at};
 use crate::markup::types::{Quoting, ReadAttribute};
-use crate::place::places::{End, Place};
-use crate::place::readers::read_place;
+use hesc_grammars::{End, Place, read_place};
 use std::alloc::{AllocError, Allocator};
 use std::collections::BTreeSet;
 

@@ -4,9 +4,9 @@ ghost use Rattle.html_escape.specs.Encoders.{encoded};
 ghost use Rattle.hesc_places.specs.Places.Enclosed.{enclosed};
 
 use crate::place::marks::{closing, opening};
-use crate::place::places::Place;
 use hesc_core::forms::Parts;
 use hesc_core::{Sink, run};
+use hesc_grammars::Place;
 use html_escape::Encoder;
 
 /// A text between the marks of a place. Whether the encoder suits the place is the caller's to know.

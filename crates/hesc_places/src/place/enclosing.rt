@@ -8,9 +8,9 @@ ghost use Rattle.hesc_places.specs.Places.Enclosed.{AnswersFirstFault, IsReadAsT
 ghost use Rattle.hesc_places.specs.Places.Suits.{MayHold, suits};
 
 use crate::place::enclosed::Enclosed;
-use crate::place::places::Place;
 use crate::place::suiting::suits;
 use hesc_core::forms::append_parts;
+use hesc_grammars::Place;
 use html_escape::Encoder;
 use std::alloc::{AllocError, Allocator};
 

@@ -1,8 +1,8 @@
 //! The marks between which each place stands.
 ghost use Rattle.std.specs.Prelude.{◌≡◌};
-ghost use Rattle.hesc_places.specs.Places.Marks.{closing, end_byte, opening};
+ghost use Rattle.hesc_places.specs.Places.Marks.{closing, opening};
 
-use crate::place::places::{End, Place};
+use hesc_grammars::{End, Place};
 
 /// The mark after which a place begins.
 pub(crate) fn opening(place: Place) -> &'static str
@@ -33,18 +33,5 @@ pub(crate) fn closing(place: Place) -> &'static str
         Place::UnquotedAttribute(End::Greater) => ">",
         Place::ScriptBody => "</script>",
         Place::StyleBody => "</style>",
-    }
-}
-
-/// The byte of an ending.
-pub(crate) fn end_byte(end: End) -> u8
-    ensures { result ≡ end_byte end }
-{
-    match end {
-        End::Tab => b'\t',
-        End::LineFeed => b'\n',
-        End::FormFeed => b'\x0c',
-        End::Space => b' ',
-        End::Greater => b'>',
     }
 }

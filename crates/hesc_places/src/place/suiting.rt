@@ -2,7 +2,7 @@
 ghost use Rattle.std.specs.Prelude.{◌≡◌};
 ghost use Rattle.hesc_places.specs.Places.Suits.{suits};
 
-use crate::place::places::Place;
+use hesc_grammars::Place;
 use html_escape::Encoder;
 
 /// Whether what the encoder writes for any text can stand in the place.

@@ -1,4 +1,4 @@
-use Rattle.hesc_places.proofs.Grammars.Fronts.{past-strip}
+use Rattle.hesc_places.proofs.Pages.ParserLaws.{past-strip}
 use Rattle.hesc_places.proofs.markup.prefix.past.Goals as goal
 
 pub returns : goal.returns

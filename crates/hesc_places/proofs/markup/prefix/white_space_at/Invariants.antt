@@ -1,6 +1,6 @@
 use Rattle.std.proofs.Common.{◌≡◌, ◌+◌, length}
 use Rattle.std.specs.List.{prefix_len}
-use Rattle.hesc_places.specs.Grammars.Words.{is_white_space}
+use Rattle.hesc_grammars.specs.Words.{is_white_space}
 use Rattle.hesc_places.proofs.markup.prefix.white_space_at.Given as goal
 
 -- so far there was white space alone, and the other is that at the front of the rest

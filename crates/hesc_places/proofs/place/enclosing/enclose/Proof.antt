@@ -6,8 +6,8 @@ use Rattle.html_escape.specs.contracts.encoder.Encoder as encoder
 use Rattle.html_escape.proofs.encoder.Encoder.TheLaws as encoder_laws
 use Rattle.hesc_engine.specs.Forms.{string_row}
 use Rattle.hesc_engine.proofs.HandsOn.{over, turned_lfts}
-use Rattle.hesc_places.specs.contracts.place.places.Place as place
-use Rattle.hesc_places.proofs.place.places.Place.TheLaws as place_laws
+use Rattle.hesc_grammars.specs.contracts.place.Place as place
+use Rattle.hesc_grammars.proofs.place.Place.TheLaws as place_laws
 use Rattle.hesc_places.specs.contracts.place.enclosing.PlaceFault as fault
 use Rattle.hesc_places.proofs.place.enclosing.PlaceFault.TheLaws as fault_laws
 use Rattle.hesc_places.specs.contracts.place.enclosing.enclose as f

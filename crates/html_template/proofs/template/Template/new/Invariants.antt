@@ -1,6 +1,6 @@
 use Rattle.std.proofs.Common.{◌≡◌, ◌++◌, ◌≤◌, ◌-◌, length, map}
-use Rattle.html_template.specs.Tokenizer.Phases.{tokenizer_of}
-use Rattle.html_template.specs.Tokenizer.States.{data_state}
+use Rattle.html_tokenizer.specs.Tokenizer.Phases.{tokenizer_of}
+use Rattle.html_tokenizer.specs.Tokenizer.States.{data_state}
 use Rattle.html_template.specs.TemplateFaults.{fault_from}
 use Rattle.html_template.specs.Templates.{given, kept, part_of, state_after_all}
 use Rattle.html_template.proofs.template.Template.new.Given as goal

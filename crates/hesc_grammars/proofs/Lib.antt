@@ -1,0 +1,11 @@
+pub mod HexEscapes
+pub mod EscapedMarks
+pub mod ReferenceBodies
+pub mod ReferenceImages
+pub mod HtmlPieces
+pub mod KeptCharacters
+pub mod Takes
+pub mod ReadingTurns
+pub mod TextItems
+pub mod ReadTexts
+pub mod ReadBacks

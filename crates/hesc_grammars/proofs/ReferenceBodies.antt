@@ -1,0 +1,58 @@
+-- A reference is read by its body, which goes up to the first `;`.
+use Rattle.std.proofs.Common.{ℕ, zero, suc, ◌≡◌, ◌<◌, ◌+◌, Bool, true, false, not, List, [], ◌∷◌, ◌++◌, ◌==◌, Some, None, length, refl, ap, ◌∙◌, arith, zero-add, add-zero}
+use Rattle.std.specs.List.{list_all, position_from}
+use Rattle.std.specs.Prelude.{slice_index}
+use Rattle.std.proofs.Math.Seq.{take-append_seam}
+use Rattle.std.proofs.lemmas.Bool.{and_parts}
+use Rattle.hesc_specs.specs.Text.Ascii.{semicolon}
+use Rattle.hesc_specs.specs.Text.FirstPlace.{IsFirstPlace}
+use Rattle.hesc_grammars.specs.References.{reference, body_character, character_or_nothing}
+
+-- no byte is a `;`
+abbrev pub HasNoSemicolon : List ℕ → Type 0
+HasNoSemicolon body = list_all (λ b. not (b == semicolon)) body ≡ true
+
+not_true : (b : Bool) → not b ≡ true → b ≡ false
+not_true true h = cc
+not_true false h = refl
+
+-- the first `;` stands after a body that has none
+position_from-body : (body rest : List ℕ) (start : ℕ) → HasNoSemicolon body →
+    position_from (λ b. b == semicolon) start (body ++ semicolon ∷ rest) ≡ Some (start + length body)
+position_from-body [] rest start none = rw (add-zero start) refl
+position_from-body (b ∷ body) rest start none =
+    let parts : (not (b == semicolon) ≡ true) × HasNoSemicolon body =
+    and_parts (not (b == semicolon)) (list_all (λ d. not (d == semicolon)) body) none in
+    rw (not_true (b == semicolon) parts.0, position_from-body body rest (start + 1) parts.1) (ap Some (omega arith))
+
+-- a body without `;` is read whole
+pub reference-body : (body rest : List ℕ) → HasNoSemicolon body →
+    reference (body ++ semicolon ∷ rest) ≡ character_or_nothing (length body + 1) (body_character body)
+reference-body body rest none =
+    rw (position_from-body body rest 0 none, zero-add (length body), take-append_seam body (semicolon ∷ rest)) refl
+
+-- the first place of a byte that passes a test, as a position counted from the front
+found_from : (test : ℕ → Bool) (i : ℕ) (bytes : List ℕ) (n : ℕ) → n < length bytes →
+    ((k : ℕ) → k < n → test (slice_index bytes k) ≡ false) → test (slice_index bytes n) ≡ true →
+    position_from test i bytes ≡ Some (i + n)
+found_from test i [] n within before found = absurd (omega arith)
+found_from test i (b ∷ bytes) zero within before found = rw (found, add-zero i) refl
+found_from test i (b ∷ bytes) (suc n) within before found =
+    rw (before 0 (omega arith))
+    (found_from test (i + 1) bytes n (omega arith) (λ k below. before (suc k) (omega arith)) found ∙ ap Some (omega arith))
+
+absent_from : (test : ℕ → Bool) (i : ℕ) (bytes : List ℕ) →
+    ((k : ℕ) → k < length bytes → test (slice_index bytes k) ≡ false) → position_from test i bytes ≡ None
+absent_from test i [] before = refl
+absent_from test i (b ∷ bytes) before =
+    rw (before 0 (omega arith)) (absent_from test (i + 1) bytes (λ k below. before (suc k) (omega arith)))
+
+pub found_first : (test : ℕ → Bool) (bytes : List ℕ) (place : ℕ) → IsFirstPlace test bytes 0 place → place < length bytes →
+    position_from test 0 bytes ≡ Some place
+found_first test bytes place first within =
+    found_from test 0 bytes place within (λ k below. first.before k (omega arith) below) (first.found within) ∙ ap Some (omega arith)
+
+pub absent_first : (test : ℕ → Bool) (bytes : List ℕ) (place : ℕ) → IsFirstPlace test bytes 0 place → place ≡ length bytes →
+    position_from test 0 bytes ≡ None
+absent_first test bytes place first is_end =
+    absent_from test 0 bytes (λ k below. first.before k (omega arith) (omega arith))

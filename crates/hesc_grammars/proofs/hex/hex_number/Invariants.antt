@@ -1,0 +1,13 @@
+use Rattle.std.proofs.Common.{◌≡◌, ◌<◌, ◌^◌, true, take}
+use Rattle.std.specs.Char.{is_digit}
+use Rattle.std.specs.List.{list_all}
+use Rattle.std.specs.Str.Parse.{digits_value}
+use Rattle.hesc_grammars.proofs.hex.hex_number.Given as goal
+
+-- so far there were digits alone, and the number is theirs
+abbrev pub invariant-loop-digit : goal.invariant-loop-digit
+invariant-loop-digit l = record {
+  number : l.number ≡ digits_value 16 (take l.digit-index l.digits);
+  digits : list_all (λ d. is_digit d 16) (take l.digit-index l.digits) ≡ true;
+  bounded : l.number < 16 ^ l.digit-index;
+}

@@ -1,0 +1,88 @@
+//! The readers of places: what stands in a place, and where it ends.
+ghost use Rattle.std.specs.Prelude.{◌≡◌, ◌<◌, length, IfOk, IfSome};
+ghost use Rattle.std.specs.Option.{option_map};
+ghost use Rattle.std.specs.Str.{IsUtf8};
+ghost use Rattle.hesc_grammars.specs.Places.{end_of, reading};
+
+use crate::step::{Mode, Step, first_mode, step_of};
+use crate::place::Place;
+use std::alloc::{AllocError, Allocator, Global};
+
+/// What stands in a place, and where it ends.
+#[derive(Debug, Drop, PartialEq, Eq)]
+pub struct Reading<A: Allocator = Global> {
+    /// The bytes that were read, each item's value.
+    pub value: Vec<u8, A>,
+    /// The position of the closing mark's first byte after the opening mark.
+    pub end: usize,
+}
+
+/// Reads the bytes after a place's opening mark, up to its closing mark. There is `None` exactly
+/// where the place's grammar has no reading. The bytes need be no UTF-8; where they are, the value is.
+///
+/// In `Place::Text`, `a&lt;b</p>` is read as `a<b`, which ends at byte 6.
+pub fn read_place<A: Allocator>(
+    alloc: A,
+    place: Place,
+    bytes: &[u8],
+) -> Result<Option<Reading<A>>, AllocError>
+    ensures value { IfOk result (λ found. option_map (λ r. (r.value.items, r.end)) found
+        ≡ reading place bytes.now) }
+    ensures within { IfOk result (λ found. IfSome found (λ r. r.end < length bytes.now)) }
+    ensures utf8 { IsUtf8 bytes.now
+        → IfOk result (λ found. IfSome found (λ r. IsUtf8 r.value.items)) }
+{
+    let mut value = Vec::new(alloc);
+    let mut mode = first_mode(place);
+    let mut rest = bytes;
+    'reading: while !rest.is_empty() {
+        match step_of(place, mode, rest) {
+            Step::Close => {
+                let end = bytes.len() - rest.len();
+                return Ok(Some(Reading { value, end }));
+            }
+            Step::Nothing => return Ok(None),
+            Step::Byte(more, byte, next) => {
+                if more >= rest.len() {
+                    return Ok(None);
+                }
+                value.push(byte)?;
+                rest = rest.split_at(more + 1).1;
+                mode = next;
+            }
+            Step::Character(more, character, next) => {
+                if more >= rest.len() {
+                    return Ok(None);
+                }
+                value.extend_from_slice(character.encode_utf8(&mut [0; 4]).as_bytes())?;
+                rest = rest.split_at(more + 1).1;
+                mode = next;
+            }
+        }
+    }
+    Ok(None)
+}
+
+/// The end of that reading, where there is one. It takes no memory, and a time linear in the bytes.
+///
+/// In `Place::Text`, `a&lt;b</p>` ends at byte 6.
+pub fn end_of_place(place: Place, bytes: &[u8]) -> Option<usize>
+    ensures { result ≡ option_map end_of (reading place bytes.now) }
+{
+    let mut mode = first_mode(place);
+    let mut rest = bytes;
+    'reading: while !rest.is_empty() {
+        match step_of(place, mode, rest) {
+            Step::Close => return Some(bytes.len() - rest.len()),
+            Step::Nothing => return None,
+            Step::Byte(more, _, next) | Step::Character(more, _, next) => {
+                if more >= rest.len() {
+                    return None;
+                }
+                rest = rest.split_at(more + 1).1;
+                mode = next;
+            }
+        }
+    }
+    None
+}

@@ -1,0 +1,121 @@
+//! Whether texts fill the slots of a template.
+ghost use Rattle.std.specs.Prelude.{◌≡◌, ◌↔◌, map, IsTrue, OnOk};
+ghost use Rattle.std.specs.List.{AllByRecursion};
+ghost use Rattle.std.specs.Result.{result_err};
+ghost use Rattle.std.specs.Str.{IsUtf8};
+ghost use Rattle.html_template.specs.FillFaults.{fill_fault, has_unquoted, may_fill, slot_count};
+ghost use Rattle.html_template.specs.Templates.{Fill, MayFill, kept, texts_of};
+
+use crate::faults::FillFault;
+use crate::parts::Piece;
+use html_tokenizer::SlotPlace;
+
+// Whether the text may fill a slot at this place.
+fn may_fill(place: SlotPlace, text: &str) -> bool
+    ensures may { IsTrue result ↔ MayFill place text.now }
+    ensures test { result ≡ may_fill place text.now }
+{
+    place != SlotPlace::Unquoted || !text.is_empty()
+}
+
+/// What is known of pieces before there are texts.
+#[derive(Clone, Copy)]
+pub(crate) struct Summary {
+    slots: usize,
+    has_unquoted: bool,
+    // The length of all markup.
+    markup: usize,
+}
+
+impl Summary {
+    /// The summary of these pieces.
+    pub(crate) fn of(pieces: &[Piece]) -> Summary
+        ensures slots { result.slots ≡ slot_count (map kept pieces.now) }
+        ensures unquoted { result.has_unquoted ≡ has_unquoted (map kept pieces.now) }
+    {
+        let mut slots: usize = 0;
+        let mut has_unquoted = false;
+        let mut markup: usize = 0;
+        let mut rest = pieces;
+        'pieces: while let [piece, others @ ..] = rest {
+            rest = others;
+            match *piece {
+                Piece::Markup(text) => markup = markup.saturating_add(text.len()),
+                Piece::Slot(place) => {
+                    slots += 1;
+                    has_unquoted = has_unquoted || place == SlotPlace::Unquoted;
+                }
+            }
+        }
+        Summary {
+            slots,
+            has_unquoted,
+            markup,
+        }
+    }
+}
+
+/// The lengths of the markup and the texts together, if the texts fill the slots of these pieces.
+#[inline(always)]
+pub(crate) fn check(pieces: &[Piece], summary: Summary, texts: &[&str]) -> Result<usize, FillFault>
+    requires slots { summary.slots ≡ slot_count (map kept pieces.now) }
+    requires unquoted { summary.has_unquoted ≡ has_unquoted (map kept pieces.now) }
+    ensures full { OnOk result (Fill (map kept pieces.now) (texts_of texts.now)) }
+    ensures utf8 { OnOk result (AllByRecursion IsUtf8 (texts_of texts.now)) }
+    ensures faults { result_err result
+        ≡ fill_fault 0 (map kept pieces.now) (texts_of texts.now) }
+{
+    let sum = summary.markup.saturating_add(total_length(texts));
+    if !summary.has_unquoted && texts.len() == summary.slots {
+        return Ok(sum);
+    }
+    check_each(pieces, texts)?;
+    Ok(sum)
+}
+
+fn total_length(texts: &[&str]) -> usize
+    ensures { AllByRecursion IsUtf8 (texts_of texts.now) }
+{
+    let mut sum: usize = 0;
+    let mut left = texts;
+    'texts: while let [text, more @ ..] = left {
+        sum = sum.saturating_add(length_of(*text));
+        left = more;
+    }
+    sum
+}
+
+// A `str` is UTF-8.
+fn length_of(text: &str) -> usize
+    ensures { IsUtf8 text.now }
+{
+    text.len()
+}
+
+// Whether the texts fill the slots, slot by slot.
+fn check_each(pieces: &[Piece], texts: &[&str]) -> Result<(), FillFault>
+    ensures full { OnOk result (Fill (map kept pieces.now) (texts_of texts.now)) }
+    ensures faults { result_err result
+        ≡ fill_fault 0 (map kept pieces.now) (texts_of texts.now) }
+{
+    let mut rest = pieces;
+    let mut left = texts;
+    'pieces: while let [piece, others @ ..] = rest {
+        rest = others;
+        let Piece::Slot(place) = *piece else {
+            continue 'pieces;
+        };
+        let [text, more @ ..] = left else {
+            return Err(FillFault::WrongCount);
+        };
+        if !may_fill(place, *text) {
+            return Err(FillFault::EmptyUnquoted(texts.len() - left.len()));
+        }
+        left = more;
+    }
+    if left.is_empty() {
+        Ok(())
+    } else {
+        Err(FillFault::WrongCount)
+    }
+}

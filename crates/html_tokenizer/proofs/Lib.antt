@@ -1,0 +1,4 @@
+pub mod HeldWords
+pub mod Passing
+pub mod Slots
+pub mod Agreement

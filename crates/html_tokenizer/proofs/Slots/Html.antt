@@ -1,0 +1,208 @@
+-- What an HTML encoder writes stays in the value, and is read as the text.
+use Rattle.std.proofs.Common.{ℕ, ◌≡◌, ◌≢◌, ◌<◌, Bool, true, false, not, List, [], ◌∷◌, ◌++◌, ◌==◌, Some, length, flat_map, map, encode_utf8, refl, subst, sym, ◌∙◌, ⊎_elim, append_assoc, append-nil, ne_eqb}
+use Rattle.std.specs.List.{list_all}
+use Rattle.std.proofs.lemmas.Bool.{cases_Bool, and_parts}
+use Rattle.std.proofs.lemmas.Str.{encode_ascii}
+use Rattle.std.proofs.lemmas.List.{map-append}
+use Rattle.hesc_specs.specs.Text.Ascii.{tab, line_feed, form_feed, carriage_return, space, double_quote, ampersand, single_quote, semicolon, less_than, equals_sign, greater_than, backtick}
+use Rattle.hesc_specs.specs.Text.Classes.{in_class, IsHtml}
+use Rattle.hesc_specs.specs.Html.{encoding, image, reference_to}
+use Rattle.hesc_specs.specs.Text.Nul.{nul, nul_image}
+use Rattle.hesc_specs.specs.declared.classes.Class.{Class}
+use Rattle.hesc_specs.specs.declared.classes.Class.TheVariants as class
+use Rattle.hesc_specs.proofs.Html.Images.{in_class_is_ascii, kept_is_other}
+use Rattle.hesc_grammars.specs.References.{body_character}
+use Rattle.hesc_grammars.proofs.HtmlPieces.{read_image}
+use Rattle.hesc_grammars.proofs.ReadBacks.{read_back-text, read_back-nul}
+use Rattle.hesc_grammars.proofs.ReferenceBodies.{HasNoSemicolon}
+use Rattle.hesc_grammars.proofs.ReferenceImages.{IsRead, reference_to_is_read, body_to, character_to}
+use Rattle.html_tokenizer.specs.declared.slot_place.SlotPlace.{SlotPlace}
+use Rattle.html_tokenizer.specs.declared.slot_place.SlotPlace.TheVariants as place
+use Rattle.html_tokenizer.specs.declared.states.Content.{Content}
+use Rattle.html_tokenizer.specs.Tokenizer.Actions.{read_byte}
+use Rattle.html_tokenizer.specs.Tokenizer.States.{State, In, Within, BeforeValue, Ordinary, at}
+use Rattle.html_tokenizer.specs.Tokenizer.Tokenization.{consume}
+use Rattle.html_tokenizer.specs.Tokenizer.Transitions.{goes, keeps}
+use Rattle.html_tokenizer.specs.Tokenizer.Values.{reference_byte}
+use Rattle.html_tokenizer.proofs.Passing.{Passes, passes_none, passes_both, passes_byte, passes_one}
+
+-- in the state a value begins or goes on that has references, and each byte outside of the class is kept
+pub record ReadsHtml (state : State) (p : SlotPlace) (content : Content) (class : Class) : Type 0 where
+  pub html : IsHtml class
+  pub references : consume (at state content) ampersand ≡ goes (Within p []) content []
+  pub within : (word : List ℕ) (b : ℕ) → consume (at (Within p word) content) b ≡ reference_byte p content Ordinary word b
+  pub others : (b : ℕ) → in_class class b ≡ false → consume (at state content) b ≡ keeps p content Ordinary b
+
+not_true : (b : Bool) → not b ≡ true → b ≡ false
+not_true true h = cc
+not_true false h = refl
+
+-- the body of a reference is read on
+passes_body : {state : State} {p : SlotPlace} {content : Content} {class : Class} → ReadsHtml state p content class →
+    (word body : List ℕ) → HasNoSemicolon body →
+    Passes (at (Within p word) content) body [] (at (Within p (word ++ body)) content)
+passes_body {p = p} {content} reads word [] none = rw (append-nil word) passes_none
+passes_body {p = p} {content} reads word (b ∷ body) none =
+    let parts = and_parts (not (b == semicolon)) (list_all (λ d. not (d == semicolon)) body) none in
+    let is : consume (at (Within p word) content) b ≡ goes (Within p (word ++ b ∷ [])) content [] =
+    reads.within word b ∙ rw (not_true (b == semicolon) parts.0) refl in
+    rw (sym (append_assoc word (b ∷ []) body)) (passes_byte is (passes_body reads (word ++ b ∷ []) body parts.1))
+
+encode_utf8-character_to : (b : ℕ) → b < 128 → encode_utf8 (character_to b) ≡ nul_image b
+encode_utf8-character_to b small =
+    ⊎_elim
+    (λ (is_nul : (b == 0) ≡ true). rw is_nul refl)
+    (λ (other : (b == 0) ≡ false). rw other (encode_ascii b small))
+    (cases_Bool (b == 0))
+
+-- a reference whose body stands for a character
+pub passes_character : {state : State} {p : SlotPlace} {content : Content} {class : Class} → ReadsHtml state p content class →
+    (body : List ℕ) (c : ℕ) → HasNoSemicolon body → body_character body ≡ Some c →
+    Passes (at state content) (ampersand ∷ (body ++ semicolon ∷ [])) (map (read_byte p) (encode_utf8 c)) (at (In p) content)
+passes_character {p = p} {content} reads body c none is =
+    let ends : consume (at (Within p body) content) semicolon ≡ goes (In p) content (map (read_byte p) (encode_utf8 c)) =
+    reads.within body semicolon ∙ rw is refl in
+    passes_byte reads.references
+    (passes_both (passes_body reads [] body none) (passes_one (map (read_byte p) (encode_utf8 c)) ends))
+
+passes_reference : {state : State} {p : SlotPlace} {content : Content} {class : Class} → ReadsHtml state p content class →
+    (b : ℕ) → b < 128 → Passes (at state content) (reference_to b) (map (read_byte p) (nul_image b)) (at (In p) content)
+passes_reference reads b small =
+    let is : IsRead b = reference_to_is_read b small in
+    rw (is.parts, ← encode_utf8-character_to b small) (passes_character reads (body_to b) (character_to b) is.whole is.character)
+
+passes_image : {state : State} {p : SlotPlace} {content : Content} {class : Class} → ReadsHtml state p content class →
+    (b : ℕ) → Passes (at state content) (image class b) (map (read_byte p) (read_image class b)) (at (In p) content)
+passes_image {p = p} {content} {class} reads b =
+    ⊎_elim
+    (λ (replaced : in_class class b ≡ true).
+    rw replaced (passes_reference reads b (in_class_is_ascii class b reads.html replaced)))
+    (λ (kept : in_class class b ≡ false). rw kept (passes_byte (reads.others b kept) passes_none))
+    (cases_Bool (in_class class b))
+
+passes_encoding : {p : SlotPlace} {content : Content} {class : Class} → ReadsHtml (In p) p content class →
+    (text : List ℕ) → Passes (at (In p) content) (encoding class text) (map (read_byte p) (flat_map (read_image class) text)) (at (In p) content)
+passes_encoding reads [] = passes_none
+passes_encoding {p} {content} {class} reads (b ∷ text) =
+    rw (map-append (read_byte p) (read_image class b) (flat_map (read_image class) text))
+    (passes_both (passes_image reads b) (passes_encoding reads text))
+
+-- a byte that the encoder keeps is none that it replaces
+differs : (class : Class) (b : ℕ) → in_class class b ≡ false →
+    (c : ℕ) → in_class class c ≡ true → (b == c) ≡ false
+differs class b kept c replaced = ne_eqb b c (kept_is_other class b c kept replaced)
+
+pub text_reads : (content : Content) → ReadsHtml (In place.Text) place.Text content class.Text
+unfolding consume
+text_reads content = record {
+  html = refl;
+  references = refl;
+  within = λ word b. refl;
+  others = λ b kept. rw (differs class.Text b kept less_than refl, differs class.Text b kept ampersand refl) refl;
+}
+
+pub double_reads : (content : Content) → ReadsHtml (In place.DoubleQuoted) place.DoubleQuoted content class.DoubleQuotedAttribute
+unfolding consume
+double_reads content = record {
+  html = refl;
+  references = refl;
+  within = λ word b. refl;
+  others = λ b kept.
+      rw (differs class.DoubleQuotedAttribute b kept double_quote refl, differs class.DoubleQuotedAttribute b kept ampersand refl) refl;
+}
+
+pub single_reads : (content : Content) → ReadsHtml (In place.SingleQuoted) place.SingleQuoted content class.SingleQuotedAttribute
+unfolding consume
+single_reads content = record {
+  html = refl;
+  references = refl;
+  within = λ word b. refl;
+  others = λ b kept.
+      rw (differs class.SingleQuotedAttribute b kept single_quote refl, differs class.SingleQuotedAttribute b kept ampersand refl) refl;
+}
+
+pub unquoted_reads : (content : Content) → ReadsHtml (In place.Unquoted) place.Unquoted content class.UnquotedAttribute
+unfolding consume
+unquoted_reads content = record {
+  html = refl;
+  references = refl;
+  within = λ word b. refl;
+  others = λ b kept.
+      let no : (c : ℕ) → in_class class.UnquotedAttribute c ≡ true → (b == c) ≡ false = differs class.UnquotedAttribute b kept in
+      rw (
+        no tab refl,
+        no line_feed refl,
+        no form_feed refl,
+        no carriage_return refl,
+        no space refl,
+        no greater_than refl,
+        no ampersand refl,
+        no double_quote refl,
+        no single_quote refl,
+        no less_than refl,
+        no equals_sign refl,
+        no backtick refl,
+      ) refl;
+}
+
+pub first_reads : (content : Content) → ReadsHtml BeforeValue place.Unquoted content class.UnquotedAttribute
+unfolding consume
+first_reads content = record {
+  html = refl;
+  references = refl;
+  within = λ word b. refl;
+  others = λ b kept.
+      let no : (c : ℕ) → in_class class.UnquotedAttribute c ≡ true → (b == c) ≡ false = differs class.UnquotedAttribute b kept in
+      rw (
+        no tab refl,
+        no line_feed refl,
+        no form_feed refl,
+        no carriage_return refl,
+        no space refl,
+        no greater_than refl,
+        no ampersand refl,
+        no double_quote refl,
+        no single_quote refl,
+        no less_than refl,
+        no equals_sign refl,
+        no backtick refl,
+      ) refl;
+}
+
+abbrev pub Stays : SlotPlace → State → Content → List ℕ → List ℕ → Type 0
+Stays p state content bytes text = Passes (at state content) bytes (map (read_byte p) text) (at (In p) content)
+
+pub text_stays : (content : Content) (text : List ℕ) → Stays place.Text (In place.Text) content (encoding class.Text text) text
+text_stays content text = subst (Stays place.Text (In place.Text) content (encoding class.Text text)) (read_back-text class.Text refl text) (passes_encoding (text_reads content) text)
+
+pub double_stays : (content : Content) (text : List ℕ) →
+    Stays place.DoubleQuoted (In place.DoubleQuoted) content (encoding class.DoubleQuotedAttribute text) text
+double_stays content text =
+    subst (Stays place.DoubleQuoted (In place.DoubleQuoted) content (encoding class.DoubleQuotedAttribute text))
+    (read_back-text class.DoubleQuotedAttribute refl text) (passes_encoding (double_reads content) text)
+
+pub single_stays : (content : Content) (text : List ℕ) →
+    Stays place.SingleQuoted (In place.SingleQuoted) content (encoding class.SingleQuotedAttribute text) text
+single_stays content text =
+    subst (Stays place.SingleQuoted (In place.SingleQuoted) content (encoding class.SingleQuotedAttribute text))
+    (read_back-text class.SingleQuotedAttribute refl text) (passes_encoding (single_reads content) text)
+
+pub unquoted_stays : (content : Content) (text : List ℕ) →
+    Stays place.Unquoted (In place.Unquoted) content (encoding class.UnquotedAttribute text) (nul text)
+unquoted_stays content text =
+    subst (Stays place.Unquoted (In place.Unquoted) content (encoding class.UnquotedAttribute text))
+    (read_back-nul class.UnquotedAttribute refl text) (passes_encoding (unquoted_reads content) text)
+
+-- behind `=` the first image begins the value
+passes_first : (content : Content) (text : List ℕ) → length text ≢ 0 →
+    Passes (at BeforeValue content) (encoding class.UnquotedAttribute text) (map (read_byte place.Unquoted) (flat_map (read_image class.UnquotedAttribute) text)) (at (In place.Unquoted) content)
+passes_first content [] full = absurd (full refl)
+passes_first content (b ∷ text) full =
+    rw (map-append (read_byte place.Unquoted) (read_image class.UnquotedAttribute b) (flat_map (read_image class.UnquotedAttribute) text))
+    (passes_both (passes_image (first_reads content) b) (passes_encoding (unquoted_reads content) text))
+
+pub first_stays : (content : Content) (text : List ℕ) → length text ≢ 0 →
+    Stays place.Unquoted BeforeValue content (encoding class.UnquotedAttribute text) (nul text)
+first_stays content text full =
+    subst (Stays place.Unquoted BeforeValue content (encoding class.UnquotedAttribute text))
+    (read_back-nul class.UnquotedAttribute refl text) (passes_first content text full)

@@ -1,0 +1,80 @@
+-- The tokenizer beside the readings of the places in hesc_grammars.
+use Rattle.std.specs.Prelude.{◌≡◌, ◌⊎◌, ℕ, Bool, true, ◌||◌, List, [], ◌∷◌, ◌++◌, Some, bytes_eq, codes, length, map}
+use Rattle.hesc_specs.specs.Text.Ascii.{carriage_return}
+use Rattle.hesc_grammars.specs.Places.{end_byte}
+use Rattle.hesc_grammars.specs.Places.{reading}
+use Rattle.hesc_grammars.specs.declared.place.End.{End}
+use Rattle.hesc_grammars.specs.declared.place.Place.{Place}
+use Rattle.hesc_grammars.specs.declared.place.Place.TheVariants.{UnquotedAttribute}
+use Rattle.html_tokenizer.specs.declared.slot_place.SlotPlace.{SlotPlace}
+use Rattle.html_tokenizer.specs.declared.slot_place.SlotPlace.TheVariants.{Unquoted}
+use Rattle.html_tokenizer.specs.declared.states.Code.TheVariants.{Plain}
+use Rattle.html_tokenizer.specs.declared.states.Content.{Content}
+use Rattle.html_tokenizer.specs.Tokenizer.Actions.{StringEnd, read_byte}
+use Rattle.html_tokenizer.specs.Tokenizer.States.{In, BeforeValue, InCode, at, refused}
+use Rattle.html_tokenizer.specs.Tokenizer.Tokenization.{state_after, actions_of}
+
+-- up to the mark at which a place's reading ends, the tokenizer stays in the value, and its actions
+-- are at the value that the place's reading found
+pub record Agrees (p : SlotPlace) (content : Content) (mark : ℕ) (bytes : List ℕ) (found : List ℕ × ℕ) : Type 0 where
+  pub front : List ℕ
+  pub rest : List ℕ
+  pub parts : bytes ≡ front ++ mark ∷ rest
+  pub end : length front ≡ found.1
+  pub after : state_after (at (In p) content) front ≡ at (In p) content
+  pub actions : actions_of (at (In p) content) front ≡ map (read_byte p) found.0
+
+-- wherever the place has a reading, the two agree
+abbrev pub AgreesWith : SlotPlace → Content → Place → ℕ → List ℕ → Type 0
+AgreesWith p content place mark bytes =
+    (found : List ℕ × ℕ) → reading place bytes ≡ Some found → Agrees p content mark bytes found
+
+-- the bytes before the mark at which a reading ends, where these and the reading's value are related so
+pub record Ends (Read : List ℕ → List ℕ → Type 0) (mark : ℕ) (bytes : List ℕ) (found : List ℕ × ℕ) : Type 0 where
+  pub front : List ℕ
+  pub rest : List ℕ
+  pub parts : bytes ≡ front ++ mark ∷ rest
+  pub end : length front ≡ found.1
+  pub read : Read front found.0
+
+-- from the `=` on the tokenizer goes into a value without quotes and stays there, and its actions are at the value
+pub record StaysUnquoted (content : Content) (front value : List ℕ) : Type 0 where
+  pub after : state_after (at BeforeValue content) front ≡ at (In Unquoted) content
+  pub actions : actions_of (at BeforeValue content) front ≡ map (read_byte Unquoted) value
+
+-- a carriage return stands in the bytes
+pub record HasReturn (bytes : List ℕ) : Type 0 where
+  pub before : List ℕ
+  pub behind : List ℕ
+  pub parts : bytes ≡ before ++ carriage_return ∷ behind
+
+-- wherever a value without quotes has a reading, the two agree up to its end, unless a carriage return
+-- stands in it: there the tokenizer does what it does at a line feed, which ends the value
+abbrev pub AgreesUnquoted : Content → End → List ℕ → Type 0
+AgreesUnquoted content end bytes =
+    (found : List ℕ × ℕ) → reading (UnquotedAttribute end) bytes ≡ Some found →
+    Ends (λ front value. StaysUnquoted content front value ⊎ HasReturn front) (end_byte end) bytes found
+
+-- at the bytes of a string and the mark behind them the tokenizer's actions are at the value, and it leaves the string
+pub record LeavesString (p : SlotPlace) (content : Content) (mark : ℕ) (front value : List ℕ) : Type 0 where
+  pub after : state_after (at (In p) content) (front ++ mark ∷ []) ≡ at (InCode Plain) content
+  pub actions : actions_of (at (In p) content) (front ++ mark ∷ []) ≡ map (read_byte p) value ++ StringEnd ∷ []
+
+-- `</` and `<!`, which the HTML around a string could read, and a `<` in an escape of a style
+abbrev pub could_be_markup : List ℕ → Bool
+could_be_markup word = bytes_eq word (codes "</") || bytes_eq word (codes "<!") || bytes_eq word (codes "\\<")
+
+-- the tokenizer refuses a string, in which such a word stands
+pub record RefusesString (p : SlotPlace) (content : Content) (front : List ℕ) : Type 0 where
+  pub after : state_after (at (In p) content) front ≡ refused
+  pub before : List ℕ
+  pub word : List ℕ
+  pub behind : List ℕ
+  pub parts : front ≡ before ++ (word ++ behind)
+  pub markup : could_be_markup word ≡ true
+
+-- wherever a string has a reading, the two agree, or the tokenizer refuses it
+abbrev pub AgreesInString : SlotPlace → Content → Place → ℕ → List ℕ → Type 0
+AgreesInString p content place mark bytes =
+    (found : List ℕ × ℕ) → reading place bytes ≡ Some found →
+    Ends (λ front value. LeavesString p content mark front value ⊎ RefusesString p content front) mark bytes found

@@ -1,0 +1,4 @@
+pub mod Tokenizer
+pub mod Standing
+pub mod Tokens
+pub mod Agreement

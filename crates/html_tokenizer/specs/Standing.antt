@@ -1,0 +1,74 @@
+-- Where a slot stands in what was read, and where a page may end.
+use Rattle.std.specs.Prelude.{◌≡◌, ⊤, Bool, true, false, ◌&&◌, if◌then◌else◌}
+use Rattle.html_tokenizer.specs.declared.reader.Standing.{Standing}
+use Rattle.html_tokenizer.specs.declared.reader.Standing.TheVariants.{Stands, Nowhere, Barred}
+use Rattle.html_tokenizer.specs.declared.slot_place.SlotPlace.{SlotPlace}
+use Rattle.html_tokenizer.specs.declared.slot_place.SlotPlace.TheVariants.{Text, DoubleQuoted, SingleQuoted, Unquoted, ScriptSingle, ScriptDouble, StyleSingle, StyleDouble}
+use Rattle.html_tokenizer.specs.declared.states.Content.{Content}
+use Rattle.html_tokenizer.specs.declared.states.Content.TheVariants as content
+use Rattle.html_tokenizer.specs.Tokenizer.States as state
+use Rattle.html_tokenizer.specs.Tokenizer.States.{State, Attribute, Tokenizer, at, refused}
+
+-- a slot in the value of an attribute, if its text would mean itself
+abbrev pub unless_forbidden : Attribute → SlotPlace → Standing
+unless_forbidden state.Ordinary p = Stands p
+unless_forbidden other p = Barred
+
+-- a slot in the code of a script is nowhere, and in a data block in a second language
+abbrev pub in_code : Content → Standing
+in_code content.DataBlock = Barred
+in_code other = Nowhere
+
+-- where a slot stands: within a value, or where a value without quotes may begin
+abbrev pub standing_in : State → Content → Attribute → Standing
+standing_in (state.In p) content attribute = unless_forbidden attribute p
+standing_in state.BeforeValue content attribute = unless_forbidden attribute Unquoted
+standing_in (state.InCode kind) content attribute = in_code content
+standing_in other content attribute = Nowhere
+
+abbrev pub standing : Tokenizer → Standing
+standing t = standing_in t.state t.content t.attribute
+
+abbrev pub is_same : SlotPlace → SlotPlace → Bool
+is_same Text Text = true
+is_same DoubleQuoted DoubleQuoted = true
+is_same SingleQuoted SingleQuoted = true
+is_same Unquoted Unquoted = true
+is_same ScriptSingle ScriptSingle = true
+is_same ScriptDouble ScriptDouble = true
+is_same StyleSingle StyleSingle = true
+is_same StyleDouble StyleDouble = true
+is_same other another = false
+
+abbrev pub stands : SlotPlace → Standing → Bool
+stands p (Stands q) = is_same p q
+stands p other = false
+
+-- the tokenizer behind a slot at this place, by the template alone
+abbrev pub state_after_slot : SlotPlace → Tokenizer → Tokenizer
+state_after_slot p t = if stands p (standing t) then at (state.In p) t.content else refused
+
+-- where the tokenizer goes at a slot
+abbrev pub AfterStanding : Standing → Tokenizer → Tokenizer → Type 0
+AfterStanding (Stands p) old new = new ≡ state_after_slot p old
+AfterStanding other old new = ⊤
+
+abbrev pub is_refused : State → Bool
+is_refused state.Refused = true
+is_refused other = false
+
+abbrev pub is_normal : Content → Bool
+is_normal content.Normal = true
+is_normal other = false
+
+abbrev pub is_ordinary : Attribute → Bool
+is_ordinary state.Ordinary = true
+is_ordinary other = false
+
+-- a page may end here
+abbrev pub may_end_in : State → Content → Attribute → Bool
+may_end_in (state.In Text) content attribute = is_normal content && is_ordinary attribute
+may_end_in other content attribute = false
+
+abbrev pub may_end : Tokenizer → Bool
+may_end t = may_end_in t.state t.content t.attribute

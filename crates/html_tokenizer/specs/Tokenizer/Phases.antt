@@ -1,0 +1,72 @@
+-- The states of the running tokenizer, as those of the definitions.
+use Rattle.std.specs.Prelude.{⊤, ℕ, List, [], ◌∷◌, ◌++◌}
+use Rattle.html_tokenizer.specs.declared.slot_place.SlotPlace.TheVariants as place
+use Rattle.html_tokenizer.specs.declared.reader.Reader.{Reader}
+use Rattle.html_tokenizer.specs.declared.states.Kind.{Kind}
+use Rattle.html_tokenizer.specs.declared.states.Kind.TheVariants as kind
+use Rattle.html_tokenizer.specs.declared.states.Move.{Move}
+use Rattle.html_tokenizer.specs.declared.states.Phase.{Phase}
+use Rattle.html_tokenizer.specs.declared.states.Phase.TheVariants as phase
+use Rattle.html_tokenizer.specs.declared.states.Word.{Word}
+use Rattle.html_tokenizer.specs.declared.states.Word.TheVariants.{New, Keep, Begin, Add}
+use Rattle.html_tokenizer.specs.Tokenizer.States as state
+use Rattle.html_tokenizer.specs.Tokenizer.States.{State, Attribute, Tokenizer, at_value}
+
+abbrev pub state_of : Phase → List ℕ → State
+state_of (phase.In p) word = state.In p
+state_of (phase.Within p) word = state.Within p word
+state_of (phase.StringLess p) word = state.StringLess p
+state_of phase.TagOpen word = state.TagOpen
+state_of phase.EndTagOpen word = state.EndTagOpen
+state_of phase.TagName word = state.TagName word
+state_of phase.EndTagName word = state.EndTagName word
+state_of phase.AfterEndTagName word = state.AfterEndTagName
+state_of phase.BeforeName word = state.BeforeName
+state_of phase.Name word = state.Name word
+state_of phase.AfterName word = state.AfterName word
+state_of phase.BeforeValue word = state.BeforeValue
+state_of phase.AfterValue word = state.AfterValue
+state_of phase.SelfClosing word = state.SelfClosing
+state_of (phase.InCode code) word = state.InCode code
+state_of (phase.CodeLess code) word = state.CodeLess code
+state_of phase.Declaration word = state.Declaration word
+state_of phase.BeforeDoctype word = state.BeforeDoctype
+state_of phase.Doctype word = state.Doctype word
+state_of phase.AfterDoctype word = state.AfterDoctype
+state_of phase.CommentStart word = state.CommentStart
+state_of phase.CommentStartDash word = state.CommentStartDash
+state_of phase.Comment word = state.Comment
+state_of phase.CommentDash word = state.CommentDash
+state_of phase.CommentEnd word = state.CommentEnd
+state_of phase.Refused word = state.Refused
+
+abbrev pub attribute_in : Kind → List ℕ → Attribute
+attribute_in kind.Ordinary word = state.Ordinary
+attribute_in kind.Forbidden word = state.Forbidden
+attribute_in kind.Scheme word = state.Scheme word
+attribute_in kind.AfterScheme word = state.AfterScheme
+attribute_in kind.AfterSlash word = state.AfterSlash
+attribute_in kind.AfterSlashes word = state.AfterSlashes
+attribute_in kind.Host word = state.Host
+attribute_in kind.ScriptType word = state.ScriptType word
+
+abbrev pub word_after : Word → List ℕ → List ℕ
+word_after New word = []
+word_after Keep word = word
+word_after (Begin b) word = b ∷ []
+word_after (Add b) word = word ++ b ∷ []
+
+-- where a tokenizer that holds the word goes
+abbrev pub moved : Move → List ℕ → Tokenizer
+moved m word =
+    at_value (state_of m.phase (word_after m.word word)) m.content (attribute_in m.kind (word_after m.word word))
+
+-- where the running tokenizer is
+abbrev pub tokenizer_of : {A : Type 0} → Reader A → Tokenizer
+tokenizer_of reader = at_value (state_of reader.phase reader.word.items) reader.content (attribute_in reader.kind reader.word.items)
+
+-- the tokenizer is not within an escape of a script's string
+abbrev pub IsNoScriptEscape : Phase → Type 0
+IsNoScriptEscape (phase.Within place.ScriptSingle) = ⊥
+IsNoScriptEscape (phase.Within place.ScriptDouble) = ⊥
+IsNoScriptEscape other = ⊤

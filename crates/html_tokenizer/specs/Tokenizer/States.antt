@@ -1,0 +1,89 @@
+-- The states of the tokenizer.
+-- HTML Standard, 13.2.5 Tokenization, by its states; a state for the code of scripts and styles and
+-- for their strings; and what the value of an attribute means. A state holds what was read and is
+-- not decided yet, so that no byte is looked at before its turn.
+use Rattle.std.specs.Prelude.{ℕ, List}
+use Rattle.html_tokenizer.specs.declared.slot_place.SlotPlace.{SlotPlace}
+use Rattle.html_tokenizer.specs.declared.slot_place.SlotPlace.TheVariants as place
+use Rattle.html_tokenizer.specs.declared.states.Content.{Content}
+use Rattle.html_tokenizer.specs.declared.states.Content.TheVariants.{Normal}
+use Rattle.html_tokenizer.specs.declared.states.Code.{Code}
+
+pub data State : Type 0 where
+  -- 13.2.5.1 Data state, 13.2.5.2 RCDATA state, 13.2.5.36 to 13.2.5.38 Attribute value states; a string's value
+  In : SlotPlace → State
+  -- 13.2.5.72 Character reference state, which returns there; an escape of a string; and its bytes so far
+  Within : SlotPlace → List ℕ → State
+  -- a `<` in a string
+  StringLess : SlotPlace → State
+  -- 13.2.5.6 Tag open state, 13.2.5.9 RCDATA less-than sign state
+  TagOpen : State
+  -- 13.2.5.7 End tag open state, 13.2.5.10, 13.2.5.13 and 13.2.5.16 the same in title, style and script
+  EndTagOpen : State
+  -- 13.2.5.8 Tag name state of a start tag, and the name so far in lower case
+  TagName : List ℕ → State
+  -- the same of an end tag, and 13.2.5.11, 13.2.5.14 and 13.2.5.17
+  EndTagName : List ℕ → State
+  -- 13.2.5.32 Before attribute name state of an end tag, which has no attributes here
+  AfterEndTagName : State
+  -- 13.2.5.32 Before attribute name state, 13.2.5.33 Attribute name state, 13.2.5.34 After attribute name state, and the name so far
+  BeforeName : State
+  Name : List ℕ → State
+  AfterName : List ℕ → State
+  -- 13.2.5.35 Before attribute value state
+  BeforeValue : State
+  -- 13.2.5.39 After attribute value (quoted) state, 13.2.5.40 Self-closing start tag state
+  AfterValue : State
+  SelfClosing : State
+  -- 13.2.5.3 RAWTEXT state, 13.2.5.4 Script data state
+  InCode : Code → State
+  -- 13.2.5.12 RAWTEXT less-than sign state, 13.2.5.15 Script data less-than sign state
+  CodeLess : Code → State
+  -- 13.2.5.42 Markup declaration open state, and what was read in it
+  Declaration : List ℕ → State
+  -- 13.2.5.53 DOCTYPE state and 13.2.5.54 Before DOCTYPE name state, 13.2.5.55 DOCTYPE name state, 13.2.5.56 After DOCTYPE name state
+  BeforeDoctype : State
+  Doctype : List ℕ → State
+  AfterDoctype : State
+  -- 13.2.5.43 Comment start state, 13.2.5.44 Comment start dash state, 13.2.5.45 Comment state, 13.2.5.50 Comment end dash state, 13.2.5.51 Comment end state
+  CommentStart : State
+  CommentStartDash : State
+  Comment : State
+  CommentDash : State
+  CommentEnd : State
+  -- this profile has no reading
+  Refused : State
+
+-- what a text in the value of the attribute would mean
+pub data Attribute : Type 0 where
+  -- itself
+  Ordinary : Attribute
+  -- code, a style, a page, or a URL of a scheme that cannot be told
+  Forbidden : Attribute
+  -- URL Standard, 4.4, scheme state: a URL, and its bytes so far
+  Scheme : List ℕ → Attribute
+  -- behind `http:` or `https:`, behind the first `/`, behind the second, and in the host
+  AfterScheme : Attribute
+  AfterSlash : Attribute
+  AfterSlashes : Attribute
+  Host : Attribute
+  -- the type of a script, and its bytes so far
+  ScriptType : List ℕ → Attribute
+
+pub record Tokenizer : Type 0 where
+  pub state : State
+  pub content : Content
+  pub attribute : Attribute
+
+abbrev pub at : State → Content → Tokenizer
+at state content = record { state = state; content = content; attribute = Ordinary }
+
+abbrev pub at_value : State → Content → Attribute → Tokenizer
+at_value state content attribute = record { state = state; content = content; attribute = attribute }
+
+abbrev pub refused : Tokenizer
+refused = at Refused Normal
+
+-- where a page begins and ends
+abbrev pub data_state : Tokenizer
+data_state = at (In place.Text) Normal

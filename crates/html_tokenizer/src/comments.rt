@@ -1,0 +1,141 @@
+//! What a byte does in a comment and in a DOCTYPE.
+ghost use Rattle.std.specs.Prelude.{◌≡◌, ℕ, List};
+ghost use Rattle.html_tokenizer.specs.Tokenizer.Comments.{
+  after_doctype_byte,
+  before_doctype_byte,
+  comment_byte,
+  comment_dash_byte,
+  comment_end_byte,
+  comment_start_byte,
+  comment_start_dash_byte,
+  declaration_byte,
+  doctype_byte,
+};
+ghost use Rattle.html_tokenizer.specs.Tokenizer.Phases.{moved};
+ghost use Rattle.html_tokenizer.specs.declared.states.Phase.TheVariants as phase;
+
+use crate::slot_place::SlotPlace;
+use crate::states::{Content, Move, Phase, Word, goes, refuses, to};
+use crate::tags::is_space;
+
+/// Behind `<!`.
+pub(crate) fn declaration_byte(word: &[u8], byte: u8) -> Move
+    ensures { moved result word.now ≡ (declaration_byte word.now byte).next }
+{
+    if word == b"-".as_slice() {
+        if byte == b'-' {
+            to(Phase::CommentStart, Content::Normal)
+        } else {
+            refuses()
+        }
+    } else if word == b"doctype".as_slice() {
+        if is_space(byte) {
+            to(Phase::BeforeDoctype, Content::Normal)
+        } else {
+            refuses()
+        }
+    } else if byte == b'>' {
+        refuses()
+    } else {
+        goes(
+            Phase::Declaration,
+            Content::Normal,
+            Word::Add(byte.to_ascii_lowercase()),
+        )
+    }
+}
+
+/// Before the name of a DOCTYPE.
+pub(crate) fn before_doctype_byte(byte: u8) -> Move
+    ensures { (word : List ℕ) → moved result word ≡ (before_doctype_byte byte).next }
+{
+    if is_space(byte) {
+        to(Phase::BeforeDoctype, Content::Normal)
+    } else if byte.is_ascii_alphabetic() {
+        goes(
+            Phase::Doctype,
+            Content::Normal,
+            Word::Begin(byte.to_ascii_lowercase()),
+        )
+    } else {
+        refuses()
+    }
+}
+
+/// Behind the name of a DOCTYPE.
+pub(crate) fn after_doctype_byte(byte: u8) -> Move
+    ensures { (word : List ℕ) → moved result word ≡ (after_doctype_byte byte).next }
+{
+    if is_space(byte) {
+        to(Phase::AfterDoctype, Content::Normal)
+    } else if byte == b'>' {
+        to(Phase::In(SlotPlace::Text), Content::Normal)
+    } else {
+        refuses()
+    }
+}
+
+/// In the name of a DOCTYPE.
+pub(crate) fn doctype_byte(name: &[u8], byte: u8) -> Move
+    ensures { moved result name.now ≡ (doctype_byte name.now byte).next }
+{
+    if byte.is_ascii_alphabetic() {
+        goes(
+            Phase::Doctype,
+            Content::Normal,
+            Word::Add(byte.to_ascii_lowercase()),
+        )
+    } else if name == b"html".as_slice() {
+        after_doctype_byte(byte)
+    } else {
+        refuses()
+    }
+}
+
+/// In a comment.
+pub(crate) fn comment_byte(byte: u8) -> Move
+    ensures { (word : List ℕ) → moved result word ≡ (comment_byte byte).next }
+{
+    if byte == b'-' {
+        to(Phase::CommentDash, Content::Normal)
+    } else {
+        to(Phase::Comment, Content::Normal)
+    }
+}
+
+/// Behind `<!--` and `<!---`, where one `-` more leads on so.
+pub(crate) fn comment_start_byte(behind: Phase, byte: u8) -> Move
+    ensures start { behind ≡ phase.CommentStartDash
+        → (word : List ℕ) → moved result word ≡ (comment_start_byte byte).next }
+    ensures dash { behind ≡ phase.CommentEnd
+        → (word : List ℕ) → moved result word ≡ (comment_start_dash_byte byte).next }
+{
+    match byte {
+        b'-' => to(behind, Content::Normal),
+        b'>' => refuses(),
+        _ => comment_byte(byte),
+    }
+}
+
+/// Behind a `-` of a comment.
+pub(crate) fn comment_dash_byte(byte: u8) -> Move
+    ensures { (word : List ℕ) → moved result word ≡ (comment_dash_byte byte).next }
+{
+    if byte == b'-' {
+        to(Phase::CommentEnd, Content::Normal)
+    } else {
+        comment_byte(byte)
+    }
+}
+
+/// Behind a `--` of a comment.
+pub(crate) fn comment_end_byte(byte: u8) -> Move
+    ensures { (word : List ℕ) → moved result word ≡ (comment_end_byte byte).next }
+{
+    match byte {
+        b'>' => to(Phase::In(SlotPlace::Text), Content::Normal),
+        b'!' => refuses(),
+        b'-' => to(Phase::CommentEnd, Content::Normal),
+        _ => comment_byte(byte),
+    }
+}

@@ -1,0 +1,98 @@
+//! What the tokenizer does at a byte.
+ghost use Rattle.std.specs.Prelude.{◌≡◌};
+ghost use Rattle.html_tokenizer.specs.Tokenizer.Names.{reference_read};
+ghost use Rattle.html_tokenizer.specs.Tokenizer.Phases.{IsNoScriptEscape, attribute_in, moved, state_of};
+ghost use Rattle.html_tokenizer.specs.Tokenizer.Tokenization.{byte_in, value_byte, within_byte};
+ghost use Rattle.html_tokenizer.specs.declared.states.Phase.TheVariants as phase;
+
+use crate::attributes::reference_read;
+use crate::code::{code_less_byte, in_code_byte};
+use crate::comments::{
+    after_doctype_byte, before_doctype_byte, comment_byte, comment_dash_byte, comment_end_byte,
+    comment_start_byte, declaration_byte, doctype_byte,
+};
+use crate::slot_place::SlotPlace;
+use crate::states::{Content, Kind, Move, Phase, refuses, to};
+use crate::strings::{
+    ends_line, is_newline_or_nul, string_byte, string_less_byte, style_escape_byte,
+};
+use crate::tags::{
+    after_name_byte, after_value_byte, attribute_name_byte, before_name_byte, end_tag_byte,
+    end_tag_name_byte, end_tag_open_byte, self_closing_byte, tag_name_byte, tag_open_byte,
+};
+use crate::values::{
+    before_value_byte, quoted_byte, reference_byte, text_byte, unquoted_value_byte,
+};
+
+fn value_byte(place: SlotPlace, content: Content, kind: Kind, word: &[u8], byte: u8) -> Move
+    ensures { moved result word.now
+        ≡ (value_byte place content (attribute_in kind word.now) byte).next }
+{
+    let (in_script, in_style) = (ends_line(byte), is_newline_or_nul(byte));
+    match place {
+        SlotPlace::Text => text_byte(content, kind, word, byte),
+        SlotPlace::DoubleQuoted => quoted_byte(b'"', place, content, kind, word, byte),
+        SlotPlace::SingleQuoted => quoted_byte(b'\'', place, content, kind, word, byte),
+        SlotPlace::Unquoted => unquoted_value_byte(content, kind, word, byte),
+        SlotPlace::ScriptSingle => string_byte(b'\'', place, content, kind, word, byte, in_script),
+        SlotPlace::ScriptDouble => string_byte(b'"', place, content, kind, word, byte, in_script),
+        SlotPlace::StyleSingle => string_byte(b'\'', place, content, kind, word, byte, in_style),
+        SlotPlace::StyleDouble => string_byte(b'"', place, content, kind, word, byte, in_style),
+    }
+}
+
+// In a reference, or in an escape of a style.
+fn within_byte(place: SlotPlace, content: Content, kind: Kind, word: &[u8], byte: u8) -> Move
+    requires { IsNoScriptEscape (phase.Within place) }
+    ensures { moved result word.now
+        ≡ (within_byte place content (reference_read (attribute_in kind word.now))
+        word.now byte).next }
+{
+    match place {
+        SlotPlace::StyleSingle | SlotPlace::StyleDouble => {
+            let kind = reference_read(kind);
+            let again = value_byte(place, content, kind, word, byte);
+            style_escape_byte(place, content, kind, word, byte, again)
+        }
+        _ => reference_byte(place, content, kind, word, byte),
+    }
+}
+
+/// What the tokenizer does at a byte, but within an escape of a script.
+pub(crate) fn byte_in(phase: Phase, content: Content, kind: Kind, word: &[u8], byte: u8) -> Move
+    requires { IsNoScriptEscape phase }
+    ensures { moved result word.now
+        ≡ (byte_in (state_of phase word.now) content (attribute_in kind word.now) byte).next }
+{
+    match phase {
+        Phase::In(place) => value_byte(place, content, kind, word, byte),
+        Phase::Within(place) => within_byte(place, content, kind, word, byte),
+        Phase::StringLess(place) => {
+            string_less_byte(value_byte(place, content, kind, word, byte), byte)
+        }
+        Phase::TagOpen if byte == b'/' => to(Phase::EndTagOpen, content),
+        Phase::TagOpen => tag_open_byte(content, byte),
+        Phase::EndTagOpen => end_tag_open_byte(content, byte),
+        Phase::TagName => tag_name_byte(content, word, byte),
+        Phase::EndTagName => end_tag_name_byte(content, word, byte),
+        Phase::AfterEndTagName => end_tag_byte(byte),
+        Phase::BeforeName => before_name_byte(content, byte),
+        Phase::Name => attribute_name_byte(content, word, byte),
+        Phase::AfterName => after_name_byte(content, word, byte),
+        Phase::BeforeValue => before_value_byte(content, kind, word, byte),
+        Phase::AfterValue => after_value_byte(content, byte),
+        Phase::SelfClosing => self_closing_byte(content, byte),
+        Phase::InCode(code) => in_code_byte(code, content, byte),
+        Phase::CodeLess(code) => code_less_byte(code, content, byte),
+        Phase::Declaration => declaration_byte(word, byte),
+        Phase::BeforeDoctype => before_doctype_byte(byte),
+        Phase::Doctype => doctype_byte(word, byte),
+        Phase::AfterDoctype => after_doctype_byte(byte),
+        Phase::CommentStart => comment_start_byte(Phase::CommentStartDash, byte),
+        Phase::CommentStartDash => comment_start_byte(Phase::CommentEnd, byte),
+        Phase::Comment => comment_byte(byte),
+        Phase::CommentDash => comment_dash_byte(byte),
+        Phase::CommentEnd => comment_end_byte(byte),
+        Phase::Refused => refuses(),
+    }
+}

@@ -1,0 +1,22 @@
+//! The tokenizer of a page's markup, and where a text may stand in it.
+//!
+//! A [`Reader`] reads markup byte by byte, as the HTML Standard's tokenizer does, in a profile that
+//! refuses what it cannot tell. It says at which place of the page a slot stands. One function for
+//! each group of states, and one definition for each of them.
+#![tactic(auto)]
+
+mod attributes;
+mod code;
+mod comments;
+mod consume;
+pub mod laws;
+mod reader;
+mod slot_place;
+mod states;
+mod strings;
+mod tags;
+mod values;
+
+pub use crate::reader::{Reader, Standing};
+pub use crate::slot_place::SlotPlace;
+pub use crate::states::{Code, Content};

@@ -1,0 +1,151 @@
+//! The running tokenizer.
+ghost use Rattle.std.specs.Prelude.{◌≡◌, ◌++◌, ◌∷◌, [], ◌↔◌, OnOk, IsTrue};
+ghost use Rattle.html_tokenizer.specs.Standing.{AfterStanding, is_refused, may_end, standing};
+ghost use Rattle.html_tokenizer.specs.Tokenizer.CodeStrings.{script_escape_byte};
+ghost use Rattle.html_tokenizer.specs.Tokenizer.Names.{reference_read};
+ghost use Rattle.html_tokenizer.specs.Tokenizer.Phases.{attribute_in, moved, tokenizer_of};
+ghost use Rattle.html_tokenizer.specs.Tokenizer.States.{data_state};
+ghost use Rattle.html_tokenizer.specs.Tokenizer.Tokenization.{consume, state_after};
+
+use crate::consume::byte_in;
+use crate::slot_place::SlotPlace;
+use crate::states::{Content, Kind, Move, Phase, Word};
+use crate::strings::script_escape_byte;
+use std::alloc::{AllocError, Allocator};
+
+/// Where a slot stands.
+#[derive(Clone, Copy, Debug, PartialEq, Eq)]
+pub enum Standing {
+    /// At a place for a text.
+    Stands(SlotPlace),
+    /// Where a text would be read in a second language.
+    Barred,
+    /// Where no text may stand.
+    Nowhere,
+}
+
+/// A tokenizer, and where it is.
+#[derive(Drop)]
+pub struct Reader<A: Allocator> {
+    phase: Phase,
+    content: Content,
+    kind: Kind,
+    word: Vec<u8, A>,
+}
+
+impl<A: Allocator> Reader<A> {
+    /// At the beginning of a page.
+    pub fn new(alloc: A) -> Reader<A>
+        ensures { tokenizer_of result ≡ data_state }
+    {
+        Reader {
+            phase: Phase::In(SlotPlace::Text),
+            content: Content::Normal,
+            kind: Kind::Ordinary,
+            word: Vec::new(alloc),
+        }
+    }
+
+    fn go(&mut self, next: Move) -> Result<(), AllocError>
+        ensures { OnOk result (tokenizer_of self.new ≡ moved next self.old.word.items) }
+    {
+        match next.word {
+            Word::New => self.word.clear(),
+            Word::Keep => {}
+            Word::Begin(byte) => {
+                self.word.clear();
+                self.word.push(byte)?;
+            }
+            Word::Add(byte) => self.word.push(byte)?,
+        }
+        self.phase = next.phase;
+        self.content = next.content;
+        self.kind = next.kind;
+        Ok(())
+    }
+
+    // Reads on in an escape of a script.
+    fn escape(&mut self, place: SlotPlace, byte: u8) -> Result<(), AllocError>
+        ensures { OnOk result (tokenizer_of self.new
+            ≡ (script_escape_byte place self.old.content
+            (reference_read (attribute_in self.old.kind self.old.word.items))
+            (self.old.word.items ++ byte ∷ [])).next) }
+    {
+        self.word.push(byte)?;
+        let next = script_escape_byte(place, self.content, self.kind, &self.word);
+        self.go(next)
+    }
+
+    #[tactic(auto, unfolding(crate::specs::Tokenizer::Tokenization::consume))]
+    fn step(&mut self, byte: u8) -> Result<(), AllocError>
+        ensures { OnOk result (tokenizer_of self.new
+            ≡ (consume (tokenizer_of self.old) byte).next) }
+    {
+        match self.phase {
+            Phase::Within(SlotPlace::ScriptSingle) => self.escape(SlotPlace::ScriptSingle, byte),
+            Phase::Within(SlotPlace::ScriptDouble) => self.escape(SlotPlace::ScriptDouble, byte),
+            phase => {
+                let next = byte_in(phase, self.content, self.kind, &self.word, byte);
+                self.go(next)
+            }
+        }
+    }
+
+    /// Reads on.
+    pub fn read(&mut self, bytes: &[u8]) -> Result<(), AllocError>
+        ensures { OnOk result (tokenizer_of self.new
+            ≡ state_after (tokenizer_of self.old) bytes.now) }
+    {
+        let mut rest = bytes;
+        'bytes: while let [byte, others @ ..] = rest {
+            self.step(*byte)?;
+            rest = others;
+        }
+        Ok(())
+    }
+
+    /// Whether a page may end here.
+    pub fn may_end(&self) -> bool
+        ensures test { result ≡ may_end (tokenizer_of self.now) }
+        ensures outside { IsTrue result ↔ (tokenizer_of self.now ≡ data_state) }
+    {
+        self.phase == Phase::In(SlotPlace::Text)
+            && self.content == Content::Normal
+            && self.kind == Kind::Ordinary
+    }
+
+    /// Whether what was read has no reading.
+    pub fn is_refused(&self) -> bool
+        ensures { result ≡ is_refused (tokenizer_of self.now).state }
+    {
+        self.phase == Phase::Refused
+    }
+
+    fn standing(&self) -> Standing
+        ensures { result ≡ standing (tokenizer_of self.now) }
+    {
+        let place = match self.phase {
+            Phase::In(place) => place,
+            Phase::BeforeValue => SlotPlace::Unquoted,
+            Phase::InCode(_) if self.content == Content::DataBlock => return Standing::Barred,
+            _ => return Standing::Nowhere,
+        };
+        if self.kind == Kind::Ordinary {
+            Standing::Stands(place)
+        } else {
+            Standing::Barred
+        }
+    }
+
+    /// Where a slot stands that comes now; the tokenizer goes on behind it, if it is a place.
+    pub fn slot(&mut self) -> Standing
+        ensures at { result ≡ standing (tokenizer_of self.old) }
+        ensures after { AfterStanding result (tokenizer_of self.old) (tokenizer_of self.new) }
+    {
+        let standing = self.standing();
+        if let Standing::Stands(place) = standing {
+            self.phase = Phase::In(place);
+        }
+        standing
+    }
+}

@@ -1,0 +1,153 @@
+//! The tokenizer's states as they run: without the word that some of them hold, which stands beside.
+ghost use Rattle.std.specs.Prelude.{◌≡◌, ℕ, List, []};
+ghost use Rattle.html_tokenizer.specs.Tokenizer.Phases.{attribute_in, moved, state_of, word_after};
+ghost use Rattle.html_tokenizer.specs.Tokenizer.States.{at, at_value, refused};
+
+use crate::slot_place::SlotPlace;
+
+/// How the content of the element that is open is read.
+#[derive(Clone, Copy, Debug, PartialEq, Eq)]
+pub enum Content {
+    /// Text and elements.
+    Normal,
+    /// Text, up to the end tag of `title`.
+    Title,
+    /// Text, up to the end tag of `textarea`.
+    Textarea,
+    /// A script in JavaScript.
+    Script,
+    /// A script in another language, which the Standard calls a data block.
+    DataBlock,
+    /// A style.
+    Style,
+}
+
+/// Where the code of a script or a style is.
+#[derive(Clone, Copy, Debug, PartialEq, Eq)]
+pub enum Code {
+    /// Between strings and comments.
+    Plain,
+    /// After a `-` of a script.
+    Dash,
+    /// After a `/`.
+    Slash,
+    /// In a comment up to the end of its line.
+    LineComment,
+    /// After the first byte of what may be U+2028 or U+2029.
+    LineLead,
+    /// After the first two bytes of what may be U+2028 or U+2029.
+    LineSecond,
+    /// In a comment up to `*/`.
+    BlockComment,
+    /// After a `*` of such a comment.
+    BlockStar,
+    /// After an `@` of a style.
+    At,
+    /// After a `u` of a style.
+    LetterU,
+    /// After `ur`.
+    LettersUr,
+    /// After `url`.
+    LettersUrl,
+    /// After `url(` and white space.
+    UrlOpen,
+    /// In a URL without quotes.
+    Url,
+}
+
+/// A state, without its word.
+#[derive(Clone, Copy, PartialEq, Eq)]
+pub(crate) enum Phase {
+    In(SlotPlace),
+    Within(SlotPlace),
+    StringLess(SlotPlace),
+    TagOpen,
+    EndTagOpen,
+    TagName,
+    EndTagName,
+    AfterEndTagName,
+    BeforeName,
+    Name,
+    AfterName,
+    BeforeValue,
+    AfterValue,
+    SelfClosing,
+    InCode(Code),
+    CodeLess(Code),
+    Declaration,
+    BeforeDoctype,
+    Doctype,
+    AfterDoctype,
+    CommentStart,
+    CommentStartDash,
+    Comment,
+    CommentDash,
+    CommentEnd,
+    Refused,
+}
+
+/// What an attribute's value means, without its word.
+#[derive(Clone, Copy, PartialEq, Eq)]
+pub(crate) enum Kind {
+    Ordinary,
+    Forbidden,
+    Scheme,
+    AfterScheme,
+    AfterSlash,
+    AfterSlashes,
+    Host,
+    ScriptType,
+}
+
+/// What becomes of the word.
+#[derive(Clone, Copy)]
+pub(crate) enum Word {
+    New,
+    Keep,
+    Begin(u8),
+    Add(u8),
+}
+
+/// Where the tokenizer goes.
+#[derive(Clone, Copy)]
+pub(crate) struct Move {
+    pub(crate) phase: Phase,
+    pub(crate) content: Content,
+    pub(crate) kind: Kind,
+    pub(crate) word: Word,
+}
+
+/// To a state of an attribute's value, or of a string's.
+pub(crate) fn in_value(phase: Phase, content: Content, kind: Kind, word: Word) -> Move
+    ensures { (held : List ℕ) → moved result held
+        ≡ at_value (state_of phase (word_after word held)) content
+        (attribute_in kind (word_after word held)) }
+{
+    Move {
+        phase,
+        content,
+        kind,
+        word,
+    }
+}
+
+/// To a state, outside of an attribute's value.
+pub(crate) fn goes(phase: Phase, content: Content, word: Word) -> Move
+    ensures { (held : List ℕ) → moved result held
+        ≡ at (state_of phase (word_after word held)) content }
+{
+    in_value(phase, content, Kind::Ordinary, word)
+}
+
+/// To a state that holds no word.
+pub(crate) fn to(phase: Phase, content: Content) -> Move
+    ensures { (held : List ℕ) → moved result held ≡ at (state_of phase []) content }
+{
+    goes(phase, content, Word::New)
+}
+
+pub(crate) fn refuses() -> Move
+    ensures { (held : List ℕ) → moved result held ≡ refused }
+{
+    to(Phase::Refused, Content::Normal)
+}

@@ -1,0 +1,230 @@
+//! What a byte does in a tag.
+ghost use Rattle.std.specs.Prelude.{◌≡◌, ℕ, List};
+ghost use Rattle.html_tokenizer.specs.Tokenizer.Phases.{moved, state_of};
+ghost use Rattle.html_tokenizer.specs.Tokenizer.States.{State, at};
+ghost use Rattle.html_tokenizer.specs.Tokenizer.Tags.{
+  after_name_byte,
+  after_value_byte,
+  attribute_name_byte,
+  before_name_byte,
+  content_state,
+  end_tag_byte,
+  end_tag_name_byte,
+  end_tag_open_byte,
+  ends_name,
+  first_name_byte,
+  in_tag,
+  is_name_error,
+  is_space,
+  opened,
+  self_closing_byte,
+  tag_name_byte,
+  tag_open_byte,
+};
+ghost use Rattle.html_tokenizer.specs.Tokenizer.Transitions.{Transition};
+
+use crate::attributes::{content_of, ends_content, value_of};
+use crate::slot_place::SlotPlace;
+use crate::states::{Code, Content, Move, Phase, Word, goes, refuses, to};
+
+pub(crate) fn is_space(byte: u8) -> bool
+    ensures { result ≡ is_space byte }
+{
+    matches!(byte, b'\t' | b'\n' | b'\x0c' | b' ' | b'\r')
+}
+
+fn content_phase(content: Content) -> Phase
+    ensures { (word : List ℕ) → state_of result word ≡ content_state content }
+{
+    match content {
+        Content::Normal | Content::Title | Content::Textarea => Phase::In(SlotPlace::Text),
+        Content::Script | Content::DataBlock | Content::Style => Phase::InCode(Code::Plain),
+    }
+}
+
+/// At the `>` of a start tag.
+pub(crate) fn opened(content: Content) -> Move
+    ensures { (word : List ℕ) → moved result word ≡ (opened content).next }
+{
+    to(content_phase(content), content)
+}
+
+// At white space, `/` or `>` of a start tag, and else at another byte.
+fn in_tag(blank: Move, content: Content, byte: u8, other: Move) -> Move
+    ensures { (word : List ℕ) (state : State) (t : Transition)
+        → moved blank word ≡ at state content → moved other word ≡ t.next
+        → moved result word ≡ (in_tag state content byte t).next }
+{
+    if is_space(byte) {
+        blank
+    } else if byte == b'/' {
+        to(Phase::SelfClosing, content)
+    } else if byte == b'>' {
+        opened(content)
+    } else {
+        other
+    }
+}
+
+/// Behind a `<`, but for a `/`.
+pub(crate) fn tag_open_byte(content: Content, byte: u8) -> Move
+    ensures { (word : List ℕ) → moved result word ≡ (tag_open_byte content byte).next }
+{
+    if content == Content::Normal && byte.is_ascii_alphabetic() {
+        goes(
+            Phase::TagName,
+            content,
+            Word::Begin(byte.to_ascii_lowercase()),
+        )
+    } else if content == Content::Normal && byte == b'!' {
+        to(Phase::Declaration, content)
+    } else {
+        refuses()
+    }
+}
+
+/// Behind `</`.
+pub(crate) fn end_tag_open_byte(content: Content, byte: u8) -> Move
+    ensures { (word : List ℕ) → moved result word ≡ (end_tag_open_byte content byte).next }
+{
+    if byte.is_ascii_alphabetic() {
+        goes(
+            Phase::EndTagName,
+            content,
+            Word::Begin(byte.to_ascii_lowercase()),
+        )
+    } else {
+        refuses()
+    }
+}
+
+fn ends_name(byte: u8) -> bool
+    ensures { result ≡ ends_name byte }
+{
+    is_space(byte) || byte == b'/' || byte == b'>'
+}
+
+/// In the name of a start tag.
+pub(crate) fn tag_name_byte(content: Content, name: &[u8], byte: u8) -> Move
+    ensures { moved result name.now ≡ (tag_name_byte content name.now byte).next }
+{
+    if ends_name(byte) {
+        match content_of(name) {
+            Some(content) => after_value_byte(content, byte),
+            None => refuses(),
+        }
+    } else if byte == 0 {
+        refuses()
+    } else {
+        goes(
+            Phase::TagName,
+            content,
+            Word::Add(byte.to_ascii_lowercase()),
+        )
+    }
+}
+
+/// In an end tag, behind its name.
+pub(crate) fn end_tag_byte(byte: u8) -> Move
+    ensures { (word : List ℕ) → moved result word ≡ (end_tag_byte byte).next }
+{
+    if is_space(byte) {
+        to(Phase::AfterEndTagName, Content::Normal)
+    } else if byte == b'>' {
+        to(Phase::In(SlotPlace::Text), Content::Normal)
+    } else {
+        refuses()
+    }
+}
+
+/// In the name of an end tag.
+pub(crate) fn end_tag_name_byte(content: Content, name: &[u8], byte: u8) -> Move
+    ensures { moved result name.now ≡ (end_tag_name_byte content name.now byte).next }
+{
+    if ends_name(byte) {
+        if ends_content(content, name) {
+            end_tag_byte(byte)
+        } else {
+            refuses()
+        }
+    } else if byte == 0 {
+        refuses()
+    } else {
+        goes(
+            Phase::EndTagName,
+            content,
+            Word::Add(byte.to_ascii_lowercase()),
+        )
+    }
+}
+
+fn is_name_error(byte: u8) -> bool
+    ensures { result ≡ is_name_error byte }
+{
+    matches!(byte, 0 | b'"' | b'\'' | b'<')
+}
+
+fn first_name_byte(content: Content, byte: u8) -> Move
+    ensures { (word : List ℕ) → moved result word ≡ (first_name_byte content byte).next }
+{
+    if byte == b'=' || is_name_error(byte) {
+        refuses()
+    } else {
+        goes(Phase::Name, content, Word::Begin(byte.to_ascii_lowercase()))
+    }
+}
+
+/// In the name of an attribute.
+pub(crate) fn attribute_name_byte(content: Content, name: &[u8], byte: u8) -> Move
+    ensures { moved result name.now ≡ (attribute_name_byte content name.now byte).next }
+{
+    if byte == b'=' {
+        value_of(content, name)
+    } else {
+        let longer = if is_name_error(byte) {
+            refuses()
+        } else {
+            goes(Phase::Name, content, Word::Add(byte.to_ascii_lowercase()))
+        };
+        let blank = goes(Phase::AfterName, content, Word::Keep);
+        in_tag(blank, content, byte, longer)
+    }
+}
+
+/// Behind the name of an attribute.
+pub(crate) fn after_name_byte(content: Content, name: &[u8], byte: u8) -> Move
+    ensures { moved result name.now ≡ (after_name_byte content name.now byte).next }
+{
+    if byte == b'=' {
+        value_of(content, name)
+    } else {
+        let blank = goes(Phase::AfterName, content, Word::Keep);
+        in_tag(blank, content, byte, first_name_byte(content, byte))
+    }
+}
+
+/// Behind the `/` of a start tag.
+pub(crate) fn self_closing_byte(content: Content, byte: u8) -> Move
+    ensures { (word : List ℕ) → moved result word ≡ (self_closing_byte content byte).next }
+{
+    if byte == b'>' {
+        opened(content)
+    } else {
+        refuses()
+    }
+}
+
+/// Before the name of an attribute.
+pub(crate) fn before_name_byte(content: Content, byte: u8) -> Move
+    ensures { (word : List ℕ) → moved result word ≡ (before_name_byte content byte).next }
+{
+    let blank = to(Phase::BeforeName, content);
+    in_tag(blank, content, byte, first_name_byte(content, byte))
+}
+
+/// Behind a value in quotes.
+pub(crate) fn after_value_byte(content: Content, byte: u8) -> Move
+    ensures { (word : List ℕ) → moved result word ≡ (after_value_byte content byte).next }
+{
+    in_tag(to(Phase::BeforeName, content), content, byte, refuses())
+}

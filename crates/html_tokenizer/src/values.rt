@@ -1,0 +1,138 @@
+//! What a byte does in text and in the value of an attribute.
+ghost use Rattle.std.specs.Prelude.{◌≡◌, ℕ, List};
+ghost use Rattle.html_tokenizer.specs.Tokenizer.Names.{reference_read};
+ghost use Rattle.html_tokenizer.specs.Tokenizer.Phases.{attribute_in, moved};
+ghost use Rattle.html_tokenizer.specs.Tokenizer.Transitions.{keeps};
+ghost use Rattle.html_tokenizer.specs.Tokenizer.Values.{
+  before_value_byte,
+  begins_character,
+  quoted_byte,
+  reference_byte,
+  text_byte,
+  unquoted_byte,
+  unquoted_value_byte,
+};
+
+use crate::attributes::{content_behind, reference_read, value_byte_read};
+use crate::slot_place::SlotPlace;
+use crate::states::{Content, Kind, Move, Phase, Word, in_value, refuses, to};
+use crate::tags::{is_space, opened};
+use hesc_grammars::references::body_character;
+
+/// A byte of a value as it stands.
+pub(crate) fn keeps(place: SlotPlace, content: Content, kind: Kind, word: &[u8], byte: u8) -> Move
+    ensures { moved result word.now
+        ≡ (keeps place content (attribute_in kind word.now) byte).next }
+{
+    let (kind, word) = value_byte_read(kind, word, byte);
+    in_value(Phase::In(place), content, kind, word)
+}
+
+/// At a `&`, which begins a reference, or a `\`, which begins an escape.
+pub(crate) fn begins_character(place: SlotPlace, content: Content, kind: Kind) -> Move
+    ensures { (word : List ℕ) → moved result word
+        ≡ (begins_character place content (attribute_in kind word)).next }
+{
+    in_value(
+        Phase::Within(place),
+        content,
+        reference_read(kind),
+        Word::New,
+    )
+}
+
+/// In a reference, which goes up to the first `;`.
+pub(crate) fn reference_byte(
+    place: SlotPlace,
+    content: Content,
+    kind: Kind,
+    word: &[u8],
+    byte: u8,
+) -> Move
+    ensures { moved result word.now
+        ≡ (reference_byte place content (reference_read (attribute_in kind word.now))
+        word.now byte).next }
+{
+    let kind = reference_read(kind);
+    if byte == b';' {
+        return match body_character(word) {
+            Some(_) => in_value(Phase::In(place), content, kind, Word::New),
+            None => refuses(),
+        };
+    }
+    in_value(Phase::Within(place), content, kind, Word::Add(byte))
+}
+
+/// In text.
+pub(crate) fn text_byte(content: Content, kind: Kind, word: &[u8], byte: u8) -> Move
+    ensures { moved result word.now
+        ≡ (text_byte content (attribute_in kind word.now) byte).next }
+{
+    match byte {
+        b'<' => to(Phase::TagOpen, content),
+        b'&' => begins_character(SlotPlace::Text, content, kind),
+        _ => keeps(SlotPlace::Text, content, kind, word, byte),
+    }
+}
+
+/// In a value between two quote marks.
+pub(crate) fn quoted_byte(
+    mark: u8,
+    place: SlotPlace,
+    content: Content,
+    kind: Kind,
+    word: &[u8],
+    byte: u8,
+) -> Move
+    ensures { moved result word.now
+        ≡ (quoted_byte mark place content (attribute_in kind word.now) byte).next }
+{
+    if byte == mark {
+        to(Phase::AfterValue, content_behind(content, kind, word))
+    } else if byte == b'&' {
+        begins_character(place, content, kind)
+    } else {
+        keeps(place, content, kind, word, byte)
+    }
+}
+
+// Where a value without quotes may begin or go on.
+fn unquoted_byte(content: Content, kind: Kind, word: &[u8], byte: u8) -> Move
+    ensures { moved result word.now
+        ≡ (unquoted_byte content (attribute_in kind word.now) byte).next }
+{
+    match byte {
+        b'&' => begins_character(SlotPlace::Unquoted, content, kind),
+        b'"' | b'\'' | b'<' | b'=' | b'`' => refuses(),
+        _ => keeps(SlotPlace::Unquoted, content, kind, word, byte),
+    }
+}
+
+/// In a value without quotes.
+pub(crate) fn unquoted_value_byte(content: Content, kind: Kind, word: &[u8], byte: u8) -> Move
+    ensures { moved result word.now
+        ≡ (unquoted_value_byte content (attribute_in kind word.now) byte).next }
+{
+    if is_space(byte) {
+        to(Phase::BeforeName, content_behind(content, kind, word))
+    } else if byte == b'>' {
+        opened(content_behind(content, kind, word))
+    } else {
+        unquoted_byte(content, kind, word, byte)
+    }
+}
+
+/// Before a value.
+pub(crate) fn before_value_byte(content: Content, kind: Kind, word: &[u8], byte: u8) -> Move
+    ensures { moved result word.now
+        ≡ (before_value_byte content (attribute_in kind word.now) byte).next }
+{
+    let phase = match byte {
+        b'\t' | b'\n' | b'\x0c' | b'\r' | b' ' => Phase::BeforeValue,
+        b'"' => Phase::In(SlotPlace::DoubleQuoted),
+        b'\'' => Phase::In(SlotPlace::SingleQuoted),
+        b'>' => return refuses(),
+        _ => return unquoted_byte(content, kind, word, byte),
+    };
+    in_value(phase, content, kind, Word::Keep)
+}
