@@ -70,7 +70,7 @@ pub fn plain_string_encoding(element: Element, quotes: Quotes, text: &str)
 
 /// Decoding by any table undoes the HTML encoders other than the unquoted one, whatever follows.
 ///
-/// For instance `a<` has the encoding `a&lt;`; with `&amp;` behind it, that is decoded to `a<&`.
+/// For instance `a<` has the encoding `a&lt;`; with `&amp;` after it, that is decoded to `a<&`.
 pub fn references_undo_encoders(class: Class, table: &EntityTable, text: &str, rest: &str)
     requires html { IsHtml class }
     requires other { class ≢ Class.UnquotedAttribute }

@@ -27,8 +27,8 @@ TookBeginning-front old new first later took =
     (took.0, (took.1.0, (c ++ later, sym (append_assoc took.0 c later) ∙ ap (λ (bytes : List ℕ). bytes ++ later) took.1.1.1)))
 
 -- and so is what comes first, taken whole, with a beginning of the rest
-pub TookBeginning-behind : (old now new first later : List ℕ) → now ≡ old ++ first → TookBeginning now new later → TookBeginning old new (first ++ later)
-TookBeginning-behind old now new first later whole took =
+pub TookBeginning-following : (old now new first later : List ℕ) → now ≡ old ++ first → TookBeginning now new later → TookBeginning old new (first ++ later)
+TookBeginning-following old now new first later whole took =
     let a = took.0 in let c = took.1.1.0 in
     (first ++ a, (took.1.0 ∙ rw whole (append_assoc old first a), (c, append_assoc first a c ∙ ap (λ (bytes : List ℕ). first ++ bytes) took.1.1.1)))
 

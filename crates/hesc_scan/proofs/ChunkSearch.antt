@@ -126,7 +126,7 @@ first_of_block test bytes from reached place mask later none first some =
     first_by_part test bytes from place 32 mask (omega arith) first.within (omega (arith, first.ordered))
     (λ k from_k below. elim (cases_lt k reached) [
       | inl earlier ↦ none k from_k earlier
-      | inr behind ↦ first.before k behind below
+      | inr following ↦ first.before k following below
     ]) first.is_mask some
 
 pub none_in_blocks : (test : ℕ → Bool) (bytes : List ℕ) (from reached place mask : ℕ) → from ≤ reached → ((k : ℕ) → from ≤ k → k < reached → test (get_or bytes k 0) ≡ false)
@@ -136,7 +136,7 @@ none_in_blocks test bytes from reached place mask later none first empty = recor
   in_range = first.within;
   before = λ k from_k below. elim (cases_lt k reached) [
     | inl earlier ↦ none k from_k earlier
-    | inr behind ↦ first.before k behind below
+    | inr following ↦ first.before k following below
   ];
   found = λ inside. absurd (omega (arith, first.none empty));
 }

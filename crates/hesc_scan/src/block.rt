@@ -1,4 +1,4 @@
-//! Up to 32 bytes in the lanes of one vector: a chunk, or what a text has behind its chunks.
+//! Up to 32 bytes in the lanes of one vector: a chunk, or what a text has after its chunks.
 ghost use Rattle.std.specs.Prelude.{◌≡◌, ◌≤◌, ◌<◌, ◌+◌, ◌-◌, ◌*◌, ℕ, drop, length, slice_index, take};
 
 use std::simd::prelude::*;

@@ -56,23 +56,23 @@ joined_fill (Markup bytes ∷ first) second texts others full more = joined_fill
 joined_fill (Slot p ∷ first) second [] others full more = absurd full
 joined_fill (Slot p ∷ first) second (text ∷ texts) others full more = (full.0, joined_fill first second texts others full.1 more)
 
-joined_read : {first second : List Chunk} {texts others : List (List ℕ)} {front behind : List ℕ} → Fill first texts →
-    state_after_all data_state first ≡ data_state → IsReadAs first texts front → IsReadAs second others behind →
-    IsReadAs (first ++ second) (texts ++ others) (front ++ behind)
-joined_read {first} {second} {texts} {others} {front} {behind} full sound read more = record {
+joined_read : {first second : List Chunk} {texts others : List (List ℕ)} {front following : List ℕ} → Fill first texts →
+    state_after_all data_state first ≡ data_state → IsReadAs first texts front → IsReadAs second others following →
+    IsReadAs (first ++ second) (texts ++ others) (front ++ following)
+joined_read {first} {second} {texts} {others} {front} {following} full sound read more = record {
   actions = λ rest.
-      ap (actions_of data_state) (append_assoc front behind rest)
-      ∙ read.actions (behind ++ rest)
+      ap (actions_of data_state) (append_assoc front following rest)
+      ∙ read.actions (following ++ rest)
       ∙ ap (λ x. actions_all data_state first texts ++ x) (more.actions rest)
       ∙ sym (append_assoc (actions_all data_state first texts) (actions_all data_state second others) (actions_of data_state rest))
       ∙ ap (λ x. x ++ actions_of data_state rest) (sym (joined_actions first second texts others full sound));
-  ends = λ rest. ap (state_after data_state) (append_assoc front behind rest) ∙ read.ends (behind ++ rest) ∙ more.ends rest;
+  ends = λ rest. ap (state_after data_state) (append_assoc front following rest) ∙ read.ends (following ++ rest) ∙ more.ends rest;
 }
 
--- a page behind a page
-pub joined_pages : (first second : List Given) (texts others : List (List ℕ)) (front behind : List ℕ) →
-    IsPageOf first texts front → IsPageOf second others behind → IsPageOf (first ++ second) (texts ++ others) (front ++ behind)
-joined_pages first second texts others front behind one two = record {
+-- a page after a page
+pub joined_pages : (first second : List Given) (texts others : List (List ℕ)) (front following : List ℕ) →
+    IsPageOf first texts front → IsPageOf second others following → IsPageOf (first ++ second) (texts ++ others) (front ++ following)
+joined_pages first second texts others front following one two = record {
   pieces = one.pieces ++ two.pieces;
   same = map-append part_of one.pieces two.pieces ∙ ap (λ x. x ++ map part_of two.pieces) one.same ∙ ap (λ x. first ++ x) two.same;
   sound = joined_state one.pieces two.pieces one.sound two.sound;
@@ -94,9 +94,9 @@ no_page = record {
 }
 
 -- what a template appends to a page
-pub page_behind : (pieces : List Chunk) (texts : List (List ℕ)) {old new : List ℕ} → state_after_all data_state pieces ≡ data_state → Fill pieces texts →
+pub page_after : (pieces : List Chunk) (texts : List (List ℕ)) {old new : List ℕ} → state_after_all data_state pieces ≡ data_state → Fill pieces texts →
     IsReadAs pieces texts (page pieces texts) → new ≡ old ++ page pieces texts →
     (parts : List Given) (before : List (List ℕ)) → IsPageOf parts before old → IsPageOf (parts ++ map part_of pieces) (before ++ texts) new
-page_behind pieces texts {old} sound full read new parts before is =
+page_after pieces texts {old} sound full read new parts before is =
     rw new (joined_pages parts (map part_of pieces) before texts old (page pieces texts) is
     (record { pieces = pieces; same = refl; sound = sound; full = full; whole = refl; read = read }))

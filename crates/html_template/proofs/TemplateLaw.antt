@@ -39,7 +39,7 @@ slot_ordinary p BeforeValue content other may = absurd (no may)
 slot_ordinary p (InCode kind) content attribute may = absurd (no (sym (no_code p content) ∙ may))
 slot_ordinary p elsewhere content attribute may = absurd (no may)
 
--- what the encoder writes for a text in a slot leads to the state behind the slot, and is read as the text
+-- what the encoder writes for a text in a slot leads to the state after the slot, and is read as the text
 ordinary_passes : (p : SlotPlace) (state : State) (content : Content) (text : List ℕ) →
     stands p (standing_in state content Ordinary) ≡ true → MayFill p text → IsUtf8 text →
     Passes (at state content) (encoded (encoder_for p) text) (map (read_byte p) (read_back (encoder_for p) text)) (at (In p) content)

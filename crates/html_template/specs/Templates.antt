@@ -32,7 +32,7 @@ encoder_for ScriptDouble = encoder.ScriptDoubleQuoted
 encoder_for StyleSingle = encoder.StyleSingleQuoted
 encoder_for StyleDouble = encoder.StyleDoubleQuoted
 
--- the tokenizer behind the pieces
+-- the tokenizer after the pieces
 abbrev pub state_after_all : Tokenizer → List Chunk → Tokenizer
 state_after_all t [] = t
 state_after_all t (Markup bytes ∷ chunks) = state_after_all (state_after t bytes) chunks

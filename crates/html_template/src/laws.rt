@@ -71,7 +71,7 @@ pub fn joined_law(first: &[Piece], second: &[Piece], texts: &[&str], others: &[&
         ++ actions_all data_state (map kept second.now) (texts_of others.now) }
 {}
 
-/// Pages join: what is a page of some parts, and behind it one of others, is a page of these parts
+/// Pages join: what is a page of some parts, and after it one of others, is a page of these parts
 /// and then the others, filled by the texts of both. No part and no text make an empty page.
 ///
 /// For instance `<p>a</p><p>b</p>` is a page of `<p>`, a slot and `</p>`, twice, filled by `a` and
@@ -79,9 +79,9 @@ pub fn joined_law(first: &[Piece], second: &[Piece], texts: &[&str], others: &[&
 #[tactic(auto, using(crate::proofs::Joined::no_page, crate::proofs::Joined::joined_pages))]
 pub fn pages_law()
     ensures none { IsPageOf [] [] [] }
-    ensures both { (first second : List Given) (texts others : List (List ℕ)) (front behind : List ℕ)
-        → IsPageOf first texts front → IsPageOf second others behind
-        → IsPageOf (first ++ second) (texts ++ others) (front ++ behind) }
+    ensures both { (first second : List Given) (texts others : List (List ℕ)) (front following : List ℕ)
+        → IsPageOf first texts front → IsPageOf second others following
+        → IsPageOf (first ++ second) (texts ++ others) (front ++ following) }
 {}
 
 /// The tokens of a page, but for characters and for the values of attributes and strings, are the

@@ -66,10 +66,10 @@ impl<'a, A: Allocator + Copy> Template<'a, A> {
     /// Appends the page of these texts, one for each slot. On a fault `output` is as it was.
     ///
     /// Whatever follows the page, it is tokenized as the template is, with each text handed to its
-    /// slot whole. Behind a page it makes a page of the joined parts.
+    /// slot whole. After a page it makes a page of the joined parts.
     ///
     /// Of `<p title="`, a slot and `">`, the page of `a"` is `<p title="a&quot;">`.
-    #[tactic(auto, using(crate::proofs::Structure::is_read_as, crate::proofs::Joined::page_behind))]
+    #[tactic(auto, using(crate::proofs::Structure::is_read_as, crate::proofs::Joined::page_after))]
     pub fn append<B: Allocator>(
         &self,
         output: &mut String<B>,

@@ -21,15 +21,15 @@ lacks_none mark bytes none front rest is =
 pub cut_first : (mark bytes front back : List ℕ) → 0 < length mark → SplitsAroundMatch (FindsText mark) bytes front back → Lacks mark front
 cut_first mark bytes front back some cut before rest is =
     let i : ℕ = cut.0 in
-    let behind : List ℕ = drop i bytes in
-    let whole : bytes ≡ before ++ (mark ++ (rest ++ behind)) =
-    sym (take-append-drop i bytes) ∙ ap (λ x. x ++ behind) (sym cut.3 ∙ is) ∙ append_assoc before (mark ++ rest) behind
-    ∙ ap (λ x. before ++ x) (append_assoc mark rest behind) in
+    let following : List ℕ = drop i bytes in
+    let whole : bytes ≡ before ++ (mark ++ (rest ++ following)) =
+    sym (take-append-drop i bytes) ∙ ap (λ x. x ++ following) (sym cut.3 ∙ is) ∙ append_assoc before (mark ++ rest) following
+    ∙ ap (λ x. before ++ x) (append_assoc mark rest following) in
     let long : length front ≡ length before + (length mark + length rest) =
     ap length is ∙ length-append before (mark ++ rest) ∙ ap (λ n. length before + n) (length-append mark rest) in
     let place : length front ≡ i = cut.6 in
-    cut.2.0 (length before) (omega arith) (rest ++ behind)
-    (ap (drop (length before)) whole ∙ drop-front before (mark ++ (rest ++ behind)))
+    cut.2.0 (length before) (omega arith) (rest ++ following)
+    (ap (drop (length before)) whole ∙ drop-front before (mark ++ (rest ++ following)))
 
 pub first_of : (mark bytes : List ℕ) (cut : Option (Bor (List ℕ) × Bor (List ℕ))) → 0 < length mark →
     MatchOption cut (FindsText mark bytes None) (λ c. SplitsAroundMatch (FindsText mark) bytes c.0.now c.1.now) →

@@ -32,7 +32,7 @@ named-append (GivenSlot ∷ parts) [] more others named other = absurd named
 named-append (GivenSlot ∷ parts) (name ∷ names) more others named other =
     (named.0, named-append parts names more others named.1 other)
 
--- a source, and another behind it
+-- a source, and another after it
 pub source-append : {parts more : List Given} {names others : List (List ℕ)} {front rest : List ℕ} →
     IsSourceOf parts names front → IsSourceOf more others rest → IsSourceOf (parts ++ more) (names ++ others) (front ++ rest)
 source-append {parts} {more} {names} {others} {front} {rest} first second = record {
@@ -60,7 +60,7 @@ slot_more parts names markup name longer_is others_is plain named front was =
       map-append (λ (text : Bor (List ℕ)). text.now) names (name ∷ []),
     ) (source-append was one)
 
--- the markup behind the last slot
+-- the markup after the last slot
 pub source_whole : (parts : List Part) (names : List (Bor (List ℕ))) (markup : Bor (List ℕ)) {longer : List Part} {source front : List ℕ} →
     longer ≡ parts ++ part.Markup markup ∷ [] → Lacks opening markup.now → IsSourceOf (map given parts) (texts_of names) front →
     front ++ markup.now ≡ source → IsSourceOf (map given longer) (texts_of names) source
@@ -74,10 +74,10 @@ source_whole parts names markup {longer} {source} {front} longer_is plain was wh
     rw (longer_is, map-append given parts (part.Markup markup ∷ []), sym whole)
     (rw (append-nil (texts_of names)) at joined)
 
--- the source goes on behind a slot
-pub goes_on : (front rest markup behind name more source : List ℕ) → rest ≡ markup ++ (opening ++ behind) →
-    behind ≡ name ++ (closing ++ more) → front ++ rest ≡ source → (front ++ (markup ++ slot_text name)) ++ more ≡ source
-goes_on front rest markup behind name more source first second whole =
+-- the source goes on after a slot
+pub goes_on : (front rest markup following name more source : List ℕ) → rest ≡ markup ++ (opening ++ following) →
+    following ≡ name ++ (closing ++ more) → front ++ rest ≡ source → (front ++ (markup ++ slot_text name)) ++ more ≡ source
+goes_on front rest markup following name more source first second whole =
     append_assoc front (markup ++ slot_text name) more
     ∙ ap (λ x. front ++ x) (append_assoc markup (slot_text name) more
     ∙ ap (λ x. markup ++ (opening ++ x)) (append_assoc name closing more ∙ sym second) ∙ sym first)

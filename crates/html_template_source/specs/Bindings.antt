@@ -25,7 +25,7 @@ bound (b ∷ bindings) name = if bytes_eq b.name name then Some b.text else boun
 abbrev pub is_among : List ℕ → List (List ℕ) → Bool
 is_among name names = list_any (bytes_eq name) names
 
--- the first binding whose name is no slot's, or stands again behind it
+-- the first binding whose name is no slot's, or stands again after it
 abbrev pub binding_fault : ℕ → List (List ℕ) → List Binding → Option BindFault
 binding_fault number names [] = None
 binding_fault number names (b ∷ bindings) =

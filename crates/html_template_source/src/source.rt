@@ -35,9 +35,9 @@ impl<'a, A: Allocator + Copy> Source<'a, A> {
         let mut parts = Vec::new(alloc);
         let mut names = Vec::new(alloc);
         let mut rest = source;
-        'slots: while let Some((markup, behind)) = cut_at(rest, "{{") {
+        'slots: while let Some((markup, following)) = cut_at(rest, "{{") {
             let place = source.len() - rest.len() + markup.len();
-            let Some((name, more)) = cut_at(behind, "}}") else {
+            let Some((name, more)) = cut_at(following, "}}") else {
                 return Err(SourceFault::Unclosed(place));
             };
             if !is_name(name) {
@@ -82,7 +82,7 @@ fn are_letters(bytes: &[u8]) -> bool
     true
 }
 
-// Markup and a slot behind it.
+// Markup and a slot after it.
 fn add_slot<'a, A: Allocator>(
     parts: &mut Vec<Part<'a>, A>,
     names: &mut Vec<&'a str, A>,

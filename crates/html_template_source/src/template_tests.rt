@@ -8,9 +8,9 @@ use std::test::Fail;
 fn fault<'a, A: Allocator + Copy>(
     alloc: A,
     before: &'a str,
-    behind: &'a str,
+    following: &'a str,
 ) -> Option<TemplateFault> {
-    let parts = [Part::Markup(before), Part::Slot, Part::Markup(behind)];
+    let parts = [Part::Markup(before), Part::Slot, Part::Markup(following)];
     match Template::new(alloc, &parts) {
         Ok(_) => None,
         Err(fault) => Some(fault),
@@ -22,9 +22,9 @@ fn page<'a, A: Allocator + Copy>(
     alloc: A,
     before: &'a str,
     text: &str,
-    behind: &'a str,
+    following: &'a str,
 ) -> Option<String<A>> {
-    let parts = [Part::Markup(before), Part::Slot, Part::Markup(behind)];
+    let parts = [Part::Markup(before), Part::Slot, Part::Markup(following)];
     let Ok(template) = Template::new(alloc, &parts) else {
         return None;
     };
@@ -131,8 +131,8 @@ fn pages(rt: HostRuntime) {
             "<script type=module>f('x')</script>",
         ),
     ];
-    for (before, text, behind, wanted) in rows {
-        match page(rt.alloc(), before, text, behind) {
+    for (before, text, following, wanted) in rows {
+        match page(rt.alloc(), before, text, following) {
             Some(found) => assert!(rt; found.as_str() == wanted, "{before}"),
             None => assert!(rt; false, "no page: {before}"),
         }
@@ -210,9 +210,9 @@ fn refusals(rt: HostRuntime) {
         ("<title>", "", Unfinished),
         ("", "&amp", Unfinished),
     ];
-    for (before, behind, wanted) in rows {
+    for (before, following, wanted) in rows {
         assert!(rt;
-            fault(rt.alloc(), before, behind) == Some(wanted),
+            fault(rt.alloc(), before, following) == Some(wanted),
             "{before}"
         );
     }

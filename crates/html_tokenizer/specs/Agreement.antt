@@ -45,8 +45,8 @@ pub record StaysUnquoted (content : Content) (front value : List ℕ) : Type 0 w
 -- a carriage return stands in the bytes
 pub record HasReturn (bytes : List ℕ) : Type 0 where
   pub before : List ℕ
-  pub behind : List ℕ
-  pub parts : bytes ≡ before ++ carriage_return ∷ behind
+  pub following : List ℕ
+  pub parts : bytes ≡ before ++ carriage_return ∷ following
 
 -- wherever a value without quotes has a reading, the two agree up to its end, unless a carriage return
 -- stands in it: there the tokenizer does what it does at a line feed, which ends the value
@@ -55,7 +55,7 @@ AgreesUnquoted content end bytes =
     (found : List ℕ × ℕ) → reading (UnquotedAttribute end) bytes ≡ Some found →
     Ends (λ front value. StaysUnquoted content front value ⊎ HasReturn front) (end_byte end) bytes found
 
--- at the bytes of a string and the mark behind them the tokenizer's actions are at the value, and it leaves the string
+-- at the bytes of a string and the mark after them the tokenizer's actions are at the value, and it leaves the string
 pub record LeavesString (p : SlotPlace) (content : Content) (mark : ℕ) (front value : List ℕ) : Type 0 where
   pub after : state_after (at (In p) content) (front ++ mark ∷ []) ≡ at (InCode Plain) content
   pub actions : actions_of (at (In p) content) (front ++ mark ∷ []) ≡ map (read_byte p) value ++ StringEnd ∷ []
@@ -69,8 +69,8 @@ pub record RefusesString (p : SlotPlace) (content : Content) (front : List ℕ) 
   pub after : state_after (at (In p) content) front ≡ refused
   pub before : List ℕ
   pub word : List ℕ
-  pub behind : List ℕ
-  pub parts : front ≡ before ++ (word ++ behind)
+  pub following : List ℕ
+  pub parts : front ≡ before ++ (word ++ following)
   pub markup : could_be_markup word ≡ true
 
 -- wherever a string has a reading, the two agree, or the tokenizer refuses it

@@ -44,7 +44,7 @@ abbrev pub stands : SlotPlace → Standing → Bool
 stands p (Stands q) = is_same p q
 stands p other = false
 
--- the tokenizer behind a slot at this place, by the template alone
+-- the tokenizer after a slot at this place, by the template alone
 abbrev pub state_after_slot : SlotPlace → Tokenizer → Tokenizer
 state_after_slot p t = if stands p (standing t) then at (state.In p) t.content else refused
 

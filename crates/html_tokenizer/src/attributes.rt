@@ -4,7 +4,7 @@ ghost use Rattle.hesc_specs.specs.Text.Ascii.{slash};
 ghost use Rattle.html_tokenizer.specs.Tokenizer.Names.{
   attribute_of,
   begins_path,
-  content_behind,
+  content_after,
   content_of,
   ends_content,
   holds_language,
@@ -115,7 +115,7 @@ fn is_javascript(value: &[u8]) -> bool
         || value == b"application/javascript".as_slice()
 }
 
-/// Behind the `=` of an attribute.
+/// After the `=` of an attribute.
 pub(crate) fn value_of(content: Content, name: &[u8]) -> Move
     ensures { moved result name.now ≡ value_of content name.now }
 {
@@ -132,9 +132,9 @@ pub(crate) fn value_of(content: Content, name: &[u8]) -> Move
     in_value(Phase::BeforeValue, content, kind, Word::New)
 }
 
-/// Behind the value of an attribute.
-pub(crate) fn content_behind(content: Content, kind: Kind, word: &[u8]) -> Content
-    ensures { result ≡ content_behind content (attribute_in kind word.now) }
+/// After the value of an attribute.
+pub(crate) fn content_after(content: Content, kind: Kind, word: &[u8]) -> Content
+    ensures { result ≡ content_after content (attribute_in kind word.now) }
 {
     if kind == Kind::ScriptType && is_javascript(word) {
         Content::Script
@@ -161,7 +161,7 @@ fn scheme_end(scheme: &[u8]) -> Kind
     }
 }
 
-/// Behind one byte more of an attribute's value, and what becomes of the word.
+/// After one byte more of an attribute's value, and what becomes of the word.
 pub(crate) fn value_byte_read(kind: Kind, word: &[u8], byte: u8) -> (Kind, Word)
     ensures { attribute_in result.0 (word_after result.1 word.now)
         ≡ value_byte_read (attribute_in kind word.now) byte }
@@ -179,12 +179,12 @@ pub(crate) fn value_byte_read(kind: Kind, word: &[u8], byte: u8) -> (Kind, Word)
     (next, Word::New)
 }
 
-// Behind a byte that has to be a `/`.
-fn slash_read(behind: Kind, byte: u8) -> Kind
-    ensures { result ≡ if byte == slash then behind else kind.Forbidden }
+// After a byte that has to be a `/`.
+fn slash_read(following: Kind, byte: u8) -> Kind
+    ensures { result ≡ if byte == slash then following else kind.Forbidden }
 {
     if byte == b'/' {
-        behind
+        following
     } else {
         Kind::Forbidden
     }

@@ -1,7 +1,7 @@
 //! What a byte does in the code of a script or a style, outside of strings.
 ghost use Rattle.std.specs.Prelude.{◌≡◌, ℕ, List};
 ghost use Rattle.html_tokenizer.specs.Tokenizer.CodeBytes.{
-  behind_less,
+  code_after_less,
   block_byte,
   block_star_byte,
   code_byte,
@@ -172,8 +172,8 @@ fn code_byte(code: Code, content: Content, byte: u8) -> Move
     }
 }
 
-fn behind_less(code: Code) -> Code
-    ensures { result ≡ behind_less code }
+fn code_after_less(code: Code) -> Code
+    ensures { result ≡ code_after_less code }
 {
     match code {
         Code::LineComment | Code::LineLead | Code::LineSecond => Code::LineComment,
@@ -189,7 +189,7 @@ fn less_in(code: Code, content: Content) -> Move
     if code == Code::Slash && content == Content::Script {
         refuses()
     } else {
-        to(Phase::CodeLess(behind_less(code)), content)
+        to(Phase::CodeLess(code_after_less(code)), content)
     }
 }
 
@@ -213,7 +213,7 @@ fn code_end(code: Code, content: Content) -> Move
     }
 }
 
-/// Behind a `<` of code.
+/// After a `<` of code.
 pub(crate) fn code_less_byte(code: Code, content: Content, byte: u8) -> Move
     ensures { (word : List ℕ) → moved result word ≡ (code_less_byte code content byte).next }
 {

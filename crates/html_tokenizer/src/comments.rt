@@ -18,7 +18,7 @@ use crate::slot_place::SlotPlace;
 use crate::states::{Content, Move, Phase, Word, goes, refuses, to};
 use crate::tags::is_space;
 
-/// Behind `<!`.
+/// After `<!`.
 pub(crate) fn declaration_byte(word: &[u8], byte: u8) -> Move
     ensures { moved result word.now ≡ (declaration_byte word.now byte).next }
 {
@@ -62,7 +62,7 @@ pub(crate) fn before_doctype_byte(byte: u8) -> Move
     }
 }
 
-/// Behind the name of a DOCTYPE.
+/// After the name of a DOCTYPE.
 pub(crate) fn after_doctype_byte(byte: u8) -> Move
     ensures { (word : List ℕ) → moved result word ≡ (after_doctype_byte byte).next }
 {
@@ -103,21 +103,21 @@ pub(crate) fn comment_byte(byte: u8) -> Move
     }
 }
 
-/// Behind `<!--` and `<!---`, where one `-` more leads on so.
-pub(crate) fn comment_start_byte(behind: Phase, byte: u8) -> Move
-    ensures start { behind ≡ phase.CommentStartDash
+/// After `<!--` and `<!---`, where one `-` more leads on so.
+pub(crate) fn comment_start_byte(following: Phase, byte: u8) -> Move
+    ensures start { following ≡ phase.CommentStartDash
         → (word : List ℕ) → moved result word ≡ (comment_start_byte byte).next }
-    ensures dash { behind ≡ phase.CommentEnd
+    ensures dash { following ≡ phase.CommentEnd
         → (word : List ℕ) → moved result word ≡ (comment_start_dash_byte byte).next }
 {
     match byte {
-        b'-' => to(behind, Content::Normal),
+        b'-' => to(following, Content::Normal),
         b'>' => refuses(),
         _ => comment_byte(byte),
     }
 }
 
-/// Behind a `-` of a comment.
+/// After a `-` of a comment.
 pub(crate) fn comment_dash_byte(byte: u8) -> Move
     ensures { (word : List ℕ) → moved result word ≡ (comment_dash_byte byte).next }
 {
@@ -128,7 +128,7 @@ pub(crate) fn comment_dash_byte(byte: u8) -> Move
     }
 }
 
-/// Behind a `--` of a comment.
+/// After a `--` of a comment.
 pub(crate) fn comment_end_byte(byte: u8) -> Move
     ensures { (word : List ℕ) → moved result word ≡ (comment_end_byte byte).next }
 {

@@ -21,7 +21,7 @@ use crate::states::Content;
 ///
 /// In a value without quotes a carriage return, which the grammar keeps, is a line feed, which ends
 /// the value. A string it may refuse, but only one in which `</` or `<!` stands, or in a style a `<`
-/// behind a `\`.
+/// after a `\`.
 ///
 /// For instance both read `a&lt;b` before `<`, in text, as `a<b`.
 pub fn agreement_law(content: Content, bytes: &[u8])

@@ -137,7 +137,7 @@ impl<A: Allocator> Reader<A> {
         }
     }
 
-    /// Where a slot stands that comes now; the tokenizer goes on behind it, if it is a place.
+    /// Where a slot stands that comes now; the tokenizer goes on after it, if it is a place.
     pub fn slot(&mut self) -> Standing
         ensures at { result ≡ standing (tokenizer_of self.old) }
         ensures after { AfterStanding result (tokenizer_of self.old) (tokenizer_of self.new) }

@@ -60,7 +60,7 @@ pub(crate) fn is_newline_or_nul(byte: u8) -> bool
     matches!(byte, b'\n' | b'\r' | b'\x0c' | 0)
 }
 
-/// Behind a `<` of a string, where the byte alone would lead on so.
+/// After a `<` of a string, where the byte alone would lead on so.
 pub(crate) fn string_less_byte(again: Move, byte: u8) -> Move
     ensures { (word : List ℕ) (t : Transition) → moved again word ≡ t.next
         → moved result word ≡ (string_less_byte t byte).next }

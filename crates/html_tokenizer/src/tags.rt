@@ -66,7 +66,7 @@ fn in_tag(blank: Move, content: Content, byte: u8, other: Move) -> Move
     }
 }
 
-/// Behind a `<`, but for a `/`.
+/// After a `<`, but for a `/`.
 pub(crate) fn tag_open_byte(content: Content, byte: u8) -> Move
     ensures { (word : List ℕ) → moved result word ≡ (tag_open_byte content byte).next }
 {
@@ -83,7 +83,7 @@ pub(crate) fn tag_open_byte(content: Content, byte: u8) -> Move
     }
 }
 
-/// Behind `</`.
+/// After `</`.
 pub(crate) fn end_tag_open_byte(content: Content, byte: u8) -> Move
     ensures { (word : List ℕ) → moved result word ≡ (end_tag_open_byte content byte).next }
 {
@@ -124,7 +124,7 @@ pub(crate) fn tag_name_byte(content: Content, name: &[u8], byte: u8) -> Move
     }
 }
 
-/// In an end tag, behind its name.
+/// In an end tag, after its name.
 pub(crate) fn end_tag_byte(byte: u8) -> Move
     ensures { (word : List ℕ) → moved result word ≡ (end_tag_byte byte).next }
 {
@@ -191,7 +191,7 @@ pub(crate) fn attribute_name_byte(content: Content, name: &[u8], byte: u8) -> Mo
     }
 }
 
-/// Behind the name of an attribute.
+/// After the name of an attribute.
 pub(crate) fn after_name_byte(content: Content, name: &[u8], byte: u8) -> Move
     ensures { moved result name.now ≡ (after_name_byte content name.now byte).next }
 {
@@ -203,7 +203,7 @@ pub(crate) fn after_name_byte(content: Content, name: &[u8], byte: u8) -> Move
     }
 }
 
-/// Behind the `/` of a start tag.
+/// After the `/` of a start tag.
 pub(crate) fn self_closing_byte(content: Content, byte: u8) -> Move
     ensures { (word : List ℕ) → moved result word ≡ (self_closing_byte content byte).next }
 {
@@ -222,7 +222,7 @@ pub(crate) fn before_name_byte(content: Content, byte: u8) -> Move
     in_tag(blank, content, byte, first_name_byte(content, byte))
 }
 
-/// Behind a value in quotes.
+/// After a value in quotes.
 pub(crate) fn after_value_byte(content: Content, byte: u8) -> Move
     ensures { (word : List ℕ) → moved result word ≡ (after_value_byte content byte).next }
 {

@@ -13,7 +13,7 @@ ghost use Rattle.html_tokenizer.specs.Tokenizer.Values.{
   unquoted_value_byte,
 };
 
-use crate::attributes::{content_behind, reference_read, value_byte_read};
+use crate::attributes::{content_after, reference_read, value_byte_read};
 use crate::slot_place::SlotPlace;
 use crate::states::{Content, Kind, Move, Phase, Word, in_value, refuses, to};
 use crate::tags::{is_space, opened};
@@ -88,7 +88,7 @@ pub(crate) fn quoted_byte(
         ≡ (quoted_byte mark place content (attribute_in kind word.now) byte).next }
 {
     if byte == mark {
-        to(Phase::AfterValue, content_behind(content, kind, word))
+        to(Phase::AfterValue, content_after(content, kind, word))
     } else if byte == b'&' {
         begins_character(place, content, kind)
     } else {
@@ -114,9 +114,9 @@ pub(crate) fn unquoted_value_byte(content: Content, kind: Kind, word: &[u8], byt
         ≡ (unquoted_value_byte content (attribute_in kind word.now) byte).next }
 {
     if is_space(byte) {
-        to(Phase::BeforeName, content_behind(content, kind, word))
+        to(Phase::BeforeName, content_after(content, kind, word))
     } else if byte == b'>' {
-        opened(content_behind(content, kind, word))
+        opened(content_after(content, kind, word))
     } else {
         unquoted_byte(content, kind, word, byte)
     }

@@ -116,7 +116,7 @@ const BACKSLASHES: [&str; 17] = [
     "<\\!--",
 ];
 
-// What ends a string, and code behind it.
+// What ends a string, and code after it.
 const CODE: [&str; 15] = [
     "');f();//",
     "\");f();//",

@@ -21,7 +21,7 @@ pub const SLOTS: [(&str, Place); 9] = [
     ("'; y: \"", Place::StyleDouble),
 ];
 
-/// The markup behind the last slot.
+/// The markup after the last slot.
 pub const LAST: &str = "\" }</style>";
 
 /// The parts of the page.
@@ -60,14 +60,14 @@ fn read_back(alloc: Global, place: Place, text: &str) -> Result<String, AllocErr
 pub fn holds(alloc: Global, page: &str, texts: &[&str]) -> Result<bool, AllocError> {
     let mut rest = page.as_bytes();
     for ((markup, place), text) in SLOTS.iter().zip(texts.iter()) {
-        let Some(behind) = rest.strip_prefix(markup.as_bytes()) else {
+        let Some(following) = rest.strip_prefix(markup.as_bytes()) else {
             return Ok(false);
         };
-        let Some(found) = read_place(alloc, *place, behind)? else {
+        let Some(found) = read_place(alloc, *place, following)? else {
             return Ok(false);
         };
         let wanted = read_back(alloc, *place, *text)?;
-        let Some((_, more)) = behind.split_at_checked(found.end) else {
+        let Some((_, more)) = following.split_at_checked(found.end) else {
             return Ok(false);
         };
         if found.value.as_slice() != wanted.as_bytes() {

@@ -33,10 +33,10 @@ fn stay_apart<'t>(
     second: &'t str,
     before: usize,
 ) -> Result<bool, AllocError> {
-    for behind in 0..9usize {
+    for following in 0..9usize {
         let mut texts = ["x"; 9];
         put(&mut texts, before, first);
-        put(&mut texts, behind, second);
+        put(&mut texts, following, second);
         if !stay(alloc, template, &texts)? {
             return Ok(false);
         }

@@ -11,7 +11,7 @@ abbrev pub card_text : List ℕ → List ℕ → List ℕ
 card_text title text =
     codes "<figure title=" ++ enclosed DoubleQuotedAttribute DoubleAttribute title ++ codes "><b>" ++ encoded Text text ++ codes "</b></figure>"
 
--- behind `<figure title="` and whatever follows the card, the title is read as it was given
+-- after `<figure title="` and whatever follows the card, the title is read as it was given
 abbrev pub TitleComesBack : List ℕ → List ℕ → Type 0
 TitleComesBack title card =
     (rest : List ℕ) → reading DoubleAttribute (drop (length (codes "<figure title=\"")) card ++ rest) ≡

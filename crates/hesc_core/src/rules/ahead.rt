@@ -11,7 +11,7 @@ use hesc_scan::scan::first_block;
 use hesc_specs::Class;
 
 /// The least place at or after `from` whose byte is in the class, or the length where there is
-/// none. The bytes are searched behind those that are known.
+/// none. The bytes are searched after those that are known.
 #[inline(always)]
 pub(crate) fn next_hit(class: Class, text: &str, from: usize, ahead: &mut Ahead) -> usize
     requires within { from ≤ length text.now }

@@ -37,7 +37,7 @@ pub(crate) fn append_first<A: Allocator>(
     output.extend_from_slice(&bytes[..count])
 }
 
-// Appends a block of the bytes, and cuts it off behind the first `count`.
+// Appends a block of the bytes, and cuts it off after the first `count`.
 #[inline(always)]
 fn append_cut<A: Allocator>(
     output: &mut Vec<u8, A>,

@@ -1,17 +1,17 @@
--- A reading of a piece, and of the bytes behind it.
+-- A reading of a piece, and of the bytes after it.
 use Rattle.std.proofs.Common.{ℕ, ◌≡◌, ◌+◌, List, [], ◌∷◌, ◌++◌, Option, Some, None, length, refl, sym, ap, ◌∙◌, append_assoc, length-append, subst}
 use Rattle.hesc_grammars.specs.Reading.{after}
 use Rattle.html_tokenizer.specs.Agreement.{Ends}
 
--- a reading behind other bytes, which are so many and have this value
-pub record Behind (value : List ℕ) (count : ℕ) (reading : Option (List ℕ × ℕ)) (found : List ℕ × ℕ) : Type 0 where
+-- a reading after other bytes, which are so many and have this value
+pub record Following (value : List ℕ) (count : ℕ) (reading : Option (List ℕ × ℕ)) (found : List ℕ × ℕ) : Type 0 where
   pub rest : List ℕ × ℕ
   pub is : reading ≡ Some rest
   pub value_is : found.0 ≡ value ++ rest.0
   pub end_is : found.1 ≡ count + rest.1
 
 pub after_some : (value : List ℕ) (count : ℕ) (reading : Option (List ℕ × ℕ)) (found : List ℕ × ℕ) →
-    after value count reading ≡ Some found → Behind value count reading found
+    after value count reading ≡ Some found → Following value count reading found
 after_some value count None found is = cc
 after_some value count (Some rest) found is =
     let same : (value ++ rest.0, count + rest.1) ≡ found = cc in
@@ -22,15 +22,15 @@ after_some value count (Some rest) found is =
       end_is = sym (ap (λ (x : List ℕ × ℕ). x.1) same);
     }
 
--- where a reading ends, if it ends there behind the piece
-pub ends_behind : {Old New : List ℕ → List ℕ → Type 0} {mark : ℕ} (piece value bytes : List ℕ) (found : List ℕ × ℕ) {reading : Option (List ℕ × ℕ)} →
-    (behind : Behind value (length piece) reading found) → (ends : Ends Old mark bytes behind.rest) →
+-- where a reading ends, if it ends there after the piece
+pub ends_following : {Old New : List ℕ → List ℕ → Type 0} {mark : ℕ} (piece value bytes : List ℕ) (found : List ℕ × ℕ) {reading : Option (List ℕ × ℕ)} →
+    (following : Following value (length piece) reading found) → (ends : Ends Old mark bytes following.rest) →
     New (piece ++ ends.front) found.0 → Ends New mark (piece ++ bytes) found
-ends_behind {mark = mark} piece value bytes found behind ends read = record {
+ends_following {mark = mark} piece value bytes found following ends read = record {
   front = piece ++ ends.front;
   rest = ends.rest;
   parts = ap (λ x. piece ++ x) ends.parts ∙ sym (append_assoc piece ends.front (mark ∷ ends.rest));
-  end = length-append piece ends.front ∙ ap (λ n. length piece + n) ends.end ∙ sym behind.end_is;
+  end = length-append piece ends.front ∙ ap (λ n. length piece + n) ends.end ∙ sym following.end_is;
   read = read;
 }
 

@@ -106,19 +106,19 @@ module _ {p : SlotPlace} {mark : ℕ} {quotes : Quotes} {content : Content} (rea
       let never : None ≡ Some found = rw (reads.string.other, other) at is in cc)
       (cases_Bool (list_all (λ b. is_digit b 16) digits))
 
-  behind_x : (bytes : List ℕ) → Reads p content mark (lower_x ∷ bytes)
+  after_x : (bytes : List ℕ) → Reads p content mark (lower_x ∷ bytes)
   unfolding script_string_step
-  behind_x [] found is = let never : None ≡ Some found = rw reads.string.other at is in cc
-  behind_x (d ∷ []) found is = let never : None ≡ Some found = rw reads.string.other at is in cc
-  behind_x (d ∷ e ∷ rest) found is = two_digits d e rest found is
+  after_x [] found is = let never : None ≡ Some found = rw reads.string.other at is in cc
+  after_x (d ∷ []) found is = let never : None ≡ Some found = rw reads.string.other at is in cc
+  after_x (d ∷ e ∷ rest) found is = two_digits d e rest found is
 
-  behind_u : (bytes : List ℕ) → Reads p content mark (lower_u ∷ bytes)
+  after_u : (bytes : List ℕ) → Reads p content mark (lower_u ∷ bytes)
   unfolding script_string_step
-  behind_u [] found is = let never : None ≡ Some found = rw reads.string.other at is in cc
-  behind_u (d ∷ []) found is = let never : None ≡ Some found = rw reads.string.other at is in cc
-  behind_u (d ∷ e ∷ []) found is = let never : None ≡ Some found = rw reads.string.other at is in cc
-  behind_u (d ∷ e ∷ f ∷ []) found is = let never : None ≡ Some found = rw reads.string.other at is in cc
-  behind_u (d ∷ e ∷ f ∷ g ∷ rest) found is = four_digits d e f g rest found is
+  after_u [] found is = let never : None ≡ Some found = rw reads.string.other at is in cc
+  after_u (d ∷ []) found is = let never : None ≡ Some found = rw reads.string.other at is in cc
+  after_u (d ∷ e ∷ []) found is = let never : None ≡ Some found = rw reads.string.other at is in cc
+  after_u (d ∷ e ∷ f ∷ []) found is = let never : None ≡ Some found = rw reads.string.other at is in cc
+  after_u (d ∷ e ∷ f ∷ g ∷ rest) found is = four_digits d e f g rest found is
 
   as_letter : (b c : ℕ) (bytes : List ℕ) → b ≡ c → Reads p content mark (c ∷ bytes) → Reads p content mark (b ∷ bytes)
   as_letter b c bytes same read = subst (λ x. Reads p content mark (x ∷ bytes)) (sym same) read
@@ -128,10 +128,10 @@ module _ {p : SlotPlace} {mark : ℕ} {quotes : Quotes} {content : Content} (rea
   by_single b bytes (Some c) is found read = single b c bytes is found read
   by_single b bytes None none found read =
       ⊎_elim
-      (λ (x : (b == lower_x) ≡ true). as_letter b lower_x bytes (eqb-true b lower_x x) (behind_x bytes) found read)
+      (λ (x : (b == lower_x) ≡ true). as_letter b lower_x bytes (eqb-true b lower_x x) (after_x bytes) found read)
       (λ (no_x : (b == lower_x) ≡ false).
       ⊎_elim
-      (λ (u : (b == lower_u) ≡ true). as_letter b lower_u bytes (eqb-true b lower_u u) (behind_u bytes) found read)
+      (λ (u : (b == lower_u) ≡ true). as_letter b lower_u bytes (eqb-true b lower_u u) (after_u bytes) found read)
       (λ (no_u : (b == lower_u) ≡ false).
       let never : None ≡ Some found = rw (reads.string.other, none, no_x, no_u) at read in cc)
       (cases_Bool (b == lower_u)))

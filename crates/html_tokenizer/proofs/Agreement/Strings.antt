@@ -22,13 +22,13 @@ use Rattle.html_tokenizer.specs.Tokenizer.Tokenization.{actions_of, consume, sta
 use Rattle.html_tokenizer.specs.Tokenizer.Transitions.{Transition, goes, refuses, reconsumes}
 use Rattle.html_tokenizer.proofs.Passing.{Passes, passes_none, passes_both, passes_one, state_after-append, stays_refused}
 use Rattle.html_tokenizer.proofs.Slots.Strings.{ReadsString, kept_byte}
-use Rattle.html_tokenizer.proofs.Agreement.Readings.{Behind, after_some, ends_behind, ends_here}
+use Rattle.html_tokenizer.proofs.Agreement.Readings.{Following, after_some, ends_following, ends_here}
 
 -- what the tokenizer does at a string's bytes
 abbrev pub ReadsOrRefuses : SlotPlace → Content → ℕ → List ℕ → List ℕ → Type 0
 ReadsOrRefuses p content mark front value = LeavesString p content mark front value ⊎ RefusesString p content front
 
--- the first of the bytes is consumed as in the string, behind some actions
+-- the first of the bytes is consumed as in the string, after some actions
 pub record TakesUp (p : SlotPlace) (content : Content) (t : Tokenizer) (pending : List Action) (bytes : List ℕ) : Type 0 where
   pub takes : (b : ℕ) (more : List ℕ) → bytes ≡ b ∷ more → consume t b ≡ reconsumes pending (consume (at (In p) content) b)
 
@@ -45,10 +45,10 @@ passes_up {p} {content} {t} pending bytes b is passes = record {
       ∙ ap (λ x. pending ++ x) passes.actions;
 }
 
-refused_up : {p : SlotPlace} {content : Content} {t : Tokenizer} {pending : List Action} (front behind : List ℕ) → TakesUp p content t pending (front ++ behind) →
+refused_up : {p : SlotPlace} {content : Content} {t : Tokenizer} {pending : List Action} (front following : List ℕ) → TakesUp p content t pending (front ++ following) →
     state_after (at (In p) content) front ≡ refused → state_after t front ≡ refused
-refused_up {p} {content} [] behind up is = absurd (in_no_refusal p content is)
-refused_up (b ∷ front) behind up is = ap (λ (x : Transition). state_after x.next front) (up.takes b (front ++ behind) refl) ∙ is
+refused_up {p} {content} [] following up is = absurd (in_no_refusal p content is)
+refused_up (b ∷ front) following up is = ap (λ (x : Transition). state_after x.next front) (up.takes b (front ++ following) refl) ∙ is
 
 module _ {p : SlotPlace} {content : Content} {mark : ℕ} where
   -- the front and its mark, after some actions
@@ -59,7 +59,7 @@ module _ {p : SlotPlace} {content : Content} {mark : ℕ} where
   leaves_up {pending = pending} (b ∷ front) value up leaves =
       passes_up pending (front ++ mark ∷ []) b (up.takes b (front ++ mark ∷ []) refl) (record { after = leaves.after; actions = leaves.actions })
 
-  -- a piece, and what the tokenizer does at the bytes behind it
+  -- a piece, and what the tokenizer does at the bytes after it
   pub reads_on : {t : Tokenizer} {done pending : List Action} (piece front value more : List ℕ) →
       Passes (at (In p) content) piece done t → done ++ pending ≡ map (read_byte p) value →
       TakesUp p content t pending (front ++ mark ∷ []) →
@@ -79,8 +79,8 @@ module _ {p : SlotPlace} {content : Content} {mark : ℕ} where
         after = state_after-append (at (In p) content) piece front ∙ ap (λ x. state_after x front) passes.after ∙ refused_up front (mark ∷ []) up refusal.after;
         before = piece ++ refusal.before;
         word = refusal.word;
-        behind = refusal.behind;
-        parts = ap (λ x. piece ++ x) refusal.parts ∙ sym (append_assoc piece refusal.before (refusal.word ++ refusal.behind));
+        following = refusal.following;
+        parts = ap (λ x. piece ++ x) refusal.parts ∙ sym (append_assoc piece refusal.before (refusal.word ++ refusal.following));
         markup = refusal.markup;
       })
 
@@ -90,14 +90,14 @@ module _ {p : SlotPlace} {content : Content} {mark : ℕ} where
   reads_whole piece front value more passes read =
       reads_on {done = map (read_byte p) value} {pending = []} piece front value more passes (append-nil (map (read_byte p) value)) (record { takes = λ b rest is. refl }) read
 
--- an escape that the grammar reads: its bytes behind the `\`, what it is read as, and what the tokenizer
--- does at it, whatever the tokenizer does at the bytes behind it
+-- an escape that the grammar reads: its bytes after the `\`, what it is read as, and what the tokenizer
+-- does at it, whatever the tokenizer does at the bytes after it
 pub record Escaped (p : SlotPlace) (content : Content) (mark : ℕ) (step : Mode → List ℕ → Step) (bytes : List ℕ) (found : List ℕ × ℕ) : Type 0 where
   pub word : List ℕ
   pub rest : List ℕ
   pub value : List ℕ
   pub parts : bytes ≡ word ++ rest
-  pub behind : Behind value (length (backslash ∷ word)) (reading_after step 0 Plain rest) found
+  pub following : Following value (length (backslash ∷ word)) (reading_after step 0 Plain rest) found
   pub reads : (front more others : List ℕ) → rest ≡ front ++ mark ∷ others → ReadsOrRefuses p content mark front more →
       ReadsOrRefuses p content mark ((backslash ∷ word) ++ front) (value ++ more)
 
@@ -111,11 +111,11 @@ taken_escape {p} {content} {mark} {step} word value rest found takes passes is =
   rest = rest;
   value = value;
   parts = refl;
-  behind = after_some value (length (backslash ∷ word)) (reading_after step 0 Plain rest) found (sym (takes.goes_on rest) ∙ is);
+  following = after_some value (length (backslash ∷ word)) (reading_after step 0 Plain rest) found (sym (takes.goes_on rest) ∙ is);
   reads = λ front more others rest_is read. reads_whole (backslash ∷ word) front value more passes read;
 }
 
--- behind a `<`, these could begin a tag or a comment
+-- after a `<`, these could begin a tag or a comment
 abbrev pub opens : ℕ → Bool
 opens b = b == slash || b == exclamation_mark
 
@@ -154,7 +154,7 @@ module _ {p : SlotPlace} {content : Content} {mark : ℕ} {breaks : ℕ → Bool
             ∙ ap (λ (x : Transition). state_after x.next front) refuses_it ∙ stays_refused front;
         before = [];
         word = less_than ∷ d ∷ [];
-        behind = front;
+        following = front;
         parts = refl;
         markup =
             ⊎_elim
@@ -195,7 +195,7 @@ module _ {p : SlotPlace} {content : Content} {mark : ℕ} {breaks : ℕ → Bool
       let closed : Some ([], 0) ≡ Some found = rw (place.closes bytes) at is in
       ends_here bytes found closed (inl (record { after = passes.after; actions = passes.actions }))
 
-  -- what is read of the bytes behind an item, is read of all
+  -- what is read of the bytes after an item, is read of all
   abbrev GoesOn : ℕ → Type 0
   GoesOn n = (rest : List ℕ) (f : List ℕ × ℕ) → length rest ≤ n → reading_after step 0 Plain rest ≡ Some f → Ends (ReadsOrRefuses p content mark) mark rest f
 
@@ -204,11 +204,11 @@ module _ {p : SlotPlace} {content : Content} {mark : ℕ} {breaks : ℕ → Bool
   at_escape n go bytes found enough is =
       let e : Escaped p content mark step bytes found = place.escapes bytes found is in
       let long : length bytes ≡ length e.word + length e.rest = ap length e.parts ∙ length-append e.word e.rest in
-      let ends = go e.rest e.behind.rest (omega arith) e.behind.is in
+      let ends = go e.rest e.following.rest (omega arith) e.following.is in
       subst (λ x. Ends (ReadsOrRefuses p content mark) mark (backslash ∷ x) found) (sym e.parts)
-      (ends_behind (backslash ∷ e.word) e.value e.rest found e.behind ends
-      (subst (ReadsOrRefuses p content mark ((backslash ∷ e.word) ++ ends.front)) (sym e.behind.value_is)
-      (e.reads ends.front e.behind.rest.0 ends.rest ends.parts ends.read)))
+      (ends_following (backslash ∷ e.word) e.value e.rest found e.following ends
+      (subst (ReadsOrRefuses p content mark ((backslash ∷ e.word) ++ ends.front)) (sym e.following.value_is)
+      (e.reads ends.front e.following.rest.0 ends.rest ends.parts ends.read)))
 
   at_other : (n : ℕ) → GoesOn n → (b : ℕ) (bytes : List ℕ) (found : List ℕ × ℕ) → length bytes ≤ n →
       reading_after step 0 Plain (b ∷ bytes) ≡ Some found → (b == mark) ≡ false → (b == backslash) ≡ false →
@@ -217,12 +217,12 @@ module _ {p : SlotPlace} {content : Content} {mark : ℕ} {breaks : ℕ → Bool
       ⊎_elim
       (λ (nothing : step Plain (b ∷ bytes) ≡ Nothing). let never : None ≡ Some found = rw nothing at is in cc)
       (λ (kept : (step Plain (b ∷ bytes) ≡ Byte 0 b Plain) × (breaks b ≡ false)).
-      let behind : Behind (b ∷ []) 1 (reading_after step 0 Plain bytes) found =
+      let following : Following (b ∷ []) 1 (reading_after step 0 Plain bytes) found =
       after_some (b ∷ []) 1 (reading_after step 0 Plain bytes) found (rw kept.0 at is) in
-      let ends = go bytes behind.rest enough behind.is in
-      ends_behind (b ∷ []) (b ∷ []) bytes found behind ends
-      (subst (ReadsOrRefuses p content mark (b ∷ ends.front)) (sym behind.value_is)
-      (kept_read b no_mark no_backslash kept.1 ends.front behind.rest.0 ends.read)))
+      let ends = go bytes following.rest enough following.is in
+      ends_following (b ∷ []) (b ∷ []) bytes found following ends
+      (subst (ReadsOrRefuses p content mark (b ∷ ends.front)) (sym following.value_is)
+      (kept_read b no_mark no_backslash kept.1 ends.front following.rest.0 ends.read)))
       (place.others b bytes no_mark no_backslash)
 
   both_read : (n : ℕ) (bytes : List ℕ) (found : List ℕ × ℕ) → length bytes ≤ n →

@@ -112,7 +112,7 @@ module _ {p : SlotPlace} {mark : ℕ} {quotes : Quotes} {content : Content} (rea
             ∙ ap (λ (x : Transition). state_after x.next front) refuses_it ∙ stays_refused front;
         before = [];
         word = backslash ∷ less_than ∷ [];
-        behind = front;
+        following = front;
         parts = refl;
         markup = refl;
       }
@@ -123,7 +123,7 @@ module _ {p : SlotPlace} {mark : ℕ} {quotes : Quotes} {content : Content} (rea
     rest = bytes;
     value = less_than ∷ [];
     parts = refl;
-    behind = after_some (less_than ∷ []) 2 (reading_after (style_string_step mark) 0 Plain bytes) found (sym ((takes_one less_than refl refl).goes_on bytes) ∙ is);
+    following = after_some (less_than ∷ []) 2 (reading_after (style_string_step mark) 0 Plain bytes) found (sym ((takes_one less_than refl refl).goes_on bytes) ∙ is);
     reads = λ front more others rest_is read. inr (less_refused front);
   }
 
@@ -177,13 +177,13 @@ module _ {p : SlotPlace} {mark : ℕ} {quotes : Quotes} {content : Content} (rea
           rest = rest;
           value = encode_utf8 character;
           parts = whole;
-          behind = after_some (encode_utf8 character) (length (backslash ∷ tail)) (reading_after (style_string_step mark) 0 Plain rest) found
+          following = after_some (encode_utf8 character) (length (backslash ∷ tail)) (reading_after (style_string_step mark) 0 Plain rest) found
               (sym (reads_character (style_string_step mark) {mode = Plain} tail rest character step) ∙ ap (λ x. reading_after (style_string_step mark) 0 Plain (backslash ∷ x)) (sym whole) ∙ is);
           reads = λ front more others rest_is read. reads_whole (backslash ∷ tail) front (encode_utf8 character) more
               (passes_both in_digits (passes_one (map (read_byte p) (encode_utf8 character)) ends)) read;
         }
 
-    -- other bytes are read behind the digits
+    -- other bytes are read after the digits
     none : (rest : List ℕ) → ((s : ℕ) (others : List ℕ) → rest ≡ s ∷ others → (is_hex s && nat_lt (length (d ∷ digits)) 6) ≡ false) → begins_white_space rest ≡ false →
         take_while is_hex (take 6 (d ∷ digits ++ rest)) ≡ d ∷ digits → Reads p content mark (d ∷ digits ++ rest)
     unfolding style_string_step
@@ -197,23 +197,23 @@ module _ {p : SlotPlace} {mark : ℕ} {quotes : Quotes} {content : Content} (rea
           rest = rest;
           value = encode_utf8 character;
           parts = refl;
-          behind = after_some (encode_utf8 character) (length (backslash ∷ tail)) (reading_after (style_string_step mark) 0 Plain rest) found
+          following = after_some (encode_utf8 character) (length (backslash ∷ tail)) (reading_after (style_string_step mark) 0 Plain rest) found
               (sym (reads_character (style_string_step mark) {mode = Plain} tail rest character step) ∙ is);
           reads = λ front more others rest_is read. reads_on {done = []} {pending = map (read_byte p) (encode_utf8 character)} (backslash ∷ tail) front (encode_utf8 character) more
               in_digits refl (record {
-                takes = λ s behind s_is.
-                    let first : rest ≡ s ∷ (behind ++ others) = rest_is ∙ sym (append_assoc front (mark ∷ []) others) ∙ ap (λ x. x ++ others) s_is in
+                takes = λ s following s_is.
+                    let first : rest ≡ s ∷ (following ++ others) = rest_is ∙ sym (append_assoc front (mark ∷ []) others) ∙ ap (λ x. x ++ others) s_is in
                     let no_space : is_escape_space s ≡ false = rw first at plain in
-                    reads.within (d ∷ digits) s ∙ rw (stop s (behind ++ others) first, no_space, reads.string.bytes s) refl;
+                    reads.within (d ∷ digits) s ∙ rw (stop s (following ++ others) first, no_space, reads.string.bytes s) refl;
               }) read;
         }
 
   -- what follows the digits belongs to the escape or not
-  behind_digits : (d : ℕ) (digits rest : List ℕ) → is_hex d ≡ true → list_all is_hex digits ≡ true → length digits ≤ 5 →
+  after_digits : (d : ℕ) (digits rest : List ℕ) → is_hex d ≡ true → list_all is_hex digits ≡ true → length digits ≤ 5 →
       ((s : ℕ) (others : List ℕ) → rest ≡ s ∷ others → (is_hex s && nat_lt (length (d ∷ digits)) 6) ≡ false) →
       take_while is_hex (take 6 (d ∷ digits ++ rest)) ≡ d ∷ digits → Reads p content mark (d ∷ digits ++ rest)
-  behind_digits d digits [] hex all few stop taken = none d digits hex all few [] stop refl taken
-  behind_digits d digits (s ∷ rest) hex all few stop taken =
+  after_digits d digits [] hex all few stop taken = none d digits hex all few [] stop refl taken
+  after_digits d digits (s ∷ rest) hex all few stop taken =
       ⊎_elim
       (λ (space : is_escape_space s ≡ true). white d digits hex all few s rest (stop s rest refl) space taken)
       (λ (plain : is_escape_space s ≡ false). none d digits hex all few (s ∷ rest) stop plain taken)
@@ -229,7 +229,7 @@ module _ {p : SlotPlace} {mark : ℕ} {quotes : Quotes} {content : Content} (rea
       let taken : take_while is_hex (take 6 (d ∷ ds.digits ++ ds.rest)) ≡ d ∷ ds.digits =
       take_while-cons is_hex d (take 5 (ds.digits ++ ds.rest))
       ∙ rw hex (ap (λ x. d ∷ take_while is_hex (take 5 x)) (sym ds.parts) ∙ ap (λ x. d ∷ x) ds.taken) in
-      subst (λ x. Reads p content mark (d ∷ x)) (sym ds.parts) (behind_digits d ds.digits ds.rest hex ds.all ds.few stop taken)
+      subst (λ x. Reads p content mark (d ∷ x)) (sym ds.parts) (after_digits d ds.digits ds.rest hex ds.all ds.few stop taken)
 
   no_digit : (b : ℕ) (bytes : List ℕ) → is_hex b ≡ false → Reads p content mark (b ∷ bytes)
   unfolding style_string_step

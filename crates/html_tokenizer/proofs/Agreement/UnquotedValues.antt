@@ -45,7 +45,7 @@ first_keeps content b inner no_reference no_error no_return =
     rw (parts.0, no_return, no_double, no_single, parts.1, no_reference, no_less, no_equals, no_backtick) refl
 
 module _ (content : Content) (end : ℕ) where
-  -- a byte that ends no value, behind the `=` or behind other bytes of the value
+  -- a byte that ends no value, after the `=` or after other bytes of the value
   inner_byte : (start : State) (mode : Mode) (b : ℕ) → (b == ampersand) ≡ false → ends_unquoted b ≡ false →
       (is_unquoted_error b ≡ false → is_return b ≡ false → consume (at start content) b ≡ keeps Unquoted content Ordinary b) →
       AtByte start Unquoted content end is_return (unquoted_step end mode) b
@@ -96,8 +96,8 @@ module _ (content : Content) (end : ℕ) where
       inl (record { after = passes.after; actions = passes.actions }))
       (λ (has : Has is_return front). inr (record {
         before = has.before;
-        behind = has.behind;
-        parts = subst (λ x. front ≡ has.before ++ x ∷ has.behind) (eqb-true has.byte carriage_return has.is) has.parts;
+        following = has.following;
+        parts = subst (λ x. front ≡ has.before ++ x ∷ has.following) (eqb-true has.byte carriage_return has.is) has.parts;
       }))
       read
 

@@ -23,7 +23,7 @@ use Rattle.html_tokenizer.specs.Tokenizer.Transitions.{keeps}
 use Rattle.html_tokenizer.specs.Agreement.{Ends}
 use Rattle.html_tokenizer.proofs.Passing.{Passes, passes_none, passes_both, passes_byte}
 use Rattle.html_tokenizer.proofs.Slots.Html.{ReadsHtml, passes_character}
-use Rattle.html_tokenizer.proofs.Agreement.Readings.{Behind, after_some, ends_behind, ends_here}
+use Rattle.html_tokenizer.proofs.Agreement.Readings.{Following, after_some, ends_following, ends_here}
 
 -- bytes up to the first `;`
 record Split (bytes : List ℕ) : Type 0 where
@@ -57,16 +57,16 @@ split (b ∷ bytes) start k found =
 pub record Has (odd : ℕ → Bool) (bytes : List ℕ) : Type 0 where
   pub before : List ℕ
   pub byte : ℕ
-  pub behind : List ℕ
-  pub parts : bytes ≡ before ++ byte ∷ behind
+  pub following : List ℕ
+  pub parts : bytes ≡ before ++ byte ∷ following
   pub is : odd byte ≡ true
 
-has_behind : {odd : ℕ → Bool} (piece bytes : List ℕ) → Has odd bytes → Has odd (piece ++ bytes)
-has_behind piece bytes has = record {
+has_following : {odd : ℕ → Bool} (piece bytes : List ℕ) → Has odd bytes → Has odd (piece ++ bytes)
+has_following piece bytes has = record {
   before = piece ++ has.before;
   byte = has.byte;
-  behind = has.behind;
-  parts = ap (λ x. piece ++ x) has.parts ∙ sym (append_assoc piece has.before (has.byte ∷ has.behind));
+  following = has.following;
+  parts = ap (λ x. piece ++ x) has.parts ∙ sym (append_assoc piece has.before (has.byte ∷ has.following));
   is = has.is;
 }
 
@@ -85,7 +85,7 @@ pub record ReadsValue (start : State) (mode : Mode) (p : SlotPlace) (content : C
   pub references : (bytes : List ℕ) → step mode (ampersand ∷ bytes) ≡ reference bytes
   pub others : (b : ℕ) → (b == ampersand) ≡ false → AtByte start p content mark odd (step mode) b
 
--- the tokenizer is in the value behind the bytes, or one stands there at which the two differ
+-- the tokenizer is in the value after the bytes, or one stands there at which the two differ
 abbrev pub Reads : State → SlotPlace → Content → (ℕ → Bool) → List ℕ → List ℕ → Type 0
 Reads start p content odd front value =
     Passes (at start content) front (map (read_byte p) value) (at (In p) content) ⊎ Has odd front
@@ -95,14 +95,14 @@ module _ {start : State} {mode : Mode} {p : SlotPlace} {content : Content} {mark
   -- a piece that both take, before bytes that both read
   goes_on : (piece value bytes : List ℕ) (found : List ℕ × ℕ) →
       Passes (at start content) piece (map (read_byte p) value) (at (In p) content) →
-      (behind : Behind value (length piece) (reading_after step 0 Plain bytes) found) →
-      Ends (Reads (In p) p content odd) mark bytes behind.rest → Ends (Reads start p content odd) mark (piece ++ bytes) found
-  goes_on piece value bytes found passes behind ends =
-      ends_behind piece value bytes found behind ends
+      (following : Following value (length piece) (reading_after step 0 Plain bytes) found) →
+      Ends (Reads (In p) p content odd) mark bytes following.rest → Ends (Reads start p content odd) mark (piece ++ bytes) found
+  goes_on piece value bytes found passes following ends =
+      ends_following piece value bytes found following ends
       (⊎_elim
-      (λ (more : Passes (at (In p) content) ends.front (map (read_byte p) behind.rest.0) (at (In p) content)).
-      inl (rw (behind.value_is, map-append (read_byte p) value behind.rest.0) (passes_both passes more)))
-      (λ (has : Has odd ends.front). inr (has_behind piece ends.front has))
+      (λ (more : Passes (at (In p) content) ends.front (map (read_byte p) following.rest.0) (at (In p) content)).
+      inl (rw (following.value_is, map-append (read_byte p) value following.rest.0) (passes_both passes more)))
+      (λ (has : Has odd ends.front). inr (has_following piece ends.front has))
       ends.read)
 
   takes_reference : (body : List ℕ) (c : ℕ) → HasNoSemicolon body → body_character body ≡ Some c →
@@ -119,7 +119,7 @@ module _ {start : State} {mode : Mode} {p : SlotPlace} {content : Content} {mark
       reading_after step 0 mode (ampersand ∷ (body ++ semicolon ∷ rest)) ≡ None
   no_character_none body rest none is = rw (reads.references (body ++ semicolon ∷ rest), reference-body body rest none, is) refl
 
-  -- what both read of the bytes behind a reference, they read of all
+  -- what both read of the bytes after a reference, they read of all
   abbrev GoesOn : ℕ → Type 0
   GoesOn n = (rest : List ℕ) (f : List ℕ × ℕ) → length rest ≤ n → reading_after step 0 Plain rest ≡ Some f → Ends (Reads (In p) p content odd) mark rest f
 
@@ -135,14 +135,14 @@ module _ {start : State} {mode : Mode} {p : SlotPlace} {content : Content} {mark
       let piece : List ℕ = ampersand ∷ (s.body ++ semicolon ∷ []) in
       let whole : ampersand ∷ bytes ≡ piece ++ s.rest =
       ap (λ x. ampersand ∷ x) (s.parts ∙ sym (append_assoc s.body (semicolon ∷ []) s.rest)) in
-      let behind : Behind (encode_utf8 c) (length piece) (reading_after step 0 Plain s.rest) found =
+      let following : Following (encode_utf8 c) (length piece) (reading_after step 0 Plain s.rest) found =
       after_some (encode_utf8 c) (length piece) (reading_after step 0 Plain s.rest) found
       (sym ((takes_reference s.body c s.none read).goes_on s.rest)
       ∙ sym (ap (λ x. reading_after step 0 mode x) whole) ∙ is) in
       let long : length bytes ≡ length s.body + length (semicolon ∷ s.rest) = ap length s.parts ∙ length-append s.body (semicolon ∷ s.rest) in
       let fewer : length s.rest ≤ n = omega arith in
       subst (λ x. Ends (Reads start p content odd) mark x found) (sym whole)
-      (goes_on piece (encode_utf8 c) s.rest found (passes_character reads.html s.body c s.none read) behind (go s.rest behind.rest fewer behind.is))
+      (goes_on piece (encode_utf8 c) s.rest found (passes_character reads.html s.body c s.none read) following (go s.rest following.rest fewer following.is))
 
   by_semicolon : (n : ℕ) → GoesOn n → (bytes : List ℕ) (found : List ℕ × ℕ) → length bytes ≤ n →
       reading_after step 0 mode (ampersand ∷ bytes) ≡ Some found → (place : Option ℕ) → position_from (λ b. b == semicolon) 0 bytes ≡ place →
@@ -162,15 +162,15 @@ module _ {start : State} {mode : Mode} {p : SlotPlace} {content : Content} {mark
       rw (at_mark, within) (ends_here bytes found closed (inl passes_none))
   at_byte n go b bytes found enough is (nothing none) = let never : None ≡ Some found = rw (none bytes) at is in cc
   at_byte n go b bytes found enough is (kept takes keeps_it) =
-      let behind : Behind (b ∷ []) 1 (reading_after step 0 Plain bytes) found =
+      let following : Following (b ∷ []) 1 (reading_after step 0 Plain bytes) found =
       after_some (b ∷ []) 1 (reading_after step 0 Plain bytes) found (rw (takes bytes) at is) in
-      goes_on (b ∷ []) (b ∷ []) bytes found (passes_byte keeps_it passes_none) behind (go bytes behind.rest enough behind.is)
+      goes_on (b ∷ []) (b ∷ []) bytes found (passes_byte keeps_it passes_none) following (go bytes following.rest enough following.is)
   at_byte n go b bytes found enough is (differs takes odd_is) =
-      let behind : Behind (b ∷ []) 1 (reading_after step 0 Plain bytes) found =
+      let following : Following (b ∷ []) 1 (reading_after step 0 Plain bytes) found =
       after_some (b ∷ []) 1 (reading_after step 0 Plain bytes) found (rw (takes bytes) at is) in
-      let ends : Ends (Reads (In p) p content odd) mark bytes behind.rest = go bytes behind.rest enough behind.is in
-      ends_behind (b ∷ []) (b ∷ []) bytes found behind ends
-      (inr (record { before = []; byte = b; behind = ends.front; parts = refl; is = odd_is }))
+      let ends : Ends (Reads (In p) p content odd) mark bytes following.rest = go bytes following.rest enough following.is in
+      ends_following (b ∷ []) (b ∷ []) bytes found following ends
+      (inr (record { before = []; byte = b; following = ends.front; parts = refl; is = odd_is }))
 
   -- where what follows one item is read by both, so are all the bytes
   pub from_first : (n : ℕ) → GoesOn n → (bytes : List ℕ) (found : List ℕ × ℕ) → length bytes ≤ suc n →

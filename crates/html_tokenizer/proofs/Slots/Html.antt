@@ -193,7 +193,7 @@ unquoted_stays content text =
     subst (Stays place.Unquoted (In place.Unquoted) content (encoding class.UnquotedAttribute text))
     (read_back-nul class.UnquotedAttribute refl text) (passes_encoding (unquoted_reads content) text)
 
--- behind `=` the first image begins the value
+-- after `=` the first image begins the value
 passes_first : (content : Content) (text : List ℕ) → length text ≢ 0 →
     Passes (at BeforeValue content) (encoding class.UnquotedAttribute text) (map (read_byte place.Unquoted) (flat_map (read_image class.UnquotedAttribute) text)) (at (In place.Unquoted) content)
 passes_first content [] full = absurd (full refl)

@@ -38,7 +38,7 @@ stays kind content b = goes (state.InCode kind) content (CodeByte b ∷ [])
 abbrev pub block_byte : Content → ℕ → Transition
 block_byte content b = if b == asterisk then stays code.BlockStar content b else stays code.BlockComment content b
 
--- a byte behind a `*` of such a comment
+-- a byte after a `*` of such a comment
 abbrev pub block_star_byte : Content → ℕ → Transition
 block_star_byte content b = if b == slash then stays code.Plain content b else block_byte content b
 
@@ -91,7 +91,7 @@ url_byte b =
     else (if b == double_quote || b == single_quote || b == opening_parenthesis || b == backslash then refuses
     else stays code.Url Style b)
 
--- a byte behind `url(` and white space: what stands in quotes there is a URL
+-- a byte after `url(` and white space: what stands in quotes there is a URL
 abbrev pub url_open_byte : ℕ → Transition
 url_open_byte b =
     if b == single_quote then moves (at_value (state.In StyleSingle) Style Forbidden) (StringStart ∷ [])
@@ -119,21 +119,21 @@ code_byte kind Style b = style_code_byte kind b
 code_byte kind DataBlock b = stays code.Plain DataBlock b
 code_byte kind other b = refuses
 
--- what the code is behind a `<`
-abbrev pub behind_less : Code → Code
-behind_less code.LineComment = code.LineComment
-behind_less code.LineLead = code.LineComment
-behind_less code.LineSecond = code.LineComment
-behind_less code.BlockComment = code.BlockComment
-behind_less code.BlockStar = code.BlockComment
-behind_less code.UrlOpen = code.Url
-behind_less code.Url = code.Url
-behind_less other = code.Plain
+-- what the code is after a `<`
+abbrev pub code_after_less : Code → Code
+code_after_less code.LineComment = code.LineComment
+code_after_less code.LineLead = code.LineComment
+code_after_less code.LineSecond = code.LineComment
+code_after_less code.BlockComment = code.BlockComment
+code_after_less code.BlockStar = code.BlockComment
+code_after_less code.UrlOpen = code.Url
+code_after_less code.Url = code.Url
+code_after_less other = code.Plain
 
--- at a `<`, which behind a `/` of a script would stand in a regular expression
+-- at a `<`, which after a `/` of a script would stand in a regular expression
 abbrev pub less_in : Code → Content → Transition
 less_in code.Slash Script = refuses
-less_in kind content = goes (state.CodeLess (behind_less kind)) content []
+less_in kind content = goes (state.CodeLess (code_after_less kind)) content []
 
 -- 13.2.5.3 RAWTEXT state, 13.2.5.4 Script data state
 abbrev pub in_code_byte : Code → Content → ℕ → Transition

@@ -39,18 +39,18 @@ script_string_byte = string_byte ends_line
 abbrev pub style_string_byte : ℕ → SlotPlace → Content → Attribute → ℕ → Transition
 style_string_byte = string_byte is_newline_or_nul
 
--- behind a `<` of a string
+-- after a `<` of a string
 abbrev pub string_less_byte : Transition → ℕ → Transition
 string_less_byte again b =
     if b == slash || b == exclamation_mark then refuses
     else reconsumes (StringByte less_than ∷ []) again
 
--- the character of an escape of exactly so many bytes behind its `\`
+-- the character of an escape of exactly so many bytes after its `\`
 abbrev pub escape_character : ℕ → Step → Option ℕ
 escape_character count (step.Character more c next) = if more == count then Some c else None
 escape_character count other = None
 
--- the character of an escape's bytes behind its `\`
+-- the character of an escape's bytes after its `\`
 abbrev pub character_of_escape : List ℕ → Option ℕ
 character_of_escape word =
     if bytes_eq word (slash ∷ []) then Some slash else escape_character (length word) (script_escape word)
@@ -69,7 +69,7 @@ script_escape_byte p content attribute word =
 abbrev pub is_escape_space : ℕ → Bool
 is_escape_space b = b == space || b == tab || b == line_feed
 
--- behind the hex digits of an escape of a style
+-- after the hex digits of an escape of a style
 abbrev pub digits_read : SlotPlace → Content → Attribute → List ℕ → Transition
 digits_read p content attribute digits =
     character_read p content attribute (Some (escaped_character (digits_value 16 digits)))

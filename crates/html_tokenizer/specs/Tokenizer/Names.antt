@@ -62,7 +62,7 @@ is_javascript type =
     bytes_eq type [] || bytes_eq type (codes "module") ||
     bytes_eq type (codes "text/javascript") || bytes_eq type (codes "application/javascript")
 
--- behind the `=` of an attribute: a script is a data block unless its one type is JavaScript's
+-- after the `=` of an attribute: a script is a data block unless its one type is JavaScript's
 abbrev pub value_of : Content → List ℕ → Tokenizer
 value_of Script name =
     if bytes_eq name (codes "type") then at_value BeforeValue DataBlock (ScriptType [])
@@ -73,10 +73,10 @@ value_of DataBlock name =
     else at_value BeforeValue DataBlock (attribute_of name)
 value_of other name = at_value BeforeValue other (attribute_of name)
 
--- behind the value of an attribute
-abbrev pub content_behind : Content → Attribute → Content
-content_behind content (ScriptType type) = if is_javascript type then Script else content
-content_behind content other = content
+-- after the value of an attribute
+abbrev pub content_after : Content → Attribute → Content
+content_after content (ScriptType type) = if is_javascript type then Script else content
+content_after content other = content
 
 abbrev pub colon : ℕ
 colon = 58
@@ -95,9 +95,9 @@ scheme_end scheme =
     else (if bytes_eq scheme (codes "mailto") || bytes_eq scheme (codes "tel") then Ordinary
     else Forbidden)
 
--- behind one byte more of an attribute's value
+-- after one byte more of an attribute's value
 -- URL Standard, 4.4: before the first `:` the bytes are a scheme, unless `/`, `?` or `#` stands before
--- it; behind `http:` and `https:` come `//`, a host, and `/`, `?` or `#`
+-- it; after `http:` and `https:` come `//`, a host, and `/`, `?` or `#`
 abbrev pub value_byte_read : Attribute → ℕ → Attribute
 value_byte_read Ordinary b = Ordinary
 value_byte_read Forbidden b = Forbidden

@@ -62,7 +62,7 @@ pub data Attribute : Type 0 where
   Forbidden : Attribute
   -- URL Standard, 4.4, scheme state: a URL, and its bytes so far
   Scheme : List ℕ → Attribute
-  -- behind `http:` or `https:`, behind the first `/`, behind the second, and in the host
+  -- after `http:` or `https:`, after the first `/`, after the second, and in the host
   AfterScheme : Attribute
   AfterSlash : Attribute
   AfterSlashes : Attribute

@@ -64,15 +64,15 @@ end_tag_open_byte content b =
 abbrev pub ends_name : ℕ → Bool
 ends_name b = is_space b || b == slash || b == greater_than
 
--- behind the name of an element, if the profile has it
-abbrev pub behind_name : Option Content → ℕ → Transition
-behind_name None b = refuses
-behind_name (Some content) b = in_tag state.BeforeName content b refuses
+-- after the name of an element, if the profile has it
+abbrev pub after_element_name : Option Content → ℕ → Transition
+after_element_name None b = refuses
+after_element_name (Some content) b = in_tag state.BeforeName content b refuses
 
 -- 13.2.5.8 Tag name state of a start tag
 abbrev pub tag_name_byte : Content → List ℕ → ℕ → Transition
 tag_name_byte content name b =
-    if ends_name b then behind_name (content_of name) b
+    if ends_name b then after_element_name (content_of name) b
     else (if b == 0 then refuses
     else goes (state.TagName (name ++ to_ascii_lowercase b ∷ [])) content (TagNameByte (to_ascii_lowercase b) ∷ []))
 

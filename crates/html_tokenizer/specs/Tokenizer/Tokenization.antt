@@ -68,7 +68,7 @@ byte_in state.Refused content attribute b = refuses
 unfoldable pub consume : Tokenizer → ℕ → Transition
 consume t b = byte_in t.state t.content t.attribute b
 
--- where the tokenizer is behind the bytes
+-- where the tokenizer is after the bytes
 abbrev pub state_after : Tokenizer → List ℕ → Tokenizer
 state_after t [] = t
 state_after t (b ∷ bytes) = state_after (consume t b).next bytes

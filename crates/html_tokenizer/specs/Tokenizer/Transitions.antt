@@ -6,7 +6,7 @@ use Rattle.html_tokenizer.specs.Tokenizer.Actions.{Action, read_byte}
 use Rattle.html_tokenizer.specs.Tokenizer.Names.{value_byte_read}
 use Rattle.html_tokenizer.specs.Tokenizer.States.{State, In, Attribute, Tokenizer, at, at_value, refused}
 
--- the tokenizer behind a byte, and its actions at it
+-- the tokenizer after a byte, and its actions at it
 pub record Transition : Type 0 where
   pub next : Tokenizer
   pub actions : List Action

@@ -9,7 +9,7 @@ use Rattle.html_tokenizer.specs.declared.slot_place.SlotPlace.{SlotPlace}
 use Rattle.html_tokenizer.specs.declared.slot_place.SlotPlace.TheVariants.{Text, DoubleQuoted, SingleQuoted, Unquoted}
 use Rattle.html_tokenizer.specs.declared.states.Content.{Content}
 use Rattle.html_tokenizer.specs.Tokenizer.Actions.{read_byte}
-use Rattle.html_tokenizer.specs.Tokenizer.Names.{content_behind, reference_read}
+use Rattle.html_tokenizer.specs.Tokenizer.Names.{content_after, reference_read}
 use Rattle.html_tokenizer.specs.Tokenizer.States as state
 use Rattle.html_tokenizer.specs.Tokenizer.States.{Attribute, at_value}
 use Rattle.html_tokenizer.specs.Tokenizer.Tags.{is_space, opened}
@@ -19,7 +19,7 @@ use Rattle.html_tokenizer.specs.Tokenizer.Transitions.{Transition, goes, moves, 
 abbrev pub begins_character : SlotPlace → Content → Attribute → Transition
 begins_character p content attribute = moves (at_value (state.Within p []) content (reference_read attribute)) []
 
--- behind a reference or an escape that is read as a character
+-- after a reference or an escape that is read as a character
 abbrev pub character_read : SlotPlace → Content → Attribute → Option ℕ → Transition
 character_read p content attribute None = refuses
 character_read p content attribute (Some c) =
@@ -41,7 +41,7 @@ text_byte content attribute b =
 -- 13.2.5.36 Attribute value (double-quoted) state, 13.2.5.37 Attribute value (single-quoted) state
 abbrev pub quoted_byte : ℕ → SlotPlace → Content → Attribute → ℕ → Transition
 quoted_byte mark p content attribute b =
-    if b == mark then goes state.AfterValue (content_behind content attribute) []
+    if b == mark then goes state.AfterValue (content_after content attribute) []
     else (if b == ampersand then begins_character p content attribute
     else keeps p content attribute b)
 
@@ -55,8 +55,8 @@ unquoted_byte content attribute b =
 -- 13.2.5.38 Attribute value (unquoted) state
 abbrev pub unquoted_value_byte : Content → Attribute → ℕ → Transition
 unquoted_value_byte content attribute b =
-    if is_space b then goes state.BeforeName (content_behind content attribute) []
-    else (if b == greater_than then opened (content_behind content attribute)
+    if is_space b then goes state.BeforeName (content_after content attribute) []
+    else (if b == greater_than then opened (content_after content attribute)
     else unquoted_byte content attribute b)
 
 -- 13.2.5.35 Before attribute value state

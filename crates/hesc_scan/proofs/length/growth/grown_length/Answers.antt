@@ -17,9 +17,9 @@ sum_chunk f bytes found i stands =
 -- the chunks and the rest
 sum_whole : (f : ℕ → ℕ) (bytes rest : List ℕ) (chunks : ℕ) → chunks ≡ length bytes / 32 → rest ≡ drop (length bytes / 32 * 32) bytes
     → sum_by f (take (32 * chunks) bytes) + sum_by f rest ≡ sum_by f bytes
-sum_whole f bytes rest chunks many behind =
+sum_whole f bytes rest chunks many following =
     let place : length bytes / 32 * 32 ≡ 32 * chunks = omega (arith, many) in
-    ap (λ l. sum_by f (take (32 * chunks) bytes) + sum_by f l) (behind ∙ ap (λ n. drop n bytes) place)
+    ap (λ l. sum_by f (take (32 * chunks) bytes) + sum_by f l) (following ∙ ap (λ n. drop n bytes) place)
     ∙ sum_by-take-drop f bytes (32 * chunks)
 
 pub full-requires : goal.full-requires

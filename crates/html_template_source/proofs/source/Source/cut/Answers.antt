@@ -11,7 +11,7 @@ slots-preserved g c =
         front ++ (c.in-Some.markup.now ++ slot_text c.in-Some-cut_at.name.now),
         (
           c.in_ok-add_slot.ensures front c.slots.invariant.1.1.0,
-          goes_on front c.slots.rest.now c.in-Some.markup.now c.in-Some.behind.now c.in-Some-cut_at.name.now c.in-Some-cut_at.more.now c.args.source.now
+          goes_on front c.slots.rest.now c.in-Some.markup.now c.in-Some.following.now c.in-Some-cut_at.name.now c.in-Some-cut_at.more.now c.args.source.now
               c.in-Some.ensures.whole c.in-Some-cut_at.ensures.whole c.slots.invariant.1.1.1,
         ),
       ),
