@@ -4,8 +4,8 @@ ghost use Rattle.std.specs.Option.{option_map};
 ghost use Rattle.std.specs.Str.{IsUtf8};
 ghost use Rattle.hesc_grammars.specs.Places.{end_of, reading};
 
-use crate::step::{Mode, Step, first_mode, step_of};
 use crate::place::Place;
+use crate::step::{Mode, Step, first_mode, step_of};
 use std::alloc::{AllocError, Allocator, Global};
 
 /// What stands in a place, and where it ends.

@@ -4,9 +4,9 @@ ghost use Rattle.hesc_grammars.specs.Places.{first_mode, step_of};
 
 use crate::bodies::{script_body_step, style_body_step};
 use crate::html::{marked_step, unquoted_step};
+use crate::place::{Place, end_byte};
 use crate::script_strings::script_string_step;
 use crate::style_strings::style_string_step;
-use crate::place::{Place, end_byte};
 
 /// How far a reading is.
 #[derive(Clone, Copy, Debug, PartialEq, Eq)]

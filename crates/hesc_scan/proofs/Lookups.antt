@@ -22,13 +22,19 @@ high_halves_fit v long below =
     SwzOk-from_below w8 16 2 32 0 (zip2 high_half v (replicate 32 4)) refl (omega (arith, length-zip2 high_half v (replicate 32 4) long))
     (Each1-zip2 high_half (λ j. j < 16) v (replicate 32 4) (Each2-splat (λ a b. high_half a b < 16) v 32 4 small))
 
-module _ (table : List ℕ) (twice : agree_below (λ j. get_or table (16 + j) 0 == get_or table j 0) (λ _. true) 16 ≡ true) (half : ℕ → ℕ) (small : (b : ℕ) → b < 256 → half b < 16) where
+-- that a table stands twice is computed
+pub stands_twice : (table : List ℕ) → agree_below (λ j. get_or table (16 + j) 0 == get_or table j 0) (λ _. true) 16 ≡ true →
+    (j : ℕ) → j < 16 → get_or table (16 + j) 0 ≡ get_or table j 0
+stands_twice table same j below =
+    eqb-true _ _ (agree_below_at (λ k. get_or table (16 + k) 0 == get_or table k 0) (λ _. true) 16 j same below)
+
+module _ (table : List ℕ) (twice : (j : ℕ) → j < 16 → get_or table (16 + j) 0 ≡ get_or table j 0) (half : ℕ → ℕ) (small : (b : ℕ) → b < 256 → half b < 16) where
   repeats : (i j : ℕ) → i < 32 → j < 16 → get_or table (16 * ((i + 0) / 16) + j) 0 ≡ get_or table j 0
   repeats i j within below = elim (cases_lt i 16) [
     | inl first ↦ ap (λ at. get_or table at 0) (omega arith)
     | inr second ↦
         let place : 16 * ((i + 0) / 16) + j ≡ 16 + j = omega arith in
-        ap (λ at. get_or table at 0) place ∙ eqb-true _ _ (agree_below_at (λ k. get_or table (16 + k) 0 == get_or table k 0) (λ _. true) 16 j twice below)
+        ap (λ at. get_or table at 0) place ∙ twice j below
   ]
 
   looked_up_from : (i : ℕ) (v : List ℕ) → i + length v ≤ 32 → Each1 (λ b. b < 256) v → swz_l w8 16 table i (map half v) ≡ map (λ b. get_or table (half b) 0) v

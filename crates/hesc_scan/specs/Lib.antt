@@ -1,3 +1,4 @@
 pub mod Blocks
 pub mod ClassNumbers
+pub mod Entries
 pub mod Groups

@@ -1,4 +1,4 @@
-//! Which of 32 bytes are in a class, or one or two given bytes, by comparisons of all of them at once.
+//! Which of 32 bytes are in a class, or one or two given bytes, for all of them at once.
 ghost use Rattle.std.specs.Prelude.{◌≡◌, ◌<◌, map};
 ghost use Rattle.std.specs.Simd.Lanes.{Each1, mask_l};
 ghost use Rattle.memchr.specs.Find.{is_byte, is_byte2};
@@ -6,6 +6,7 @@ ghost use Rattle.hesc_specs.specs.Text.Classes.{in_class};
 ghost use Rattle.hesc_scan.specs.Blocks.{block_bytes};
 
 use crate::block::Block;
+use crate::entries::{entries_of, hits_of_entries};
 use crate::groups::{DOUBLE, SCRIPT, SINGLE, STYLE, hits_of_groups};
 use hesc_specs::Class;
 use std::simd::prelude::*;
@@ -16,24 +17,18 @@ pub(crate) fn hits(class: Class, v: u8x32) -> u64
     requires { Each1 (λ b. b < 256) v }
     ensures { result ≡ mask_l (map (in_class class) v) }
 {
-    let less = v.simd_eq(u8x32::splat(b'<'));
-    let markup = v.simd_eq(u8x32::splat(b'&')) | less;
-    let brackets = markup | v.simd_eq(u8x32::splat(b'>'));
-    let double = v.simd_eq(u8x32::splat(b'"'));
-    let single = v.simd_eq(u8x32::splat(b'\''));
-    let slash = v.simd_eq(u8x32::splat(b'/'));
     let letters = (v | u8x32::splat(0x20)) - u8x32::splat(b'a');
     let digits = v - u8x32::splat(b'0');
     let symbols = v.simd_lt(u8x32::splat(128))
         & letters.simd_ge(u8x32::splat(26))
         & digits.simd_ge(u8x32::splat(10));
     match class {
-        Class::TextMinimal => markup.to_bitmask(),
-        Class::Text => brackets.to_bitmask(),
-        Class::DoubleQuotedAttribute => (brackets | double).to_bitmask(),
-        Class::SingleQuotedAttribute => (brackets | single).to_bitmask(),
-        Class::QuotedAttribute => (brackets | double | single).to_bitmask(),
-        Class::Safe => (brackets | double | single | slash).to_bitmask(),
+        Class::TextMinimal
+        | Class::Text
+        | Class::DoubleQuotedAttribute
+        | Class::SingleQuotedAttribute
+        | Class::QuotedAttribute
+        | Class::Safe => hits_of_entries(entries_of(class), v),
         Class::UnquotedAttribute => symbols.to_bitmask(),
         Class::ScriptSingleQuoted => hits_of_groups(SCRIPT | SINGLE, v),
         Class::ScriptDoubleQuoted => hits_of_groups(SCRIPT | DOUBLE, v),

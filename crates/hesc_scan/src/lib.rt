@@ -6,6 +6,7 @@
 #![tactic(auto)]
 
 mod block;
+mod entries;
 pub mod find;
 mod flags;
 mod groups;

@@ -1,7 +1,7 @@
 use Rattle.std.proofs.Common.{◌/◌, refl, arith}
 use Rattle.std.proofs.lemmas.Simd.{zip2_splat}
 use Rattle.hesc_scan.specs.declared.groups.TheConstants.{BY_HIGH_HALF}
-use Rattle.hesc_scan.proofs.Lookups.{high_half, high_halves_fit, looked_up}
+use Rattle.hesc_scan.proofs.Lookups.{high_half, high_halves_fit, looked_up, stands_twice}
 use Rattle.hesc_scan.proofs.groups.by_high_half.Goals as goal
 
 pub swizzle : goal.swizzle
@@ -10,4 +10,4 @@ swizzle c = high_halves_fit c.args.v c.fits-v.0 c.requires
 pub returns : goal.returns
 returns c =
     let v = c.args.v in
-    looked_up BY_HIGH_HALF refl (λ b. b / 16) (λ b below. omega arith) v _ c.fits-v.0 c.requires (zip2_splat high_half v 32 4 c.fits-v.0)
+    looked_up BY_HIGH_HALF (stands_twice BY_HIGH_HALF refl) (λ b. b / 16) (λ b below. omega arith) v _ c.fits-v.0 c.requires (zip2_splat high_half v 32 4 c.fits-v.0)

@@ -1,44 +1,29 @@
-use Rattle.std.proofs.Common.{ℕ, leb, cond, bit_and, refl}
+use Rattle.std.proofs.Common.{ℕ, ◌≡◌, ◌+◌, leb, cond, bit_and, map, refl, sym, ap, ◌∙◌, ⊎_elim}
+use Rattle.std.specs.Prelude.{slice_index}
 use Rattle.std.proofs.lemmas.Simd.{zip2_splat, zip2_of_maps, splat_is_map}
+use Rattle.std.specs.Simd.Lanes.{mask_l}
+use Rattle.hesc_specs.specs.declared.classes.Class.TheVariants.{TextMinimal, Text, DoubleQuotedAttribute, SingleQuotedAttribute, QuotedAttribute, Safe}
+use Rattle.hesc_scan.specs.Entries.{is_entry, table_of}
 use Rattle.hesc_scan.specs.Groups.{in_groups}
 use Rattle.hesc_scan.proofs.LaneLemmas.{mask_as_class, mask_of}
+use Rattle.hesc_scan.proofs.ClassEntries.{mask_by_table, table_stands_twice}
 use Rattle.hesc_scan.proofs.lanes.hits.Goals as goal
+
+pub hits_of_entries-requires-clause-twice : goal.hits_of_entries-requires-clause-twice
+hits_of_entries-requires-clause-twice c half below =
+    ap (λ t. slice_index t (16 + half)) c.entries_of.ensures ∙ table_stands_twice c.args.class half below ∙ ap (λ t. slice_index t half) (sym c.entries_of.ensures)
 
 pub returns-in-TextMinimal : goal.returns-in-TextMinimal
 returns-in-TextMinimal c =
     let v = c.args.v in
-    let long = c.fits-v.0 in
-    mask_of _ _ _ v _ c.in-TextMinimal.is long c.requires (zip2_of_maps _ _ _ v (zip2_splat _ v 32 38 long) (zip2_splat _ v 32 60 long)) refl
-
-pub returns-in-Text : goal.returns-in-Text
-returns-in-Text c =
-    let v = c.args.v in
-    let long = c.fits-v.0 in
-    mask_of _ _ _ v _ c.in-Text.is long c.requires (zip2_of_maps _ _ _ v (zip2_of_maps _ _ _ v (zip2_splat _ v 32 38 long) (zip2_splat _ v 32 60 long)) (zip2_splat _ v 32 62 long)) refl
-
-pub returns-in-DoubleQuotedAttribute : goal.returns-in-DoubleQuotedAttribute
-returns-in-DoubleQuotedAttribute c =
-    let v = c.args.v in
-    let long = c.fits-v.0 in
-    mask_of _ _ _ v _ c.in-DoubleQuotedAttribute.is long c.requires (zip2_of_maps _ _ _ v (zip2_of_maps _ _ _ v (zip2_of_maps _ _ _ v (zip2_splat _ v 32 38 long) (zip2_splat _ v 32 60 long)) (zip2_splat _ v 32 62 long)) (zip2_splat _ v 32 34 long)) refl
-
-pub returns-in-SingleQuotedAttribute : goal.returns-in-SingleQuotedAttribute
-returns-in-SingleQuotedAttribute c =
-    let v = c.args.v in
-    let long = c.fits-v.0 in
-    mask_of _ _ _ v _ c.in-SingleQuotedAttribute.is long c.requires (zip2_of_maps _ _ _ v (zip2_of_maps _ _ _ v (zip2_of_maps _ _ _ v (zip2_splat _ v 32 38 long) (zip2_splat _ v 32 60 long)) (zip2_splat _ v 32 62 long)) (zip2_splat _ v 32 39 long)) refl
-
-pub returns-in-QuotedAttribute : goal.returns-in-QuotedAttribute
-returns-in-QuotedAttribute c =
-    let v = c.args.v in
-    let long = c.fits-v.0 in
-    mask_of _ _ _ v _ c.in-QuotedAttribute.is long c.requires (zip2_of_maps _ _ _ v (zip2_of_maps _ _ _ v (zip2_of_maps _ _ _ v (zip2_of_maps _ _ _ v (zip2_splat _ v 32 38 long) (zip2_splat _ v 32 60 long)) (zip2_splat _ v 32 62 long)) (zip2_splat _ v 32 34 long)) (zip2_splat _ v 32 39 long)) refl
-
-pub returns-in-Safe : goal.returns-in-Safe
-returns-in-Safe c =
-    let v = c.args.v in
-    let long = c.fits-v.0 in
-    mask_of _ _ _ v _ c.in-Safe.is long c.requires (zip2_of_maps _ _ _ v (zip2_of_maps _ _ _ v (zip2_of_maps _ _ _ v (zip2_of_maps _ _ _ v (zip2_of_maps _ _ _ v (zip2_splat _ v 32 38 long) (zip2_splat _ v 32 60 long)) (zip2_splat _ v 32 62 long)) (zip2_splat _ v 32 34 long)) (zip2_splat _ v 32 39 long)) (zip2_splat _ v 32 47 long)) refl
+    let is : c.hits_of_entries.result ≡ mask_l (map (is_entry (table_of c.args.class)) v) =
+    c.hits_of_entries.ensures ∙ ap (λ t. mask_l (map (is_entry t) v)) c.entries_of.ensures in
+    let by = mask_by_table c.args.class v c.hits_of_entries.result c.requires is in
+    ⊎_elim (by TextMinimal refl)
+    (⊎_elim (by Text refl)
+    (⊎_elim (by DoubleQuotedAttribute refl)
+    (⊎_elim (by SingleQuotedAttribute refl) (⊎_elim (by QuotedAttribute refl) (by Safe refl)))))
+    c.in-TextMinimal.is
 
 pub returns-in-UnquotedAttribute : goal.returns-in-UnquotedAttribute
 returns-in-UnquotedAttribute c =

@@ -1,0 +1,71 @@
+//! The classes of the HTML encoders, but for that of unquoted values, by the low halves of bytes: no
+//! two bytes of such a class end in the same half. So a table has for each half the byte of the class
+//! that ends in it, and a byte is in the class exactly if it is its own entry.
+ghost use Rattle.std.specs.Prelude.{◌≡◌, ◌<◌, ◌+◌, ℕ, map, slice_index};
+ghost use Rattle.std.specs.Simd.Lanes.{Each1, mask_l};
+ghost use Rattle.hesc_scan.specs.Entries.{is_entry, table_of};
+
+use hesc_specs::Class;
+use std::simd::prelude::*;
+
+// Where no byte of the class ends in a half, its entry ends in another: it is 0, and this one for
+// the half 0.
+const OTHER: u8 = 1;
+
+// Each table stands twice, as a swizzle reads each 16 lanes.
+const TEXT_MINIMAL: [u8; 32] = [
+    OTHER, 0, 0, 0, 0, 0, b'&', 0, 0, 0, 0, 0, b'<', 0, 0, 0, //
+    OTHER, 0, 0, 0, 0, 0, b'&', 0, 0, 0, 0, 0, b'<', 0, 0, 0, //
+];
+
+const TEXT: [u8; 32] = [
+    OTHER, 0, 0, 0, 0, 0, b'&', 0, 0, 0, 0, 0, b'<', 0, b'>', 0, //
+    OTHER, 0, 0, 0, 0, 0, b'&', 0, 0, 0, 0, 0, b'<', 0, b'>', 0, //
+];
+
+const DOUBLE_QUOTED: [u8; 32] = [
+    OTHER, 0, b'"', 0, 0, 0, b'&', 0, 0, 0, 0, 0, b'<', 0, b'>', 0, //
+    OTHER, 0, b'"', 0, 0, 0, b'&', 0, 0, 0, 0, 0, b'<', 0, b'>', 0, //
+];
+
+const SINGLE_QUOTED: [u8; 32] = [
+    OTHER, 0, 0, 0, 0, 0, b'&', b'\'', 0, 0, 0, 0, b'<', 0, b'>', 0, //
+    OTHER, 0, 0, 0, 0, 0, b'&', b'\'', 0, 0, 0, 0, b'<', 0, b'>', 0, //
+];
+
+const QUOTED: [u8; 32] = [
+    OTHER, 0, b'"', 0, 0, 0, b'&', b'\'', 0, 0, 0, 0, b'<', 0, b'>', 0, //
+    OTHER, 0, b'"', 0, 0, 0, b'&', b'\'', 0, 0, 0, 0, b'<', 0, b'>', 0, //
+];
+
+const SAFE: [u8; 32] = [
+    OTHER, 0, b'"', 0, 0, 0, b'&', b'\'', 0, 0, 0, 0, b'<', 0, b'>', b'/', //
+    OTHER, 0, b'"', 0, 0, 0, b'&', b'\'', 0, 0, 0, 0, b'<', 0, b'>', b'/', //
+];
+
+/// The table of a class, of unquoted values and of strings any.
+#[inline(always)]
+pub(crate) fn entries_of(class: Class) -> &'static [u8; 32]
+    ensures { result.now ≡ table_of class }
+{
+    match class {
+        Class::TextMinimal => &TEXT_MINIMAL,
+        Class::Text => &TEXT,
+        Class::DoubleQuotedAttribute => &DOUBLE_QUOTED,
+        Class::SingleQuotedAttribute => &SINGLE_QUOTED,
+        Class::QuotedAttribute => &QUOTED,
+        _ => &SAFE,
+    }
+}
+
+/// Bit `k` of the answer is set exactly if byte `k` is its own entry.
+#[inline(always)]
+pub(crate) fn hits_of_entries(table: &[u8; 32], v: u8x32) -> u64
+    requires twice { (half : ℕ) → half < 16
+        → slice_index table.now (16 + half) ≡ slice_index table.now half }
+    requires below { Each1 (λ b. b < 256) v }
+    ensures { result ≡ mask_l (map (is_entry table.now) v) }
+{
+    let entries = u8x32::from_array(*table).swizzle_dyn_within::<16>(v & u8x32::splat(15));
+    v.simd_eq(entries).to_bitmask()
+}
