@@ -1,13 +1,10 @@
-pub mod Bounds
 pub mod ChunkSearch
-pub mod CountSteps
+pub mod ClassEntries
 pub mod EscapeSearch
 pub mod FlagTable
 pub mod FoundBytes
-pub mod GrowthSums
 pub mod LaneLemmas
-pub mod Longest
+pub mod Lengths
 pub mod Lookups
 pub mod Masks
 pub mod OpeningSearch
-pub mod StringGrowthSums

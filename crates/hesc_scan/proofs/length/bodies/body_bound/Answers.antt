@@ -1,6 +1,6 @@
 use Rattle.std.proofs.Common.{refl}
 use Rattle.hesc_specs.proofs.Bodies.Bound.{empty-body_encoding, length-body_encoding}
-use Rattle.hesc_scan.proofs.Bounds.{empty, enough}
+use Rattle.hesc_scan.proofs.Lengths.Bounds.{empty, enough}
 use Rattle.hesc_scan.proofs.length.bodies.body_bound.Goals as goal
 
 pub returns-clause-enough : goal.returns-clause-enough

@@ -1,5 +1,5 @@
 use Rattle.std.proofs.Common.{◌≡◌, sym, subst, IfSome, arith}
-use Rattle.hesc_scan.proofs.GrowthSums.{length-encoding}
+use Rattle.hesc_scan.proofs.Lengths.GrowthSums.{length-encoding}
 use Rattle.hesc_scan.proofs.length.html.length_in.Goals as goal
 
 pub returns-clause-count : goal.returns-clause-count

@@ -2,8 +2,8 @@ use Rattle.std.proofs.Common.{◌==◌, ap, arith, length}
 use Rattle.std.proofs.lemmas.List.Sums.{count_by-le-length}
 use Rattle.hesc_specs.specs.Text.Ascii.{less_than}
 use Rattle.hesc_specs.proofs.Bodies.Bound.{empty-body_encoding, length-body_encoding}
-use Rattle.hesc_scan.proofs.Bounds.{empty, enough}
-use Rattle.hesc_scan.proofs.Longest.{product}
+use Rattle.hesc_scan.proofs.Lengths.Bounds.{empty, enough}
+use Rattle.hesc_scan.proofs.Lengths.Longest.{product}
 use Rattle.hesc_scan.proofs.length.longest.longest_body.Goals as goal
 
 pub returns-clause-enough : goal.returns-clause-enough

@@ -1,7 +1,7 @@
 use Rattle.std.proofs.Common.{arith}
-use Rattle.hesc_scan.proofs.Bounds.{empty, enough}
+use Rattle.hesc_scan.proofs.Lengths.Bounds.{empty, enough}
 use Rattle.hesc_scan.proofs.ChunkSearch.{rest_below_256}
-use Rattle.hesc_scan.proofs.Longest.{empty_escaped, longest, product}
+use Rattle.hesc_scan.proofs.Lengths.Longest.{empty_escaped, longest, product}
 use Rattle.hesc_scan.proofs.length.longest.longest_escaped.Goals as goal
 
 pub returns-clause-enough : goal.returns-clause-enough

@@ -6,7 +6,7 @@ use Rattle.hesc_specs.specs.declared.classes.Class.{Class}
 use Rattle.hesc_specs.specs.declared.elements.Element.{Element}
 use Rattle.hesc_specs.specs.declared.quotes.Quotes.{Quotes}
 use Rattle.hesc_specs.proofs.Strings.Bound.{empty-string_encoding, growth, length-string_encoding}
-use Rattle.hesc_scan.proofs.Bounds.{empty, enough}
+use Rattle.hesc_scan.proofs.Lengths.Bounds.{empty, enough}
 use Rattle.hesc_scan.proofs.length.strings.bound_in.Goals as goal
 
 some_string : (string : Option (Element × Quotes)) → (string ≡ None → ⊥) → (s : Element × Quotes) × (string ≡ Some s)

@@ -11,7 +11,7 @@ use Rattle.hesc_specs.specs.Html.{encoding, image}
 use Rattle.hesc_specs.specs.declared.classes.Class.{Class}
 use Rattle.hesc_specs.specs.declared.classes.Class.TheVariants.{TextMinimal, Text, DoubleQuotedAttribute, SingleQuotedAttribute, QuotedAttribute, Safe, UnquotedAttribute, ScriptSingleQuoted, ScriptDoubleQuoted, ScriptQuoted, StyleSingleQuoted, StyleDoubleQuoted, StyleQuoted}
 use Rattle.hesc_specs.proofs.Text.SomeImages.{some-image}
-use Rattle.hesc_scan.proofs.CountSteps.{count-cons, count_if-cons, count_if-nil, one}
+use Rattle.hesc_scan.proofs.Lengths.CountSteps.{count-cons, count_if-cons, count_if-nil, one}
 
 -- how much longer the image of a byte is, and by how much the shorter references fall short of six bytes
 abbrev pub growth : Class → ℕ → ℕ

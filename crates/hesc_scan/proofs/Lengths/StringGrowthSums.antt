@@ -5,7 +5,7 @@ use Rattle.std.specs.List.{count_by, sum_by}
 use Rattle.hesc_specs.specs.Text.Classes.{in_class}
 use Rattle.hesc_specs.specs.declared.classes.Class.{Class}
 use Rattle.hesc_specs.proofs.Strings.Bound.{growth}
-use Rattle.hesc_scan.proofs.CountSteps.{count-cons, one}
+use Rattle.hesc_scan.proofs.Lengths.CountSteps.{count-cons, one}
 
 thrice : (counts : Bool) → cond counts 3 0 ≡ 3 * one counts
 thrice true = refl

@@ -1,0 +1,5 @@
+pub mod CountSteps
+pub mod GrowthSums
+pub mod StringGrowthSums
+pub mod Bounds
+pub mod Longest
