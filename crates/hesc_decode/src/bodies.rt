@@ -19,6 +19,7 @@ use std::io::{self, Write};
 /// `text` decoded. Where it has no escaped opening it is `text` itself, and takes no memory.
 ///
 /// `decode_script(alloc, r"<\/script>")?` is `</script>`.
+#[inline(always)]
 pub fn decode_script<'t, A: Allocator>(alloc: A, text: &'t str) -> Result<CowStr<'t, A>, AllocError>
     ensures { AnswersText text.now (body_decoding Script text.now)
         (body_decoding_changes Script text.now 0) result }
@@ -74,6 +75,7 @@ pub fn decode_script_to_writer<W: Write>(text: &str, output: &mut W) -> Result<(
 /// `text` decoded. Where it has no escaped opening it is `text` itself, and takes no memory.
 ///
 /// `decode_style(alloc, r"<\/style>")?` is `</style>`.
+#[inline(always)]
 pub fn decode_style<'t, A: Allocator>(alloc: A, text: &'t str) -> Result<CowStr<'t, A>, AllocError>
     ensures { AnswersText text.now (body_decoding Style text.now)
         (body_decoding_changes Style text.now 0) result }

@@ -18,6 +18,7 @@ use std::io::{self, Write};
 /// `text` decoded. Where no reference has a value it is `text` itself, and takes no memory.
 ///
 /// `decode_html_entities(alloc, "Hello&#x20;world&#x21;")?` is `Hello world!`.
+#[inline(always)]
 pub fn decode_html_entities<'t, A: Allocator>(
     alloc: A,
     text: &'t str,
@@ -102,6 +103,7 @@ fn decode_html_entities_onto_vec<'o, A: Allocator>(
 /// memory.
 ///
 /// `decode_html_entities_with(alloc, &table, "&amp;lt;&AMP;&Amp;&copy;")?` is `&lt;&&Amp;©`.
+#[inline(always)]
 pub fn decode_html_entities_with<'t, A: Allocator>(
     alloc: A,
     table: &EntityTable<'_>,

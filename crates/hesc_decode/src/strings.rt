@@ -22,6 +22,7 @@ use std::io::{self, Write};
 /// `text` decoded. Where it has no escape it is `text` itself, and takes no memory.
 ///
 /// `decode_script_single_quoted_text(alloc, r#"it\'s "\x3Cb>""#)?` is `it's "<b>"`.
+#[inline(always)]
 pub fn decode_script_single_quoted_text<'t, A: Allocator>(
     alloc: A,
     text: &'t str,
@@ -88,6 +89,7 @@ pub fn decode_script_single_quoted_text_to_writer<W: Write>(
 /// `text` decoded. Where it has no escape it is `text` itself, and takes no memory.
 ///
 /// `decode_script_double_quoted_text(alloc, r#"it's \"\x3Cb>\""#)?` is `it's "<b>"`.
+#[inline(always)]
 pub fn decode_script_double_quoted_text<'t, A: Allocator>(
     alloc: A,
     text: &'t str,
@@ -154,6 +156,7 @@ pub fn decode_script_double_quoted_text_to_writer<W: Write>(
 /// `text` decoded. Where it has no escape it is `text` itself, and takes no memory.
 ///
 /// `decode_script_quoted_text(alloc, r#"it\'s \"\x3Cb>\""#)?` is `it's "<b>"`.
+#[inline(always)]
 pub fn decode_script_quoted_text<'t, A: Allocator>(
     alloc: A,
     text: &'t str,
@@ -219,6 +222,7 @@ pub fn decode_script_quoted_text_to_writer<W: Write>(
 /// `text` decoded. Where it has no escape it is `text` itself, and takes no memory.
 ///
 /// `decode_style_single_quoted_text(alloc, r#"it\'s "\3C b>""#)?` is `it's "<b>"`.
+#[inline(always)]
 pub fn decode_style_single_quoted_text<'t, A: Allocator>(
     alloc: A,
     text: &'t str,
@@ -285,6 +289,7 @@ pub fn decode_style_single_quoted_text_to_writer<W: Write>(
 /// `text` decoded. Where it has no escape it is `text` itself, and takes no memory.
 ///
 /// `decode_style_double_quoted_text(alloc, r#"it's \"\3C b>\""#)?` is `it's "<b>"`.
+#[inline(always)]
 pub fn decode_style_double_quoted_text<'t, A: Allocator>(
     alloc: A,
     text: &'t str,
@@ -351,6 +356,7 @@ pub fn decode_style_double_quoted_text_to_writer<W: Write>(
 /// `text` decoded. Where it has no escape it is `text` itself, and takes no memory.
 ///
 /// `decode_style_quoted_text(alloc, r#"it\'s \"\3C b>\""#)?` is `it's "<b>"`.
+#[inline(always)]
 pub fn decode_style_quoted_text<'t, A: Allocator>(
     alloc: A,
     text: &'t str,

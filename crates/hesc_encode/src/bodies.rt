@@ -19,6 +19,7 @@ use std::io::{self, Write};
 /// The encoding of `text`. Where nothing changes it is `text` itself, and takes no memory.
 ///
 /// `encode_script(alloc, "</script>")?` is `<\/script>`.
+#[inline(always)]
 pub fn encode_script<'t, A: Allocator>(alloc: A, text: &'t str) -> Result<CowStr<'t, A>, AllocError>
     ensures { AnswersText text.now (body_encoding Script text.now)
         (body_encoding_changes Script text.now 0) result }
@@ -74,6 +75,7 @@ pub fn encode_script_to_writer<W: Write>(text: &str, output: &mut W) -> Result<(
 /// The encoding of `text`. Where nothing changes it is `text` itself, and takes no memory.
 ///
 /// `encode_style(alloc, "</style>")?` is `<\/style>`.
+#[inline(always)]
 pub fn encode_style<'t, A: Allocator>(alloc: A, text: &'t str) -> Result<CowStr<'t, A>, AllocError>
     ensures { AnswersText text.now (body_encoding Style text.now)
         (body_encoding_changes Style text.now 0) result }

@@ -17,6 +17,7 @@ use std::io::{self, Write};
 /// The encoding of `text`. Where nothing changes it is `text` itself, and takes no memory.
 ///
 /// `encode_text_minimal(alloc, r#"it's "<b>""#)?` is `it's "&lt;b>"`.
+#[inline(always)]
 pub fn encode_text_minimal<'t, A: Allocator>(
     alloc: A,
     text: &'t str,
@@ -76,6 +77,7 @@ pub fn encode_text_minimal_to_writer<W: Write>(text: &str, output: &mut W) -> Re
 /// The encoding of `text`. Where nothing changes it is `text` itself, and takes no memory.
 ///
 /// `encode_text(alloc, r#"it's "<b>""#)?` is `it's "&lt;b&gt;"`.
+#[inline(always)]
 pub fn encode_text<'t, A: Allocator>(alloc: A, text: &'t str) -> Result<CowStr<'t, A>, AllocError>
     ensures { AnswersText text.now (encoding Class.Text text.now)
         (html_changes Class.Text text.now 0) result }
@@ -132,6 +134,7 @@ pub fn encode_text_to_writer<W: Write>(text: &str, output: &mut W) -> Result<(),
 /// The encoding of `text`. Where nothing changes it is `text` itself, and takes no memory.
 ///
 /// `encode_double_quoted_attribute(alloc, r#"it's "<b>""#)?` is `it's &quot;&lt;b&gt;&quot;`.
+#[inline(always)]
 pub fn encode_double_quoted_attribute<'t, A: Allocator>(
     alloc: A,
     text: &'t str,
@@ -196,6 +199,7 @@ pub fn encode_double_quoted_attribute_to_writer<W: Write>(
 /// The encoding of `text`. Where nothing changes it is `text` itself, and takes no memory.
 ///
 /// `encode_single_quoted_attribute(alloc, r#"it's "<b>""#)?` is `it&#x27;s "&lt;b&gt;"`.
+#[inline(always)]
 pub fn encode_single_quoted_attribute<'t, A: Allocator>(
     alloc: A,
     text: &'t str,
@@ -260,6 +264,7 @@ pub fn encode_single_quoted_attribute_to_writer<W: Write>(
 /// The encoding of `text`. Where nothing changes it is `text` itself, and takes no memory.
 ///
 /// `encode_quoted_attribute(alloc, r#"it's "<b>""#)?` is `it&#x27;s &quot;&lt;b&gt;&quot;`.
+#[inline(always)]
 pub fn encode_quoted_attribute<'t, A: Allocator>(
     alloc: A,
     text: &'t str,
@@ -324,6 +329,7 @@ pub fn encode_quoted_attribute_to_writer<W: Write>(
 /// The encoding of `text`. Where nothing changes it is `text` itself, and takes no memory.
 ///
 /// `encode_safe(alloc, r#"it's "<b>""#)?` is `it&#x27;s &quot;&lt;b&gt;&quot;`.
+#[inline(always)]
 pub fn encode_safe<'t, A: Allocator>(alloc: A, text: &'t str) -> Result<CowStr<'t, A>, AllocError>
     ensures { AnswersText text.now (encoding Class.Safe text.now)
         (html_changes Class.Safe text.now 0) result }
@@ -381,6 +387,7 @@ pub fn encode_safe_to_writer<W: Write>(text: &str, output: &mut W) -> Result<(),
 /// The encoding of `text`. Where nothing changes it is `text` itself, and takes no memory.
 ///
 /// `encode_unquoted_attribute(alloc, r#"it's "<b>""#)?` is `it&#x27;s&#x20;&quot;&lt;b&gt;&quot;`.
+#[inline(always)]
 pub fn encode_unquoted_attribute<'t, A: Allocator>(
     alloc: A,
     text: &'t str,

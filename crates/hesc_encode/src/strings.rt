@@ -20,6 +20,7 @@ use std::io::{self, Write};
 /// The encoding of `text`. Where nothing changes it is `text` itself, and takes no memory.
 ///
 /// `encode_script_single_quoted_text(alloc, r#"it's "<b>""#)?` is `it\'s "\x3Cb>"`.
+#[inline(always)]
 pub fn encode_script_single_quoted_text<'t, A: Allocator>(
     alloc: A,
     text: &'t str,
@@ -84,6 +85,7 @@ pub fn encode_script_single_quoted_text_to_writer<W: Write>(
 /// The encoding of `text`. Where nothing changes it is `text` itself, and takes no memory.
 ///
 /// `encode_script_double_quoted_text(alloc, r#"it's "<b>""#)?` is `it's \"\x3Cb>\"`.
+#[inline(always)]
 pub fn encode_script_double_quoted_text<'t, A: Allocator>(
     alloc: A,
     text: &'t str,
@@ -148,6 +150,7 @@ pub fn encode_script_double_quoted_text_to_writer<W: Write>(
 /// The encoding of `text`. Where nothing changes it is `text` itself, and takes no memory.
 ///
 /// `encode_script_quoted_text(alloc, r#"it's "<b>""#)?` is `it\'s \"\x3Cb>\"`.
+#[inline(always)]
 pub fn encode_script_quoted_text<'t, A: Allocator>(
     alloc: A,
     text: &'t str,
@@ -211,6 +214,7 @@ pub fn encode_script_quoted_text_to_writer<W: Write>(
 /// The encoding of `text`. Where nothing changes it is `text` itself, and takes no memory.
 ///
 /// `encode_style_single_quoted_text(alloc, r#"it's "<b>""#)?` is `it\'s "\3C b>"`.
+#[inline(always)]
 pub fn encode_style_single_quoted_text<'t, A: Allocator>(
     alloc: A,
     text: &'t str,
@@ -275,6 +279,7 @@ pub fn encode_style_single_quoted_text_to_writer<W: Write>(
 /// The encoding of `text`. Where nothing changes it is `text` itself, and takes no memory.
 ///
 /// `encode_style_double_quoted_text(alloc, r#"it's "<b>""#)?` is `it's \"\3C b>\"`.
+#[inline(always)]
 pub fn encode_style_double_quoted_text<'t, A: Allocator>(
     alloc: A,
     text: &'t str,
@@ -339,6 +344,7 @@ pub fn encode_style_double_quoted_text_to_writer<W: Write>(
 /// The encoding of `text`. Where nothing changes it is `text` itself, and takes no memory.
 ///
 /// `encode_style_quoted_text(alloc, r#"it's "<b>""#)?` is `it\'s \"\3C b>\"`.
+#[inline(always)]
 pub fn encode_style_quoted_text<'t, A: Allocator>(
     alloc: A,
     text: &'t str,

@@ -155,6 +155,8 @@ fn opening_escape(element: Element, bytes: &[u8]) -> Option<(usize, char)>
     }
 }
 
+// Rarely needed, and so kept out of the loop over escapes.
+#[inline(never)]
 fn is_named_within(element: Element, tag: &[u8]) -> bool
     ensures { result ≡ begins_in_any_case (element_name element) ends_name_within tag.now }
 {
