@@ -35,6 +35,8 @@ pub struct Reader<A: Allocator> {
 
 impl<A: Allocator> Reader<A> {
     /// At the beginning of a page.
+    ///
+    /// Of `Reader::new(alloc)`, `may_end()` is `true`.
     pub fn new(alloc: A) -> Reader<A>
         ensures { tokenizer_of result ≡ data_state }
     {
@@ -92,6 +94,8 @@ impl<A: Allocator> Reader<A> {
     }
 
     /// Reads on.
+    ///
+    /// After `reader.read(b"<p title=\"")?`, `slot()` is `Standing::Stands(SlotPlace::DoubleQuoted)`.
     pub fn read(&mut self, bytes: &[u8]) -> Result<(), AllocError>
         ensures { OnOk result (tokenizer_of self.new
             ≡ state_after (tokenizer_of self.old) bytes.now) }
@@ -105,6 +109,8 @@ impl<A: Allocator> Reader<A> {
     }
 
     /// Whether a page may end here.
+    ///
+    /// After `<p>` it is `true`, and after `<p` it is `false`.
     pub fn may_end(&self) -> bool
         ensures test { result ≡ may_end (tokenizer_of self.now) }
         ensures outside { IsTrue result ↔ (tokenizer_of self.now ≡ data_state) }
@@ -115,6 +121,8 @@ impl<A: Allocator> Reader<A> {
     }
 
     /// Whether what was read has no reading.
+    ///
+    /// After `<svg>` it is `true`, and after `<p>` it is `false`.
     pub fn is_refused(&self) -> bool
         ensures { result ≡ is_refused (tokenizer_of self.now).state }
     {
@@ -138,6 +146,8 @@ impl<A: Allocator> Reader<A> {
     }
 
     /// Where a slot stands that comes now; the tokenizer goes on after it, if it is a place.
+    ///
+    /// After `<p>` it is `Standing::Stands(SlotPlace::Text)`, and after `<p` it is `Standing::Nowhere`.
     pub fn slot(&mut self) -> Standing
         ensures at { result ≡ standing (tokenizer_of self.old) }
         ensures after { AfterStanding result (tokenizer_of self.old) (tokenizer_of self.new) }
