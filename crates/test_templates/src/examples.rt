@@ -2,6 +2,7 @@
 use hesc_places::{Place, read_place};
 use html_template::{Content, FillFault, Part, Template, TemplateFault, laws};
 use html_template_source::{BindFault, NamedTemplate, SourceFault};
+use html_tokenizer::{Reader, SlotPlace, Standing};
 use std::alloc::{AllocError, Global};
 use std::process::Abort;
 use std::test::Fail;
@@ -95,5 +96,27 @@ fn texts_are_read_as_the_law_of_agreement_says(rt: HostRuntime) -> Result<(), Al
     };
     assert!(rt; reading.value.as_slice() == b"a<b".as_slice());
     assert!(rt; reading.end == 6);
+    Ok(())
+}
+
+// A reader that has read these bytes of a page.
+fn reader_after(alloc: Global, bytes: &[u8]) -> Result<Reader<Global>, AllocError> {
+    let mut reader = Reader::new(alloc);
+    reader.read(bytes)?;
+    Ok(reader)
+}
+
+#[test]
+fn a_reader_stands_where_it_is_said_to_stand(rt: HostRuntime) -> Result<(), AllocError> {
+    assert!(rt; Reader::new(rt.alloc()).may_end());
+    let mut in_a_value = reader_after(rt.alloc(), b"<p title=\"")?;
+    assert!(rt; in_a_value.slot() == Standing::Stands(SlotPlace::DoubleQuoted));
+    let mut in_text = reader_after(rt.alloc(), b"<p>")?;
+    assert!(rt; in_text.may_end() && !in_text.is_refused());
+    assert!(rt; in_text.slot() == Standing::Stands(SlotPlace::Text));
+    let mut in_a_tag = reader_after(rt.alloc(), b"<p")?;
+    assert!(rt; !in_a_tag.may_end());
+    assert!(rt; in_a_tag.slot() == Standing::Nowhere);
+    assert!(rt; reader_after(rt.alloc(), b"<svg>")?.is_refused());
     Ok(())
 }
