@@ -1,9 +1,9 @@
 -- What the steps of a run come to.
 use Rattle.std.proofs.Common.{◌≡◌, ℕ, List, Option, Result, Ok, Err}
-use Rattle.hesc_tool.specs.Commands.{words_of}
+use Rattle.hesc_commands.specs.Commands.{words_of}
 use Rattle.hesc_tool.specs.Run.{RanAs}
 use Rattle.hesc_tool.specs.Steps.{AnsweredAs, WasTaken}
-use Rattle.hesc_tool.specs.declared.commands.Command.{Command}
+use Rattle.hesc_commands.specs.declared.commands.Command.{Command}
 use Rattle.hesc_tool.specs.declared.faults.Fault.{Fault}
 use Rattle.hesc_tool.specs.declared.faults.Fault.TheVariants.{Usage, Read, NotUtf8, NoPage, NotForPlace, EmptyUnquoted, BadName, Memory, Write}
 

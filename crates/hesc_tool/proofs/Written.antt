@@ -5,7 +5,7 @@ use Rattle.std.specs.Io.KnownBytes.{Appends}
 use Rattle.hesc_tool.specs.Answers.{Answers}
 use Rattle.hesc_specs.specs.Text.Beginning.{AppendsBeginning}
 use Rattle.hesc_tool.specs.Steps.{AnsweredAs}
-use Rattle.hesc_tool.specs.declared.commands.Command.{Command}
+use Rattle.hesc_commands.specs.declared.commands.Command.{Command}
 use Rattle.hesc_tool.specs.declared.faults.Fault.{Fault}
 use Rattle.hesc_tool.specs.declared.faults.Fault.TheVariants.{Usage, Read, NotUtf8, NoPage, NotForPlace, EmptyUnquoted, BadName, Memory, Write}
 

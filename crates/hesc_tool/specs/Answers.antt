@@ -16,10 +16,10 @@ use Rattle.hesc_places.specs.declared.markup.types.FormFault.{FormFault}
 use Rattle.hesc_grammars.specs.declared.place.Place.{Place}
 use Rattle.hesc_grammars.specs.declared.place.Place.TheVariants.{UnquotedAttribute}
 use Rattle.hesc_tool.specs.Faults.{form_refusal}
-use Rattle.hesc_tool.specs.FormWords.{AreWordsOf}
+use Rattle.hesc_commands.specs.FormWords.{AreWordsOf}
 use Rattle.hesc_tool.specs.Lines.{form_lines, page_lines}
-use Rattle.hesc_tool.specs.declared.commands.Command.{Command}
-use Rattle.hesc_tool.specs.declared.commands.Command.TheVariants.{Operation, Lines, Enclose, Page, ReadPage, Form, ReadForm}
+use Rattle.hesc_commands.specs.declared.commands.Command.{Command}
+use Rattle.hesc_commands.specs.declared.commands.Command.TheVariants.{Operation, Lines, Enclose, Page, ReadPage, Form, ReadForm}
 use Rattle.hesc_tool.specs.declared.faults.Fault.{Fault}
 use Rattle.hesc_tool.specs.declared.faults.Fault.TheVariants.{NotUtf8, NoPage, NotForPlace, EmptyUnquoted}
 

@@ -1,6 +1,3 @@
-pub mod Names
-pub mod FormWords
-pub mod Commands
 pub mod Faults
 pub mod Lines
 pub mod Answers

@@ -5,7 +5,7 @@ use Rattle.hesc_specs.specs.Text.Ascii.{line_feed, space}
 use Rattle.hesc_places.specs.Pages.AttributeReadings.{Entry}
 use Rattle.hesc_places.specs.Pages.FormReadings.{FormRead}
 use Rattle.hesc_places.specs.Pages.PageReadings.{PageRead}
-use Rattle.hesc_tool.specs.Names.{quoting_name}
+use Rattle.hesc_commands.specs.Names.{quoting_name}
 
 -- the length in decimal, a space, the value, and a line feed
 abbrev pub value_line : List ℕ → List ℕ

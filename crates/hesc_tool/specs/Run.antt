@@ -3,9 +3,9 @@ use Rattle.std.specs.Prelude.{◌≡◌, ℕ, List, Option, Result, Ok, Err}
 use Rattle.std.specs.Io.KnownBytes.{Appends, Keeps}
 use Rattle.hesc_specs.specs.Text.Beginning.{AppendsBeginning}
 use Rattle.hesc_tool.specs.Answers.{Answers}
-use Rattle.hesc_tool.specs.Commands.{NamesCommand, NamesNoCommand, ReadsInput, words_of}
+use Rattle.hesc_commands.specs.Commands.{NamesCommand, NamesNoCommand, ReadsInput, words_of}
 use Rattle.hesc_tool.specs.Steps.{WasTaken}
-use Rattle.hesc_tool.specs.declared.commands.Command.{Command}
+use Rattle.hesc_commands.specs.declared.commands.Command.{Command}
 use Rattle.hesc_tool.specs.declared.faults.Fault.{Fault}
 use Rattle.hesc_tool.specs.declared.faults.Fault.TheVariants.{Usage, Read, Memory, Write}
 

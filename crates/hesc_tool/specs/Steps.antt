@@ -3,9 +3,9 @@ use Rattle.std.specs.Prelude.{◌≡◌, ℕ, List, [], ⊤, Option, Result, Vec
 use Rattle.std.specs.Io.KnownBytes.{Appends, Consumes, IsAtEnd, Keeps}
 use Rattle.hesc_specs.specs.Text.Beginning.{AppendsBeginning}
 use Rattle.hesc_tool.specs.Answers.{Answers}
-use Rattle.hesc_tool.specs.Commands.{ReadsInput}
-use Rattle.hesc_tool.specs.declared.commands.Command.{Command}
-use Rattle.hesc_tool.specs.declared.commands.Command.TheVariants.{Page, Form}
+use Rattle.hesc_commands.specs.Commands.{ReadsInput}
+use Rattle.hesc_commands.specs.declared.commands.Command.{Command}
+use Rattle.hesc_commands.specs.declared.commands.Command.TheVariants.{Page, Form}
 use Rattle.hesc_tool.specs.declared.faults.Fault.{Fault}
 use Rattle.hesc_tool.specs.declared.faults.Fault.TheVariants.{Usage, Read, Memory, Write}
 

@@ -16,10 +16,9 @@ ghost use Rattle.hesc_tool.specs.Answers.{
 ghost use Rattle.hesc_tool.specs.Steps.{IsMade};
 
 use crate::body_lines::append_lines;
-use crate::commands::Command;
 use crate::faults::Fault;
-use crate::form_words::{FormWords, attributes_of};
 use crate::lines::{read_form_lines, read_lines};
+use hesc_commands::{Command, FormWords, attributes_of};
 use hesc_core::forms::append_to_string;
 use hesc_places::{Place, append_enclosed, append_form, append_page};
 use html_escape::{BodyKind, Encoder, Operation};

@@ -9,19 +9,16 @@ ghost use Rattle.hesc_tool.specs.Run.{RanAs};
 
 mod answers;
 mod body_lines;
-mod commands;
 mod faults;
-mod form_words;
 mod lines;
-mod names;
 mod program;
 mod steps;
 mod words;
 
-use crate::commands::command_of;
 pub use crate::faults::Fault;
 pub use crate::program::serve;
 use crate::steps::{answer, input_of};
+use hesc_commands::command_of;
 use std::alloc::Allocator;
 use std::io::{Read, Write};
 

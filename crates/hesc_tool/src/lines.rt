@@ -7,7 +7,7 @@ ghost use Rattle.hesc_places.specs.Pages.FormReadings.{form_reading};
 ghost use Rattle.hesc_places.specs.Pages.PageReadings.{page_reading};
 ghost use Rattle.hesc_tool.specs.Lines.{attribute_line, form_lines, page_lines, value_line};
 
-use crate::names::quoting_letter;
+use hesc_commands::quoting_letter;
 use hesc_places::{Quoting, read_form, read_page};
 use std::alloc::{AllocError, Allocator};
 

@@ -13,8 +13,8 @@ ghost use Rattle.hesc_tool.specs.Steps.{
 ghost use Rattle.hesc_tool.specs.declared.faults.Fault.{Fault};
 
 use crate::answers::make_answer;
-use crate::commands::Command;
 use crate::faults::Fault;
+use hesc_commands::Command;
 use std::alloc::Allocator;
 use std::io::{Read, Write};
 

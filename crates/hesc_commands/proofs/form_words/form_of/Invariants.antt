@@ -1,6 +1,6 @@
 use Rattle.std.proofs.Common.{◌≡◌, length, map}
-use Rattle.hesc_tool.specs.FormWords.{name_attributes}
-use Rattle.hesc_tool.proofs.form_words.form_of.Given as goal
+use Rattle.hesc_commands.specs.FormWords.{name_attributes}
+use Rattle.hesc_commands.proofs.form_words.form_of.Given as goal
 
 -- the words name attributes exactly if the rest does
 abbrev pub invariant-attributes : goal.invariant-attributes

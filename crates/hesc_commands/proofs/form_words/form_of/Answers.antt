@@ -1,7 +1,7 @@
 use Rattle.std.proofs.Common.{sym, ◌∙◌}
 use Rattle.std.proofs.lemmas.Bool.{eqb-false}
-use Rattle.hesc_tool.proofs.Letters.{broken, too_few}
-use Rattle.hesc_tool.proofs.form_words.form_of.Goals as goal
+use Rattle.hesc_commands.proofs.Letters.{broken, too_few}
+use Rattle.hesc_commands.proofs.form_words.form_of.Goals as goal
 
 pub returns-in_default-quoting_named : goal.returns-in_default-quoting_named
 returns-in_default-quoting_named c =

@@ -1,7 +1,7 @@
 //! The words of a form: a script string, and three words for each attribute.
 ghost use Rattle.std.specs.Prelude.{◌≡◌, false, map, IfOk, IsTrue, MatchOption};
 ghost use Rattle.hesc_places.specs.Pages.FormTexts.{written};
-ghost use Rattle.hesc_tool.specs.FormWords.{AreWordsOf, name_attributes};
+ghost use Rattle.hesc_commands.specs.FormWords.{AreWordsOf, name_attributes};
 
 use crate::names::quoting_named;
 use hesc_places::Attribute;
@@ -40,6 +40,9 @@ pub fn form_of<'w>(script: &'w str, words: &'w [&'w str]) -> Option<FormWords<'w
 }
 
 /// The attributes that the words name.
+///
+/// Of `form`, an empty script string, `q`, `d` and `tea` it is one: the name `q`, `Quoting::Double`
+/// and the value `tea`.
 pub fn attributes_of<'w, A: Allocator>(
     alloc: A,
     form: FormWords<'w>,

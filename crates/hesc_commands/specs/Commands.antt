@@ -1,8 +1,8 @@
 -- The commands, and the words that name each.
 use Rattle.std.specs.Prelude.{◌≡◌, ⊤, ℕ, List, [], ◌∷◌, codes, map}
-use Rattle.hesc_tool.specs.Names.{encoder_name, lines_name, operation_name, place_name}
-use Rattle.hesc_tool.specs.declared.commands.Command.{Command}
-use Rattle.hesc_tool.specs.declared.commands.Command.TheVariants.{Operation, Lines, Enclose, Page, ReadPage, Form, ReadForm}
+use Rattle.hesc_commands.specs.Names.{encoder_name, lines_name, operation_name, place_name}
+use Rattle.hesc_commands.specs.declared.commands.Command.{Command}
+use Rattle.hesc_commands.specs.declared.commands.Command.TheVariants.{Operation, Lines, Enclose, Page, ReadPage, Form, ReadForm}
 
 -- the words that name a command
 abbrev pub words_of : Command → List (List ℕ)

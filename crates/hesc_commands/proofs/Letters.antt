@@ -4,8 +4,8 @@ use Rattle.std.proofs.lemmas.Bool.{cases_Bool}
 use Rattle.std.proofs.lemmas.Slice.Eq.{bytes_eq-Decides}
 use Rattle.hesc_places.specs.declared.markup.types.Quoting.{Quoting}
 use Rattle.hesc_places.specs.declared.markup.types.Quoting.TheVariants.{Unquoted, Single, Double}
-use Rattle.hesc_tool.specs.FormWords.{is_letter, name_attributes}
-use Rattle.hesc_tool.specs.Names.{IsNoNameBy, quoting_name}
+use Rattle.hesc_commands.specs.FormWords.{is_letter, name_attributes}
+use Rattle.hesc_commands.specs.Names.{IsNoNameBy, quoting_name}
 
 named_letter : (quoting : Quoting) → is_letter (quoting_name quoting) ≡ true
 named_letter Unquoted = refl

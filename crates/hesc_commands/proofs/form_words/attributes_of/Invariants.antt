@@ -1,7 +1,7 @@
 use Rattle.std.proofs.Common.{◌≡◌, ◌++◌, true, flat_map, length, map}
 use Rattle.hesc_places.specs.Pages.FormTexts.{written}
-use Rattle.hesc_tool.specs.FormWords.{attribute_words, name_attributes}
-use Rattle.hesc_tool.proofs.form_words.attributes_of.Given as goal
+use Rattle.hesc_commands.specs.FormWords.{attribute_words, name_attributes}
+use Rattle.hesc_commands.proofs.form_words.attributes_of.Given as goal
 
 -- the words of the attributes so far, and the rest, are all words, and the rest names attributes
 abbrev pub invariant-attributes : goal.invariant-attributes

@@ -3,7 +3,7 @@ use Rattle.std.specs.Prelude.{◌≡◌, ℕ, Bool, true, false, ◌&&◌, ◌||
 use Rattle.std.specs.List.{flat_map}
 use Rattle.hesc_places.specs.Pages.AttributeReadings.{Entry}
 use Rattle.hesc_places.specs.declared.markup.types.Quoting.TheVariants.{Unquoted, Single, Double}
-use Rattle.hesc_tool.specs.Names.{quoting_name}
+use Rattle.hesc_commands.specs.Names.{quoting_name}
 
 -- the words of an attribute
 abbrev pub attribute_words : Entry → List (List ℕ)

@@ -1,7 +1,7 @@
 //! The words that name the operations, the encoders among them, the places, and how a value is
 //! quoted.
 ghost use Rattle.std.specs.Prelude.{◌≡◌, [], ◌∷◌, MatchOption};
-ghost use Rattle.hesc_tool.specs.Names.{
+ghost use Rattle.hesc_commands.specs.Names.{
   IsNameOf,
   IsNoNameBy,
   decoder_name,
@@ -109,6 +109,8 @@ pub fn quoting_named(word: &str) -> Option<Quoting>
 }
 
 /// The letter for how a value is quoted.
+///
+/// Of `Quoting::Single` it is `b's'`.
 pub fn quoting_letter(quoting: Quoting) -> u8
     ensures { quoting_name quoting ≡ result ∷ [] }
 {

@@ -1,6 +1,6 @@
 //! The commands, and the words that name them.
 ghost use Rattle.std.specs.Prelude.{◌≡◌, map, MatchOption};
-ghost use Rattle.hesc_tool.specs.Commands.{NamesNoCommand, NamesNoneOfFew, words_of};
+ghost use Rattle.hesc_commands.specs.Commands.{NamesNoCommand, NamesNoneOfFew, words_of};
 
 use crate::form_words::{FormWords, form_of};
 use crate::names::{encoder_named, operation_named, place_named};
@@ -27,6 +27,8 @@ pub enum Command<'w> {
 }
 
 /// The command that the words after the program's name name, `None` where they name none.
+///
+/// Of the one word `read-page` it is `Command::ReadPage`, and of no words it is `None`.
 pub fn command_of<'w>(words: &'w [&'w str]) -> Option<Command<'w>>
     ensures { MatchOption result (NamesNoCommand (map (λ word. word.now) words.now))
         (λ command. words_of command ≡ map (λ word. word.now) words.now) }

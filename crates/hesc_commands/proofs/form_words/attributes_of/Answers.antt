@@ -1,8 +1,8 @@
 use Rattle.std.proofs.Common.{◌++◌, flat_map, map, sym, ap, ◌∙◌, append-nil}
 use Rattle.hesc_places.specs.Pages.FormTexts.{written}
-use Rattle.hesc_tool.specs.FormWords.{attribute_words}
-use Rattle.hesc_tool.proofs.Letters.{broken, none_left}
-use Rattle.hesc_tool.proofs.form_words.attributes_of.Goals as goal
+use Rattle.hesc_commands.specs.FormWords.{attribute_words}
+use Rattle.hesc_commands.proofs.Letters.{broken, none_left}
+use Rattle.hesc_commands.proofs.form_words.attributes_of.Goals as goal
 
 pub unreachable-requires : goal.unreachable-requires
 unreachable-requires g c =
