@@ -10,7 +10,7 @@ use Rattle.hesc_scan.specs.Entries.{is_entry, table_of}
 use Rattle.hesc_scan.proofs.LaneLemmas.{mask_as_class}
 use Rattle.hesc_scan.proofs.Lookups.{stands_twice}
 
-pub table_stands_twice : (class : Class) → (half : ℕ) → half < 16 → slice_index (table_of class) (16 + half) ≡ slice_index (table_of class) half
+pub table_stands_twice : (class : Class) → (nibble : ℕ) → nibble < 16 → slice_index (table_of class) (16 + nibble) ≡ slice_index (table_of class) nibble
 table_stands_twice TextMinimal = stands_twice (table_of TextMinimal) refl
 table_stands_twice Text = stands_twice (table_of Text) refl
 table_stands_twice DoubleQuotedAttribute = stands_twice (table_of DoubleQuotedAttribute) refl

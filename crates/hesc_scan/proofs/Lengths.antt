@@ -1,5 +1,5 @@
 pub mod CountSteps
-pub mod GrowthSums
-pub mod StringGrowthSums
+pub mod HtmlSums
+pub mod StringSums
 pub mod Bounds
 pub mod Longest

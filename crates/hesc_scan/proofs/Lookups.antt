@@ -6,21 +6,21 @@ use Rattle.std.proofs.lemmas.Simd.{Each1-all, Each1-weaker, Each1-zip2, Each2-sp
 use Rattle.std.specs.Simd.Lanes.{Each1}
 use lib.Lanes.{zip2}
 
--- the half of a byte that a table is looked up by
-abbrev pub high_half : ℕ → ℕ → ℕ
-high_half b bits = b / 2 ^ bits
+-- the nibble of a byte that a table is looked up by
+abbrev pub high_nibble : ℕ → ℕ → ℕ
+high_nibble b bits = b / 2 ^ bits
 
-pub low_halves_fit : (v : List ℕ) → length v ≡ 32 → SwzOk w8 16 32 0 (zip2 bit_and v (replicate 32 15))
-low_halves_fit v long =
+pub low_nibbles_fit : (v : List ℕ) → length v ≡ 32 → SwzOk w8 16 32 0 (zip2 bit_and v (replicate 32 15))
+low_nibbles_fit v long =
     let small = Each1-all (λ b. bit_and b 15 < 16) (λ b. omega (arith, and_le_r b 15)) v in
     SwzOk-from_below w8 16 2 32 0 (zip2 bit_and v (replicate 32 15)) refl (omega (arith, length-zip2 bit_and v (replicate 32 15) long))
     (Each1-zip2 bit_and (λ j. j < 16) v (replicate 32 15) (Each2-splat (λ a b. bit_and a b < 16) v 32 15 small))
 
-pub high_halves_fit : (v : List ℕ) → length v ≡ 32 → Each1 (λ b. b < 256) v → SwzOk w8 16 32 0 (zip2 high_half v (replicate 32 4))
-high_halves_fit v long below =
+pub high_nibbles_fit : (v : List ℕ) → length v ≡ 32 → Each1 (λ b. b < 256) v → SwzOk w8 16 32 0 (zip2 high_nibble v (replicate 32 4))
+high_nibbles_fit v long below =
     let small = Each1-weaker (λ b. b < 256) (λ b. b / 16 < 16) (λ b less. omega arith) v below in
-    SwzOk-from_below w8 16 2 32 0 (zip2 high_half v (replicate 32 4)) refl (omega (arith, length-zip2 high_half v (replicate 32 4) long))
-    (Each1-zip2 high_half (λ j. j < 16) v (replicate 32 4) (Each2-splat (λ a b. high_half a b < 16) v 32 4 small))
+    SwzOk-from_below w8 16 2 32 0 (zip2 high_nibble v (replicate 32 4)) refl (omega (arith, length-zip2 high_nibble v (replicate 32 4) long))
+    (Each1-zip2 high_nibble (λ j. j < 16) v (replicate 32 4) (Each2-splat (λ a b. high_nibble a b < 16) v 32 4 small))
 
 -- that a table stands twice is computed
 pub stands_twice : (table : List ℕ) → agree_below (λ j. get_or table (16 + j) 0 == get_or table j 0) (λ _. true) 16 ≡ true →
@@ -28,7 +28,7 @@ pub stands_twice : (table : List ℕ) → agree_below (λ j. get_or table (16 + 
 stands_twice table same j below =
     eqb-true _ _ (agree_below_at (λ k. get_or table (16 + k) 0 == get_or table k 0) (λ _. true) 16 j same below)
 
-module _ (table : List ℕ) (twice : (j : ℕ) → j < 16 → get_or table (16 + j) 0 ≡ get_or table j 0) (half : ℕ → ℕ) (small : (b : ℕ) → b < 256 → half b < 16) where
+module _ (table : List ℕ) (twice : (j : ℕ) → j < 16 → get_or table (16 + j) 0 ≡ get_or table j 0) (nibble : ℕ → ℕ) (small : (b : ℕ) → b < 256 → nibble b < 16) where
   repeats : (i j : ℕ) → i < 32 → j < 16 → get_or table (16 * ((i + 0) / 16) + j) 0 ≡ get_or table j 0
   repeats i j within below = elim (cases_lt i 16) [
     | inl first ↦ ap (λ at. get_or table at 0) (omega arith)
@@ -37,11 +37,11 @@ module _ (table : List ℕ) (twice : (j : ℕ) → j < 16 → get_or table (16 +
         ap (λ at. get_or table at 0) place ∙ twice j below
   ]
 
-  looked_up_from : (i : ℕ) (v : List ℕ) → i + length v ≤ 32 → Each1 (λ b. b < 256) v → swz_l w8 16 table i (map half v) ≡ map (λ b. get_or table (half b) 0) v
+  looked_up_from : (i : ℕ) (v : List ℕ) → i + length v ≤ 32 → Each1 (λ b. b < 256) v → swz_l w8 16 table i (map nibble v) ≡ map (λ b. get_or table (nibble b) 0) v
   looked_up_from i [] room below = refl
   looked_up_from i (b ∷ v) room below =
       let fits = small b below.0 in
-      λ k. (get_or-swz_l_below w8 16 table i (map half (b ∷ v)) 0 (omega arith) fits ∙ repeats i (half b) (omega arith) fits) k ∷ looked_up_from (suc i) v (omega arith) below.1 k
+      λ k. (get_or-swz_l_below w8 16 table i (map nibble (b ∷ v)) 0 (omega arith) fits ∙ repeats i (nibble b) (omega arith) fits) k ∷ looked_up_from (suc i) v (omega arith) below.1 k
 
-  pub looked_up : (v halves : List ℕ) → length v ≡ 32 → Each1 (λ b. b < 256) v → halves ≡ map half v → swz_l w8 16 table 0 halves ≡ map (λ b. get_or table (half b) 0) v
-  looked_up v halves long below are = ap (swz_l w8 16 table 0) are ∙ looked_up_from 0 v (omega arith) below
+  pub looked_up : (v nibbles : List ℕ) → length v ≡ 32 → Each1 (λ b. b < 256) v → nibbles ≡ map nibble v → swz_l w8 16 table 0 nibbles ≡ map (λ b. get_or table (nibble b) 0) v
+  looked_up v nibbles long below are = ap (swz_l w8 16 table 0) are ∙ looked_up_from 0 v (omega arith) below

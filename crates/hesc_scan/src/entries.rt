@@ -1,5 +1,5 @@
-//! The classes of the HTML encoders, but for that of unquoted values, by the low halves of bytes: no
-//! two bytes of such a class end in the same half. So a table has for each half the byte of the class
+//! The classes of the HTML encoders, but for that of unquoted values, looked up by low nibbles: no two
+//! bytes of such a class end in the same nibble. So a table has for each nibble the byte of the class
 //! that ends in it, and a byte is in the class exactly if it is its own entry.
 ghost use Rattle.std.specs.Prelude.{◌≡◌, ◌<◌, ◌+◌, ℕ, map, slice_index};
 ghost use Rattle.std.specs.Simd.Lanes.{Each1, mask_l};
@@ -8,8 +8,8 @@ ghost use Rattle.hesc_scan.specs.Entries.{is_entry, table_of};
 use hesc_specs::Class;
 use std::simd::prelude::*;
 
-// Where no byte of the class ends in a half, its entry ends in another: it is 0, and this one for
-// the half 0.
+// Where no byte of the class ends in a nibble, its entry ends in another: it is 0, and this one for
+// the nibble 0.
 const OTHER: u8 = 1;
 
 // Each table stands twice, as a swizzle reads each 16 lanes.
@@ -61,8 +61,8 @@ pub(crate) fn entries_of(class: Class) -> &'static [u8; 32]
 /// Bit `k` of the answer is set exactly if byte `k` is its own entry.
 #[inline(always)]
 pub(crate) fn hits_of_entries(table: &[u8; 32], v: u8x32) -> u64
-    requires twice { (half : ℕ) → half < 16
-        → slice_index table.now (16 + half) ≡ slice_index table.now half }
+    requires twice { (nibble : ℕ) → nibble < 16
+        → slice_index table.now (16 + nibble) ≡ slice_index table.now nibble }
     requires below { Each1 (λ b. b < 256) v }
     ensures { result ≡ mask_l (map (is_entry table.now) v) }
 {

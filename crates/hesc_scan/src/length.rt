@@ -1,9 +1,9 @@
 //! How long an encoding is, or how long at most, counted 32 bytes at a time.
+mod added;
 pub mod bodies;
 mod counts;
-mod growth;
 pub mod html;
-mod html_growth;
+mod html_added;
 pub mod longest;
 pub mod strings;
 

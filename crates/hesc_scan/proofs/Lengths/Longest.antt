@@ -11,8 +11,8 @@ use Rattle.hesc_specs.specs.declared.classes.Class.{Class}
 use Rattle.hesc_specs.specs.declared.elements.Element.{Element}
 use Rattle.hesc_specs.specs.declared.quotes.Quotes.{Quotes}
 use Rattle.hesc_specs.proofs.Strings.Bound.{empty-string_encoding, length-string_encoding}
-use Rattle.hesc_scan.proofs.Lengths.GrowthSums.{adds_up-all, length-encoding}
-use Rattle.hesc_scan.proofs.Lengths.StringGrowthSums.{adds_up}
+use Rattle.hesc_scan.proofs.Lengths.HtmlSums.{adds_up-all, length-encoding}
+use Rattle.hesc_scan.proofs.Lengths.StringSums.{adds_up}
 
 -- a product that was checked
 pub product : (r : Option ℕ) (P : Type 0) (n : ℕ) → SomeIff r P n → IfSome r (λ count. count ≡ n)

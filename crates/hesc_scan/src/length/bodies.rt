@@ -5,8 +5,8 @@ ghost use Rattle.hesc_specs.specs.Bodies.Encoding.{body_encoding};
 ghost use Rattle.hesc_specs.specs.declared.elements.Element.{Element};
 
 use crate::block::Block;
+use crate::length::added::{AddedLength, total_length};
 use crate::length::counts::count;
-use crate::length::growth::{Growth, grown_length};
 
 /// As many bytes as the body encoding of these bytes has or more, for each element, and 0 where it
 /// has none; `None` where the count would pass the greatest `usize`.
@@ -18,14 +18,14 @@ pub fn body_bound(bytes: &[u8]) -> Option<usize>
     ensures empty { (element : Element) →
         IfSome result (λ bound. body_encoding element bytes.now ≡ [] → bound ≡ 0) }
 {
-    grown_length(&OneForEachLess, bytes)
+    total_length(&OneForEachLess, bytes)
 }
 
 // Each opening begins with `<`, and is one byte longer in the encoding.
 struct OneForEachLess;
 
-impl Growth for OneForEachLess {
-    ghost added = { λ growth b. if b == less_than then 1 else 0 };
+impl AddedLength for OneForEachLess {
+    ghost of_byte = { λ added b. if b == less_than then 1 else 0 };
 
     #[inline(always)]
     fn of_block(&self, block: &Block) -> usize {

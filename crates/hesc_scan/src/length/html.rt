@@ -3,8 +3,8 @@ ghost use Rattle.std.specs.Prelude.{◌≡◌, ◌<◌, ◌^◌, length, IfSome,
 ghost use Rattle.hesc_specs.specs.Text.Classes.{IsHtml};
 ghost use Rattle.hesc_specs.specs.Html.{encoding};
 
-use crate::length::growth::grown_length;
-use crate::length::html_growth::HtmlGrowth;
+use crate::length::added::total_length;
+use crate::length::html_added::HtmlAddedLength;
 use hesc_specs::Class;
 
 /// The length of the HTML encoding of these bytes, or `None` where it would pass the greatest
@@ -35,5 +35,5 @@ fn length_in(class: Class, bytes: &[u8]) -> Option<usize>
     ensures count { IfSome result (λ count. count ≡ length (encoding class bytes.now)) }
     ensures fits { length (encoding class bytes.now) < 2 ^ 64 → IsSome result }
 {
-    grown_length(&HtmlGrowth { class }, bytes)
+    total_length(&HtmlAddedLength { class }, bytes)
 }

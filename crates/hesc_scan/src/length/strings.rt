@@ -5,7 +5,7 @@ ghost use Rattle.hesc_specs.specs.Text.Escaped.{escaped};
 
 use crate::block::Block;
 use crate::lanes::block_hits;
-use crate::length::growth::{Growth, grown_length};
+use crate::length::added::{AddedLength, total_length};
 use hesc_specs::Class;
 
 /// As many bytes as the string encoding of the text has or more, and 0 where it has none; `None`
@@ -35,18 +35,18 @@ fn bound_in(class: Class, text: &str) -> Option<usize>
     ensures enough { IfSome result (λ bound. length (escaped class text.now) ≤ bound) }
     ensures empty { IfSome result (λ bound. escaped class text.now ≡ [] → bound ≡ 0) }
 {
-    grown_length(&StringGrowth { class }, text.as_bytes())
+    total_length(&StringAddedLength { class }, text.as_bytes())
 }
 
 // By how many bytes the escape of a byte of the class is longer at most: an ASCII character becomes
 // four bytes or fewer, and a separator's three become six.
 #[derive(Clone, Copy)]
-struct StringGrowth {
+struct StringAddedLength {
     class: Class,
 }
 
-impl Growth for StringGrowth {
-    ghost added = { λ growth b. if in_class growth.class b then 3 else 0 };
+impl AddedLength for StringAddedLength {
+    ghost of_byte = { λ added b. if in_class added.class b then 3 else 0 };
 
     #[inline(always)]
     fn of_block(&self, block: &Block) -> usize {

@@ -19,8 +19,8 @@ use Rattle.hesc_specs.proofs.Strings.CharacterBytes.{begins_escaped-character, e
 use Rattle.hesc_specs.proofs.Text.SomeImages.{some-string_image}
 
 -- an ASCII character becomes four bytes at most, and a separator, which has three, six
-abbrev pub growth : Class → ℕ → ℕ
-growth class b = if in_class class b then 3 else 0
+abbrev pub added_length : Class → ℕ → ℕ
+added_length class b = if in_class class b then 3 else 0
 
 -- the escape of an ASCII character
 mark_or_number : (mark : Bool) (c : ℕ) (number : List ℕ) → length number ≡ 4 → length (if mark then backslash ∷ c ∷ [] else number) ≤ 4
@@ -47,12 +47,12 @@ module _ (class : Class) (element : Element) (quotes : Quotes) (is : string_clas
       (and_parts (in_class class b) (not (b == separator_lead) || completes_separator (bytes ++ [])) begins).0
 
   separator-grows : (c last : ℕ) → is_escaped element quotes c ≡ true → encode c ≡ separator_lead ∷ 0x80 ∷ last ∷ []
-      → 6 ≤ length (encode c) + sum_by (growth class) (encode c)
+      → 6 ≤ length (encode c) + sum_by (added_length class) (encode c)
   separator-grows c last replaced spelt =
-      let lead : growth class separator_lead ≡ 3 = rw (first_in_class c separator_lead (0x80 ∷ last ∷ []) replaced spelt) refl in
+      let lead : added_length class separator_lead ≡ 3 = rw (first_in_class c separator_lead (0x80 ∷ last ∷ []) replaced spelt) refl in
       rw spelt (omega (arith, lead))
 
-  replaced-grows : (c : ℕ) → is_escaped element quotes c ≡ true → length (string_escape element c) ≤ length (encode c) + sum_by (growth class) (encode c)
+  replaced-grows : (c : ℕ) → is_escaped element quotes c ≡ true → length (string_escape element c) ≤ length (encode c) + sum_by (added_length class) (encode c)
   replaced-grows c replaced = elim (is_escaped-cases element quotes c replaced) [
     | inl small ↦
         let there = first_in_class c c [] replaced (encode_ascii c small) in
@@ -71,19 +71,19 @@ module _ (class : Class) (element : Element) (quotes : Quotes) (is : string_clas
   ]
 
   image-grows : (c : ℕ) (replaced : Bool) → is_escaped element quotes c ≡ replaced
-      → length (string_image element quotes c) ≤ length (encode c) + sum_by (growth class) (encode c)
+      → length (string_image element quotes c) ≤ length (encode c) + sum_by (added_length class) (encode c)
   image-grows c true is_replaced = rw is_replaced (replaced-grows c is_replaced)
   image-grows c false is_kept = rw is_kept (omega arith)
 
-  images-grow : (characters : List ℕ) → length (flat_map (string_image element quotes) characters) ≤ length (encodes characters) + sum_by (growth class) (encodes characters)
+  images-grow : (characters : List ℕ) → length (flat_map (string_image element quotes) characters) ≤ length (encodes characters) + sum_by (added_length class) (encodes characters)
   images-grow [] = omega arith
   images-grow (c ∷ characters) =
       let image = string_image element quotes c in
-      omega (arith, image-grows c (is_escaped element quotes c) refl, images-grow characters, length-append image (flat_map (string_image element quotes) characters), length-append (encode c) (encodes characters), sum_by-append (growth class) (encode c) (encodes characters))
+      omega (arith, image-grows c (is_escaped element quotes c) refl, images-grow characters, length-append image (flat_map (string_image element quotes) characters), length-append (encode c) (encodes characters), sum_by-append (added_length class) (encode c) (encodes characters))
 
-  pub length-string_encoding : (text : List ℕ) → IsUtf8 text → length (string_encoding element quotes text) ≤ length text + sum_by (growth class) text
+  pub length-string_encoding : (text : List ℕ) → IsUtf8 text → length (string_encoding element quotes text) ≤ length text + sum_by (added_length class) text
   length-string_encoding text utf8 =
-      subst (λ bytes. length (string_encoding element quotes text) ≤ length bytes + sum_by (growth class) bytes) (encodes-chars text utf8) (images-grow (chars text))
+      subst (λ bytes. length (string_encoding element quotes text) ≤ length bytes + sum_by (added_length class) bytes) (encodes-chars text utf8) (images-grow (chars text))
 
 no_characters : (element : Element) (quotes : Quotes) (characters : List ℕ) → flat_map (string_image element quotes) characters ≡ [] → characters ≡ []
 no_characters element quotes [] none = refl

@@ -4,11 +4,11 @@ use Rattle.std.proofs.lemmas.Nat.{and_le_r}
 use Rattle.std.proofs.lemmas.Simd.{zip2_of_maps, zip2_splat}
 use Rattle.std.specs.Prelude.{slice_index}
 use Rattle.hesc_scan.proofs.LaneLemmas.{mask_by, one_set}
-use Rattle.hesc_scan.proofs.Lookups.{looked_up, low_halves_fit}
+use Rattle.hesc_scan.proofs.Lookups.{looked_up, low_nibbles_fit}
 use Rattle.hesc_scan.proofs.entries.hits_of_entries.Goals as goal
 
 pub swizzle-entries : goal.swizzle-entries
-swizzle-entries c = low_halves_fit c.args.v c.fits-v.0
+swizzle-entries c = low_nibbles_fit c.args.v c.fits-v.0
 
 pub returns : goal.returns
 returns c =

@@ -8,6 +8,6 @@ pub returns : goal.returns
 returns c =
     let v = c.args.v in
     let long = c.fits-v.0 in
-    let groups = zip2_of_maps bit_and _ _ v (zip2_of_maps bit_and by_low by_high v c.by_low_half-low.ensures c.by_high_half-high.ensures) (splat_is_map v 32 c.args.wanted long) in
+    let groups = zip2_of_maps bit_and _ _ v (zip2_of_maps bit_and by_low by_high v c.by_low_nibble-low.ensures c.by_high_nibble-high.ensures) (splat_is_map v 32 c.args.wanted long) in
     mask_by _ _ v _ long (zip2_of_maps (λ a b. cond (not (a == b)) 255 0) _ _ v groups (splat_is_map v 32 0 long))
     (λ b. one_set (not (bit_and (bit_and (by_low b) (by_high b)) c.args.wanted == 0)))

@@ -10,8 +10,8 @@ use Rattle.hesc_scan.proofs.ClassEntries.{mask_by_table, table_stands_twice}
 use Rattle.hesc_scan.proofs.lanes.hits.Goals as goal
 
 pub hits_of_entries-requires-clause-twice : goal.hits_of_entries-requires-clause-twice
-hits_of_entries-requires-clause-twice c half below =
-    ap (λ t. slice_index t (16 + half)) c.entries_of.ensures ∙ table_stands_twice c.args.class half below ∙ ap (λ t. slice_index t half) (sym c.entries_of.ensures)
+hits_of_entries-requires-clause-twice c nibble below =
+    ap (λ t. slice_index t (16 + nibble)) c.entries_of.ensures ∙ table_stands_twice c.args.class nibble below ∙ ap (λ t. slice_index t nibble) (sym c.entries_of.ensures)
 
 pub returns-in-TextMinimal : goal.returns-in-TextMinimal
 returns-in-TextMinimal c =

@@ -3,7 +3,7 @@ use Rattle.std.proofs.lemmas.List.Sums.{sum_by-append, sum_by-take-drop, sum_by-
 use Rattle.std.proofs.Math.Seq.{take-add}
 use Rattle.std.specs.List.{sum_by}
 use Rattle.hesc_scan.proofs.ChunkSearch.{StandsAt, below_256, chunk_stands, rest_below_256}
-use Rattle.hesc_scan.proofs.length.growth.grown_length.Goals as goal
+use Rattle.hesc_scan.proofs.length.added.total_length.Goals as goal
 
 sum_chunk : (f : ℕ → ℕ) (bytes found : List ℕ) (i : ℕ) → StandsAt bytes (32 * i) found
     → sum_by f (take (32 * (i + 1)) bytes) ≡ sum_by f (take (32 * i) bytes) + sum_by f found
@@ -34,7 +34,7 @@ of_block-requires-2 g c = rw c.rest.ensures (rest_below_256 c.args.bytes.now _ (
 pub returns-in_err-count-clause-fits : goal.returns-in_err-count-clause-fits
 returns-in_err-count-clause-fits g c =
     λ fits.
-    let f = g.G.Growth.added c.args.growth.now in
+    let f = g.L.AddedLength.of_byte c.args.added.now in
     let chunks = c.as_chunks.ensures in
     let here = sum_chunk f c.args.bytes.now _ c.loop-chunk.chunk-index (chunk_stands c.args.bytes.now _ 0 c.as_chunks.result.0.now c.loop-chunk.chunk-index (omega arith) refl chunks.front chunks.front_len (omega arith) _ (omega arith)) in
     let part = sum_by-take-le f c.args.bytes.now (32 * (c.loop-chunk.chunk-index + 1)) in
@@ -43,14 +43,14 @@ returns-in_err-count-clause-fits g c =
 
 pub loop-chunk-preserved : goal.loop-chunk-preserved
 loop-chunk-preserved g c =
-    let f = g.G.Growth.added c.args.growth.now in
+    let f = g.L.AddedLength.of_byte c.args.added.now in
     let chunks = c.as_chunks.ensures in
     let here = sum_chunk f c.args.bytes.now _ c.loop-chunk.chunk-index (chunk_stands c.args.bytes.now _ 0 c.as_chunks.result.0.now c.loop-chunk.chunk-index (omega arith) refl chunks.front chunks.front_len (omega arith) _ (omega arith)) in
     omega (arith, here, c.loop-chunk.invariant, c.of_block.ensures, ap (sum_by f) c.full.ensures)
 
-all_counted : (g : _) (c : goal.After-checked_add-2 g) → c.loop-chunk.count + c.of_block-2.result ≡ length c.args.bytes.now + sum_by (g.G.Growth.added c.args.growth.now) c.args.bytes.now
+all_counted : (g : _) (c : goal.After-checked_add-2 g) → c.loop-chunk.count + c.of_block-2.result ≡ length c.args.bytes.now + sum_by (g.L.AddedLength.of_byte c.args.added.now) c.args.bytes.now
 all_counted g c =
-    let f = g.G.Growth.added c.args.growth.now in
+    let f = g.L.AddedLength.of_byte c.args.added.now in
     let chunks = c.as_chunks.ensures in
     let whole = sum_whole f c.args.bytes.now _ c.loop-chunk.chunk-index (omega arith) chunks.back in
     let rest = c.rest.ensures ∙ ap (λ n. drop n c.args.bytes.now) (omega (arith, chunks.back_len)) ∙ sym chunks.back in

@@ -1,23 +1,23 @@
-//! How much longer the HTML encoders make bytes, by counting in a block of them at once.
+//! How many bytes the HTML encoders add, by counting in a block at once.
 ghost use Rattle.std.specs.Prelude.{◌-◌, length};
 ghost use Rattle.hesc_specs.specs.Text.Classes.{IsHtml};
 ghost use Rattle.hesc_specs.specs.Html.{image};
 
 use crate::block::Block;
 use crate::lanes::block_hits;
+use crate::length::added::AddedLength;
 use crate::length::counts::{count, count_in};
-use crate::length::growth::Growth;
 use hesc_specs::Class;
 
-/// By how many bytes the image of a byte is longer than it is, in an HTML encoder's class.
+/// How many bytes the reference to a byte of the class has more than the byte.
 #[derive(Clone, Copy)]
-pub(crate) struct HtmlGrowth {
+pub(crate) struct HtmlAddedLength {
     pub(crate) class: Class,
     ghost html: { IsHtml class },
 }
 
-impl Growth for HtmlGrowth {
-    ghost added = { λ growth b. length (image growth.class b) - 1 };
+impl AddedLength for HtmlAddedLength {
+    ghost of_byte = { λ added b. length (image added.class b) - 1 };
 
     #[inline(always)]
     fn of_block(&self, block: &Block) -> usize {

@@ -14,11 +14,11 @@ use Rattle.hesc_specs.proofs.Text.SomeImages.{some-image}
 use Rattle.hesc_scan.proofs.Lengths.CountSteps.{count-cons, count_if-cons, count_if-nil, one}
 
 -- how much longer the image of a byte is, and by how much the shorter references fall short of six bytes
-abbrev pub growth : Class → ℕ → ℕ
-growth class b = length (image class b) - 1
+abbrev pub added_length : Class → ℕ → ℕ
+added_length class b = length (image class b) - 1
 
 abbrev sum_of_one : Class → ℕ → ℕ
-sum_of_one class b = growth class b + one (b == ampersand) + 2 * one (b == less_than) + 2 * cond (in_class class greater_than) (one (b == greater_than)) 0
+sum_of_one class b = added_length class b + one (b == ampersand) + 2 * one (b == less_than) + 2 * cond (in_class class greater_than) (one (b == greater_than)) 0
 
 abbrev adds_up : Class → ℕ → Bool
 adds_up class b = sum_of_one class b == 5 * one (in_class class b)
@@ -43,13 +43,13 @@ module _ (class : Class) (html : IsHtml class) where
   one_adds_up b below = eqb-true _ _ (agree_below_at (adds_up class) (λ _. true) 256 b (all_add_up class html) below)
 
   pub adds_up-all : (v : List ℕ) → Each1 (λ b. b < 256) v
-      → sum_by (growth class) v + count_by (λ b. b == ampersand) v + 2 * count_by (λ b. b == less_than) v + 2 * cond (in_class class greater_than) (count_by (λ b. b == greater_than) v) 0
+      → sum_by (added_length class) v + count_by (λ b. b == ampersand) v + 2 * count_by (λ b. b == less_than) v + 2 * cond (in_class class greater_than) (count_by (λ b. b == greater_than) v) 0
       ≡ 5 * count_by (in_class class) v
   adds_up-all [] below = omega (arith, count_if-nil (in_class class greater_than))
   adds_up-all (b ∷ v) below =
-      omega (arith, one_adds_up b below.0, adds_up-all v below.1, sum_by-cons (growth class) b v, count-cons (λ x. x == ampersand) b v, count-cons (λ x. x == less_than) b v, count-cons (in_class class) b v, count_if-cons (in_class class greater_than) (λ x. x == greater_than) b v)
+      omega (arith, one_adds_up b below.0, adds_up-all v below.1, sum_by-cons (added_length class) b v, count-cons (λ x. x == ampersand) b v, count-cons (λ x. x == less_than) b v, count-cons (in_class class) b v, count_if-cons (in_class class greater_than) (λ x. x == greater_than) b v)
 
-pub length-encoding : (class : Class) (bytes : List ℕ) → length (encoding class bytes) ≡ length bytes + sum_by (growth class) bytes
+pub length-encoding : (class : Class) (bytes : List ℕ) → length (encoding class bytes) ≡ length bytes + sum_by (added_length class) bytes
 length-encoding class [] = refl
 length-encoding class (b ∷ bytes) =
-    omega (arith, length-append (image class b) (encoding class bytes), some-image class b, length-encoding class bytes, sum_by-cons (growth class) b bytes)
+    omega (arith, length-append (image class b) (encoding class bytes), some-image class b, length-encoding class bytes, sum_by-cons (added_length class) b bytes)

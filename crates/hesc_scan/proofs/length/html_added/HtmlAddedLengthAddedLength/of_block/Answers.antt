@@ -2,9 +2,9 @@ use Rattle.std.proofs.Common.{ℕ, true, [], ◌≡◌, ap, ◌∙◌, arith}
 use Rattle.std.proofs.lemmas.Simd.{ones-mask_l}
 use Rattle.std.specs.Int.RustNames.{count_ones}
 use Rattle.hesc_specs.specs.Text.Classes.{in_class}
-use Rattle.hesc_scan.proofs.Lengths.GrowthSums.{adds_up-all}
+use Rattle.hesc_scan.proofs.Lengths.HtmlSums.{adds_up-all}
 use Rattle.hesc_scan.specs.Blocks.{block_bytes}
-use Rattle.hesc_scan.proofs.length.html_growth.HtmlGrowthGrowth.of_block.Goals as goal
+use Rattle.hesc_scan.proofs.length.html_added.HtmlAddedLengthAddedLength.of_block.Goals as goal
 
 pub overflow_sub-result : goal.overflow_sub-result
 overflow_sub-result c =

@@ -2,9 +2,9 @@ use Rattle.std.proofs.Common.{◌∙◌, ap, arith}
 use Rattle.std.proofs.lemmas.Simd.{ones-mask_l}
 use Rattle.std.specs.Int.RustNames.{count_ones}
 use Rattle.hesc_specs.specs.Text.Classes.{in_class}
-use Rattle.hesc_scan.proofs.Lengths.StringGrowthSums.{adds_up}
+use Rattle.hesc_scan.proofs.Lengths.StringSums.{adds_up}
 use Rattle.hesc_scan.specs.Blocks.{block_bytes}
-use Rattle.hesc_scan.proofs.length.strings.StringGrowthGrowth.of_block.Goals as goal
+use Rattle.hesc_scan.proofs.length.strings.StringAddedLengthAddedLength.of_block.Goals as goal
 
 pub returns : goal.returns
 returns c =
