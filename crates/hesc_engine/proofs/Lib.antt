@@ -5,3 +5,4 @@ pub mod Seam
 pub mod TakenText
 pub mod Told
 pub mod Segments
+pub mod Stores

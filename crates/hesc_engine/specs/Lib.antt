@@ -4,3 +4,4 @@ pub mod Next
 pub mod Pieces
 pub mod Sinks
 pub mod Forms
+pub mod Stores

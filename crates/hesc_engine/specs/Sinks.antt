@@ -1,7 +1,8 @@
 -- What a sink took, how often it failed, where it writes to, and what stood there at first.
-use Rattle.std.specs.Prelude.{ℕ, List, String, Vec}
+use Rattle.std.specs.Prelude.{◌-◌, ℕ, List, String, Vec, length, take}
 use Rattle.std.specs.Borrow.{MutBor}
 use Rattle.hesc_engine.specs.declared.sinks.counter.Counter.{Counter}
+use Rattle.hesc_engine.specs.declared.sinks.filled.FilledSink.{FilledSink}
 use Rattle.hesc_engine.specs.declared.sinks.string.StringSink.{StringSink}
 use Rattle.hesc_engine.specs.declared.sinks.vec.VecSink.{VecSink}
 use Rattle.hesc_engine.specs.declared.sinks.writer.WriterSink.{WriterSink}
@@ -36,6 +37,22 @@ vec_sink_output sink = sink.output
 
 abbrev pub vec_sink_start : {A : Type 0} → VecSink A → Vec ℕ A
 vec_sink_start sink = sink.start.value
+
+abbrev pub filled_sink_taken : {A : Type 0} → FilledSink A → List ℕ
+filled_sink_taken sink = sink.log.taken
+
+abbrev pub filled_sink_failures : {A : Type 0} → FilledSink A → ℕ
+filled_sink_failures sink = sink.log.failures
+
+abbrev pub filled_sink_output : {A : Type 0} → FilledSink A → MutBor (Vec ℕ A)
+filled_sink_output sink = sink.output
+
+-- what stands before the bytes that it writes over
+abbrev pub filled_sink_begin : {A : Type 0} → FilledSink A → List ℕ
+filled_sink_begin sink = take sink.begin sink.start.value.items
+
+abbrev pub filled_sink_room : {A : Type 0} → FilledSink A → ℕ
+filled_sink_room sink = length sink.output.now.items - sink.end
 
 abbrev pub writer_sink_taken : {W : Type 0} {writes : Ghosts W} → WriterSink W writes → List ℕ
 writer_sink_taken sink = sink.log.taken

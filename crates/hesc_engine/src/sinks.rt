@@ -1,8 +1,10 @@
 //! The sinks: a count, a string, a vector, a writer.
 mod blocks;
 pub mod counter;
+pub(crate) mod filled;
 pub mod log;
 pub(crate) mod room;
+mod stores;
 pub mod string;
 pub mod vec;
 pub mod writer;

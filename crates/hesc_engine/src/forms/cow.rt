@@ -1,9 +1,11 @@
 //! A rule's text as a text that is borrowed where nothing changes.
+ghost use Rattle.std.specs.Prelude.{◌≡◌, IfOk};
+ghost use Rattle.std.specs.String.{string_bytes};
 ghost use Rattle.hesc_engine.specs.Forms.{AnswersText};
 
 use crate::ahead::Ahead;
 use crate::forms::made::Made;
-use crate::forms::parts::append_parts_to_vec;
+use crate::forms::parts::{Parts, append_parts_to_vec};
 use crate::rule::Rule;
 use std::alloc::{AllocError, Allocator};
 use std::borrow::CowStr;
@@ -24,8 +26,17 @@ pub fn to_cow<'t, R: Rule, A: Allocator>(
     if rule.next_ahead(text, 0, &mut ahead).is_none() {
         return Ok(CowStr::Borrowed(text));
     }
+    let made = new_string(alloc, &Made { rule, text, ahead })?;
+    Ok(CowStr::Owned(made))
+}
+
+// A call of its own, so that a text that stays costs no more than its scan.
+#[inline(never)]
+fn new_string<P: Parts, A: Allocator>(alloc: A, parts: &P) -> Result<String<A>, AllocError>
+    ensures { IfOk result (λ string. string_bytes string ≡ P.text parts.now) }
+{
     let mut bytes = Vec::new(alloc);
-    append_parts_to_vec(&mut bytes, &Made { rule, text, ahead })?;
+    append_parts_to_vec(&mut bytes, parts)?;
     // What is made of a text is a text.
-    Ok(CowStr::Owned(unsafe { String::from_utf8_unchecked(bytes) }))
+    Ok(unsafe { String::from_utf8_unchecked(bytes) })
 }

@@ -1,16 +1,22 @@
 //! A text made of parts, appended: room is found out and reserved once, and then the parts are put.
 //! Nothing else grows an output.
-ghost use Rattle.std.specs.Prelude.{◌≡◌, ◌≤◌, ◌<◌, ◌^◌, ℕ, List, [], ◌++◌, if◌then◌else◌, length, IfOk, IsOk, IsTrue, OnOk};
+ghost use Rattle.std.specs.Prelude.{◌≡◌, ◌≤◌, ◌<◌, ◌+◌, ◌^◌, ℕ, List, [], ◌++◌, if◌then◌else◌, length, take, vec_len, IfOk, IsOk, IsTrue, OnOk};
 ghost use Rattle.std.specs.Str.{IsUtf8};
 ghost use Rattle.std.specs.String.{string_bytes};
 ghost use Rattle.hesc_engine.specs.Forms.{Appended, string_room, vec_room};
 
 use crate::sink::Sink;
 use crate::sinks::counter::{CountOverflow, Counter};
+use crate::sinks::filled::FilledSink;
 use crate::sinks::room::RoomSink;
 use crate::sinks::vec::VecSink;
 use core::mem::replace_with;
 use std::alloc::{AllocError, Allocator};
+
+/// The most room that is filled with zeros first. More of it would be written to memory twice.
+const SHORT: usize = 64 << 10;
+
+static ZEROS: [u8; 1024] = [0; 1024];
 
 /// A text as the parts that are put into a sink, one after another.
 pub trait Parts {
@@ -48,6 +54,12 @@ pub trait Parts {
     #[inline(always)]
     fn may_fit(&self, spare: usize) -> bool {
         let _spare = spare;
+        false
+    }
+
+    /// Whether the text is one part, which is copied as it is.
+    #[inline(always)]
+    fn is_one_part(&self) -> bool {
         false
     }
 }
@@ -106,10 +118,48 @@ pub fn append_parts_to_vec<P: Parts, A: Allocator>(
         return Ok(());
     }
     output.reserve(room)?;
+    if room <= SHORT && !parts.is_one_part() {
+        return put_over_zeros(output, parts, room);
+    }
     let mut sink = VecSink::new(output);
     let outcome = parts.put_into(&mut sink);
     let _output = sink.into_output();
     outcome
+}
+
+// Appends zeros and writes the parts over them: a store into a slice costs less than an append.
+#[inline(always)]
+fn put_over_zeros<P: Parts, A: Allocator>(
+    output: &mut Vec<u8, A>,
+    parts: &P,
+    room: usize,
+) -> Result<(), AllocError>
+    requires enough { length (P.text parts.now) ≤ room }
+    requires fits { room ≤ vec_room output.old }
+    ensures is_ok { IsOk result }
+    ensures items { output.new.items ≡ output.old.items ++ P.text parts.now }
+    ensures utf8 { IsUtf8 (P.text parts.now) }
+{
+    let start = output.len();
+    append_zeros(output, room)?;
+    let mut sink = FilledSink::new(output, start);
+    let outcome = parts.put_into(&mut sink);
+    let _output = sink.into_output();
+    outcome
+}
+
+fn append_zeros<A: Allocator>(output: &mut Vec<u8, A>, count: usize) -> Result<(), AllocError>
+    requires { count ≤ vec_room output.old }
+    ensures is_ok { IsOk result }
+    ensures items { take (vec_len output.old) output.new.items ≡ output.old.items }
+    ensures len { vec_len output.new ≡ vec_len output.old + count }
+{
+    let end = output.len() + count;
+    while output.len() < end {
+        let step = (end - output.len()).min(ZEROS.len());
+        output.extend_from_slice(&ZEROS[..step])?;
+    }
+    Ok(())
 }
 
 // Appends the text of the parts to the room that is there, or leaves the output as it was.

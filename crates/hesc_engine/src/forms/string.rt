@@ -6,10 +6,10 @@ ghost use Rattle.std.specs.String.{string_bytes};
 ghost use Rattle.hesc_engine.specs.Forms.{AnswersPart, Appended, StringAppended, string_room};
 
 use crate::ahead::Ahead;
+use crate::forms::kept::Kept;
 use crate::forms::made::Made;
 use crate::forms::parts::append_parts;
 use crate::rule::Rule;
-use crate::unchanged::Unchanged;
 use std::alloc::{AllocError, Allocator};
 
 /// Appends what `rule` makes of `text`, or leaves the output as it was.
@@ -28,12 +28,7 @@ pub fn append_to_string<R: Rule, A: Allocator>(
     // Most texts stay as they are, and that is found out once.
     let mut ahead = Ahead::nothing(text);
     if rule.next_ahead(text, 0, &mut ahead).is_none() {
-        let unchanged = Made {
-            rule: &Unchanged,
-            text,
-            ahead,
-        };
-        return append_parts(output, &unchanged);
+        return append_parts(output, &Kept { text });
     }
     append_parts(output, &Made { rule, text, ahead })
 }

@@ -1,0 +1,40 @@
+-- Stores of a constant length, of which less is wanted.
+use Rattle.std.proofs.Common.{◌≡◌, ℕ, ◌+◌, ◌-◌, ◌≤◌, List, ◌++◌, ◌∙◌, ap, sym, length, take, drop, arith, length-take-le, take-take}
+use Rattle.std.proofs.lemmas.List.{append_assoc, length-drop, take-append-drop, take-append-le, take_rest}
+use Rattle.hesc_engine.proofs.Blocks.{cut_after}
+use Rattle.hesc_engine.specs.Stores.{Stored}
+
+-- the first bytes of a block
+pub stored_first : (old new bytes : List ℕ) (place block count end : ℕ) → count ≤ block → block ≤ length bytes → place ≤ length old
+    → Stored old new place (take block bytes) end → Stored old new place (take count bytes) (place + count)
+stored_first old new bytes place block count end few there within stored =
+    let far : place + count ≤ end = omega (arith, few, stored.after, length-take-le block bytes there) in
+    record {
+      before = cut_after (take place old) bytes (take end new) (take (place + count) new) count block place (sym (length-take-le place old within)) few stored.before (sym (take-take (place + count) end new far));
+      after = omega (arith, length-take-le count bytes (omega (arith, few, there)));
+      long = stored.long;
+    }
+
+-- two blocks, the second of which ends where the bytes do
+pub stored_ends : (old mid new bytes rest : List ℕ) (place n middle end : ℕ) → n ≤ length bytes → length bytes ≤ n + n → place ≤ length old
+    → Stored old mid place (take n bytes) middle → rest ≡ drop (length bytes - n) bytes → Stored mid new (place + (length bytes - n)) (take n rest) end → Stored old new place bytes end
+stored_ends old mid new bytes rest place n middle end one both within first is_rest second =
+    let last : ℕ = length bytes - n in
+    let front = stored_first old mid bytes place n last middle (omega (arith, both)) one within first in
+    let back : take n rest ≡ drop last bytes = ap (take n) is_rest ∙ ap (λ m. take m (drop last bytes)) (omega (arith, one)) ∙ take_rest bytes last in
+    record {
+      before = second.before ∙ (λ i. front.before i ++ back i) ∙ append_assoc (take place old) (take last bytes) (drop last bytes) ∙ ap (λ (l : List ℕ). take place old ++ l) (take-append-drop last bytes);
+      after = omega (arith, second.after, ap length back, length-drop last bytes, one);
+      long = second.long ∙ first.long;
+    }
+
+-- what was taken before, and the bytes that were stored after it, in a vector of so many bytes
+pub taken_after : (old new before taken bytes all tail : List ℕ) (place end len : ℕ) → Stored old new place bytes end → place + length bytes ≤ length old → length old ≡ len
+    → take place old ≡ before ++ taken → all ≡ taken ++ bytes → take end (take len (new ++ tail)) ≡ before ++ all
+taken_after old new before taken bytes all tail place end len stored within long held is =
+    take-take end len (new ++ tail) (omega (arith, stored.after, within, long))
+    ∙ take-append-le end new tail (omega (arith, stored.after, stored.long, within))
+    ∙ stored.before
+    ∙ ap (λ (l : List ℕ). l ++ bytes) held
+    ∙ append_assoc before taken bytes
+    ∙ ap (λ (l : List ℕ). before ++ l) (sym is)

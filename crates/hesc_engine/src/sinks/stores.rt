@@ -1,0 +1,84 @@
+//! Short texts stored into a slice by a store or two of a constant length.
+ghost use Rattle.std.specs.Prelude.{◌≡◌, ◌≤◌, ◌+◌, length, take};
+ghost use Rattle.hesc_engine.specs.Stores.{Stored};
+ghost use Rattle.hesc_engine.specs.Text.{small_text_bytes};
+
+use crate::small_text::SmallText;
+use std::simd::Simd;
+
+/// Stores the first `count` of the bytes at a place, and answers the place after them. What stands
+/// there afterwards is lost.
+#[inline(always)]
+pub(crate) fn store_first(room: &mut [u8], place: usize, bytes: &[u8], count: usize) -> usize
+    requires there { count ≤ length bytes.now }
+    requires fits { place + count ≤ length room.old }
+    ensures { Stored room.old room.new place (take count bytes.now) result }
+{
+    // A block for all short stretches, empty ones too, needs no guess of how long the next is.
+    if count <= 16 && 16 <= bytes.len() && 16 <= room.len() - place {
+        store_block::<16>(room, place, bytes);
+        return place + count;
+    }
+    store(room, place, &bytes[..count])
+}
+
+/// Stores the text at a place, and answers the place after it. What stands there afterwards is lost.
+#[inline(always)]
+pub(crate) fn store_small(room: &mut [u8], place: usize, text: SmallText) -> usize
+    requires { place + length (small_text_bytes text) ≤ length room.old }
+    ensures { Stored room.old room.new place (small_text_bytes text) result }
+{
+    if room.len() - place >= 8 {
+        store_block::<8>(room, place, &text.block());
+        return place + text.len();
+    }
+    store(room, place, text.as_str().as_bytes())
+}
+
+/// Stores the bytes at a place, and answers the place after them.
+#[inline(always)]
+pub(crate) fn store(room: &mut [u8], place: usize, bytes: &[u8]) -> usize
+    requires { place + length bytes.now ≤ length room.old }
+    ensures { Stored room.old room.new place bytes.now result }
+{
+    let count = bytes.len();
+    if count > 16 {
+        let end = place + count;
+        room[place..end].copy_from_slice(bytes);
+        end
+    } else if count >= 8 {
+        store_ends::<8>(room, place, bytes)
+    } else if count >= 4 {
+        store_ends::<4>(room, place, bytes)
+    } else if count >= 2 {
+        store_ends::<2>(room, place, bytes)
+    } else if count == 1 {
+        store_block::<1>(room, place, bytes)
+    } else {
+        place
+    }
+}
+
+// As many bytes as a block has, or up to twice as many: the last ones overlap the first.
+#[inline(always)]
+fn store_ends<const N: usize>(room: &mut [u8], place: usize, bytes: &[u8]) -> usize
+    requires one { N ≤ length bytes.now }
+    requires both { length bytes.now ≤ N + N }
+    requires fits { place + length bytes.now ≤ length room.old }
+    ensures { Stored room.old room.new place bytes.now result }
+{
+    let last = bytes.len() - N;
+    store_block::<N>(room, place, bytes);
+    store_block::<N>(room, place + last, &bytes[last..])
+}
+
+// The first bytes, as many as a block has, by one load and one store.
+#[inline(always)]
+fn store_block<const N: usize>(room: &mut [u8], place: usize, bytes: &[u8]) -> usize
+    requires there { N ≤ length bytes.now }
+    requires fits { place + N ≤ length room.old }
+    ensures { Stored room.old room.new place (take N bytes.now) result }
+{
+    Simd::<u8, N>::from_slice(bytes).copy_to_slice(&mut room[place..]);
+    place + N
+}
