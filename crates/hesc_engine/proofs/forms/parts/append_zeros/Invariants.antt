@@ -1,4 +1,4 @@
-use Rattle.std.proofs.Common.{◌≡◌, ◌≤◌, ◌+◌, ◌-◌, take, vec_len}
+use Rattle.std.proofs.Common.{◌≡◌, ◌≤◌, ◌-◌, take, vec_len}
 use Rattle.std.specs.Vec.{vec_capacity}
 use Rattle.hesc_engine.proofs.forms.parts.append_zeros.Given as goal
 
