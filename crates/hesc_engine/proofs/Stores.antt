@@ -1,5 +1,5 @@
 -- Stores of a constant length, of which less is wanted.
-use Rattle.std.proofs.Common.{◌≡◌, ℕ, ◌+◌, ◌-◌, ◌≤◌, List, ◌++◌, ◌∙◌, ap, sym, length, take, drop, arith, length-take-le, take-take}
+use Rattle.std.proofs.Common.{◌≡◌, ℕ, ◌+◌, ◌-◌, ◌≤◌, List, ◌++◌, ◌∙◌, ap, sym, length, take, drop, arith, length-append, length-take-le, take-take}
 use Rattle.std.proofs.lemmas.List.{append_assoc, length-drop, take-append-drop, take-append-le, take_rest}
 use Rattle.hesc_engine.proofs.Blocks.{cut_after}
 use Rattle.hesc_engine.specs.Stores.{Stored}
@@ -28,7 +28,25 @@ stored_ends old mid new bytes rest place n middle end one both within first is_r
       long = second.long ∙ first.long;
     }
 
--- what was taken before, and the bytes that were stored after it, in a vector of so many bytes
+-- some bytes, and others after them
+pub stored_then : (old mid new first second : List ℕ) (place middle end : ℕ) → Stored old mid place first middle → Stored mid new middle second end → Stored old new place (first ++ second) end
+stored_then old mid new first second place middle end one two = record {
+  before = two.before ∙ ap (λ (l : List ℕ). l ++ second) one.before ∙ append_assoc (take place old) first second;
+  after = omega (arith, one.after, two.after, length-append first second);
+  long = two.long ∙ one.long;
+}
+
+-- what was taken before, and the bytes that were stored after it
+pub held_after : (old new taken bytes all : List ℕ) (place end : ℕ) → Stored old new place bytes end → take place old ≡ taken → all ≡ taken ++ bytes → take end new ≡ all
+held_after old new taken bytes all place end stored held is = stored.before ∙ ap (λ (l : List ℕ). l ++ bytes) held ∙ sym is
+
+-- a stretch and a text that were taken, as what was stored
+pub both_taken : (taken kept copy rest small one all : List ℕ) → copy ≡ kept → take (length kept) rest ≡ kept → one ≡ taken ++ copy → all ≡ one ++ small → all ≡ taken ++ (take (length copy) rest ++ small)
+both_taken taken kept copy rest small one all is_kept begins is_one is =
+    let same : copy ≡ take (length copy) rest = is_kept ∙ sym begins ∙ ap (λ (l : List ℕ). take (length l) rest) (sym is_kept) in
+    is ∙ ap (λ (l : List ℕ). l ++ small) is_one ∙ append_assoc taken copy small ∙ ap (λ (l : List ℕ). taken ++ (l ++ small)) same
+
+-- the same in a vector of so many bytes
 pub taken_after : (old new before taken bytes all tail : List ℕ) (place end len : ℕ) → Stored old new place bytes end → place + length bytes ≤ length old → length old ≡ len
     → take place old ≡ before ++ taken → all ≡ taken ++ bytes → take end (take len (new ++ tail)) ≡ before ++ all
 taken_after old new before taken bytes all tail place end len stored within long held is =

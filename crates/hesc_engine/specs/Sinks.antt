@@ -3,6 +3,7 @@ use Rattle.std.specs.Prelude.{◌-◌, ℕ, List, String, Vec, length, take}
 use Rattle.std.specs.Borrow.{MutBor}
 use Rattle.hesc_engine.specs.declared.sinks.counter.Counter.{Counter}
 use Rattle.hesc_engine.specs.declared.sinks.filled.FilledSink.{FilledSink}
+use Rattle.hesc_engine.specs.declared.sinks.stack.StackSink.{StackSink}
 use Rattle.hesc_engine.specs.declared.sinks.string.StringSink.{StringSink}
 use Rattle.hesc_engine.specs.declared.sinks.vec.VecSink.{VecSink}
 use Rattle.hesc_engine.specs.declared.sinks.writer.WriterSink.{WriterSink}
@@ -13,6 +14,15 @@ counted sink = sink.log.taken
 
 abbrev pub counter_failures : Counter → ℕ
 counter_failures sink = sink.log.failures
+
+abbrev pub stack_sink_taken : {N : ℕ} → StackSink N → List ℕ
+stack_sink_taken sink = sink.log.taken
+
+abbrev pub stack_sink_failures : {N : ℕ} → StackSink N → ℕ
+stack_sink_failures sink = sink.log.failures
+
+abbrev pub stack_sink_room : {N : ℕ} → StackSink N → ℕ
+stack_sink_room sink = length sink.bytes - sink.end
 
 abbrev pub string_sink_taken : {A : Type 0} → StringSink A → List ℕ
 string_sink_taken sink = sink.log.taken

@@ -24,6 +24,8 @@ pub use crate::pieces::{Piece, Pieces};
 pub use crate::rule::Rule;
 pub use crate::segment::Segment;
 pub use crate::sink::Sink;
-pub use crate::sinks::{CountOverflow, Counter, StringSink, VecSink, WriterSink};
+pub use crate::sinks::{
+    CountOverflow, Counter, StackFull, StackSink, StringSink, VecSink, WriterSink,
+};
 pub use crate::small_text::SmallText;
 pub use crate::unchanged::Unchanged;

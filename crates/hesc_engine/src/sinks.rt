@@ -1,15 +1,17 @@
-//! The sinks: a count, a string, a vector, a writer.
+//! The sinks: a count, an array on the stack, a string, a vector, a writer.
 mod blocks;
 pub mod counter;
 pub(crate) mod filled;
 pub mod log;
 pub(crate) mod room;
+pub mod stack;
 mod stores;
 pub mod string;
 pub mod vec;
 pub mod writer;
 
 pub use crate::sinks::counter::{CountOverflow, Counter};
+pub use crate::sinks::stack::{StackFull, StackSink};
 pub use crate::sinks::string::StringSink;
 pub use crate::sinks::vec::VecSink;
 pub use crate::sinks::writer::WriterSink;

@@ -10,7 +10,6 @@ mod fill;
 pub mod laws;
 mod page;
 mod parts;
-mod short_page;
 mod template;
 
 pub use crate::faults::{FillFault, TemplateFault};

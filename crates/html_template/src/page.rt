@@ -7,14 +7,17 @@ ghost use Rattle.html_escape.specs.Encoders.{encoded};
 ghost use Rattle.html_template.specs.Templates.{encoder_for, kept, page, texts_of};
 
 use crate::parts::Piece;
-use crate::short_page::{SHORT, ShortPage};
 use hesc_core::forms::{Parts, append_parts, append_to_string};
 use hesc_core::rules::{Escape, Unchanged};
 use hesc_core::{Class, CountOverflow, Rule, Sink};
 use hesc_engine::ahead::Ahead;
 use hesc_engine::engine::run_knowing;
+use hesc_engine::sinks::stack::StackSink;
 use html_tokenizer::SlotPlace;
 use std::alloc::{AllocError, Allocator};
+
+/// The most bytes of a page that is made on the stack.
+const SHORT: usize = 2048;
 
 // The class of the encoder for a place.
 #[inline(always)]
@@ -89,7 +92,7 @@ fn append_short_page<B: Allocator>(
     ensures fits { length (page (map kept made.now.pieces.now) (texts_of made.now.texts.now))
         ≤ string_room output.old → IsOk result }
 {
-    let mut short = ShortPage::new();
+    let mut short = StackSink::<SHORT>::new();
     if made.put_into(&mut short).is_ok() {
         return append_to_string(output, &Unchanged, short.as_str());
     }

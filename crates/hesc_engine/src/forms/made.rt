@@ -30,4 +30,10 @@ impl<R: Rule> Parts for Made<'_, R> {
     fn room_for(&self, spare: usize) -> Result<usize, CountOverflow> {
         room_for(self.rule, self.text, spare)
     }
+
+    // With six bytes for each byte it fits.
+    #[inline(always)]
+    fn is_short(&self) -> bool {
+        self.text.len() <= 64
+    }
 }

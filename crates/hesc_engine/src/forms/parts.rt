@@ -1,17 +1,22 @@
 //! A text made of parts, appended: room is found out and reserved once, and then the parts are put.
 //! Nothing else grows an output.
-ghost use Rattle.std.specs.Prelude.{◌≡◌, ◌≤◌, ◌<◌, ◌+◌, ◌^◌, ℕ, List, [], ◌++◌, if◌then◌else◌, length, take, vec_len, IfOk, IsOk, IsTrue, OnOk};
+ghost use Rattle.std.specs.Prelude.{◌≡◌, ◌≤◌, ◌<◌, ◌+◌, ◌^◌, ℕ, List, [], ◌++◌, if◌then◌else◌, length, take, vec_len, IfNone, IfOk, IfSome, IsOk, IsTrue, OnOk};
 ghost use Rattle.std.specs.Str.{IsUtf8};
 ghost use Rattle.std.specs.String.{string_bytes};
 ghost use Rattle.hesc_engine.specs.Forms.{Appended, string_room, vec_room};
 
+use crate::forms::kept::Kept;
 use crate::sink::Sink;
 use crate::sinks::counter::{CountOverflow, Counter};
 use crate::sinks::filled::FilledSink;
 use crate::sinks::room::RoomSink;
+use crate::sinks::stack::StackSink;
 use crate::sinks::vec::VecSink;
 use core::mem::replace_with;
 use std::alloc::{AllocError, Allocator};
+
+/// The most bytes that are made on the stack.
+const STACK: usize = 416;
 
 /// The most room that is filled with zeros first. More of it would be written to memory twice.
 const SHORT: usize = 64 << 10;
@@ -54,6 +59,12 @@ pub trait Parts {
     #[inline(always)]
     fn may_fit(&self, spare: usize) -> bool {
         let _spare = spare;
+        false
+    }
+
+    /// Whether the text is so short that it is made on the stack first.
+    #[inline(always)]
+    fn is_short(&self) -> bool {
         false
     }
 
@@ -111,6 +122,51 @@ pub fn append_parts_to_vec<P: Parts, A: Allocator>(
     if parts.may_fit(spare) && put_in_room(output, parts) {
         return Ok(());
     }
+    if parts.is_short() {
+        if let Some(outcome) = append_by_stack(output, parts) {
+            return outcome;
+        }
+    }
+    append_measured(output, parts)
+}
+
+// Made on the stack and appended by one copy, or `None` where the stack does not suffice. The array
+// is set up in this function and no other.
+#[inline(never)]
+fn append_by_stack<P: Parts, A: Allocator>(
+    output: &mut Vec<u8, A>,
+    parts: &P,
+) -> Option<Result<(), AllocError>>
+    ensures none { IfNone result (output.new ≡ output.old) }
+    ensures appended { IfSome result (λ outcome.
+        Appended output.old.items output.new.items (P.text parts.now) outcome) }
+    ensures fits { length (P.text parts.now) ≤ vec_room output.old
+        → IfSome result (λ outcome. IsOk outcome) }
+    ensures utf8 { IfSome result (λ outcome. OnOk outcome (IsUtf8 (P.text parts.now))) }
+{
+    let mut short = StackSink::<STACK>::new();
+    if parts.put_into(&mut short).is_err() {
+        return None;
+    }
+    Some(append_measured(
+        output,
+        &Kept {
+            text: short.as_str(),
+        },
+    ))
+}
+
+// By one request for as much room as is found out first.
+#[inline(always)]
+fn append_measured<P: Parts, A: Allocator>(
+    output: &mut Vec<u8, A>,
+    parts: &P,
+) -> Result<(), AllocError>
+    ensures appended { Appended output.old.items output.new.items (P.text parts.now) result }
+    ensures fits { length (P.text parts.now) ≤ vec_room output.old → IsOk result }
+    ensures utf8 { OnOk result (IsUtf8 (P.text parts.now)) }
+{
+    let spare = output.capacity() - output.len();
     let Ok(room) = parts.room_for(spare) else {
         return Err(AllocError);
     };

@@ -6,7 +6,7 @@ use crate::found::Replacement;
 use crate::segment::Segment;
 use crate::sink::Sink;
 use crate::sinks::log::Log;
-use crate::sinks::stores::{store, store_first, store_small};
+use crate::sinks::stores::{store, store_both};
 use crate::small_text::SmallText;
 use std::alloc::{AllocError, Allocator};
 use std::snapshot::Snapshot;
@@ -28,7 +28,7 @@ pub(crate) struct FilledSink<'a, A: Allocator> {
 }
 
 impl<'a, A: Allocator> FilledSink<'a, A> {
-    ghost use Rattle.std.specs.Prelude.{[], ◌+◌, IsOk, OnOk, OnErr};
+    ghost use Rattle.std.specs.Prelude.{[], ◌+◌};
     ghost use Rattle.hesc_engine.specs.Sinks.{
       filled_sink_begin,
       filled_sink_failures,
@@ -76,55 +76,30 @@ impl<'a, A: Allocator> FilledSink<'a, A> {
         self.output.len() - self.end
     }
 
+    // A short stretch and a short text, where a block of each fits.
     #[inline(always)]
-    fn put_stretch(&mut self, segment: Segment<'_>) -> Result<(), AllocError>
-        ensures ok_taken { OnOk result
-            (filled_sink_taken self.new ≡ filled_sink_taken self.old ++ segment.entry.kept.now) }
-        ensures ok_failures { OnOk result
-            (filled_sink_failures self.new ≡ filled_sink_failures self.old) }
-        ensures err_taken { OnErr result (filled_sink_taken self.new ≡ filled_sink_taken self.old) }
-        ensures err_failures { OnErr result
-            (filled_sink_failures self.new ≡ filled_sink_failures self.old + 1) }
-        ensures fits { length segment.entry.kept.now ≤ filled_sink_room self.old → IsOk result }
-        ensures room { OnOk result (filled_sink_room self.old
-            ≤ filled_sink_room self.new + length segment.entry.kept.now) }
+    fn put_both(&mut self, segment: Segment<'_>, text: SmallText)
+        requires few { length segment.kept.now ≤ 16 }
+        requires fits { 24 ≤ filled_sink_room self.old }
+        ensures taken { filled_sink_taken self.new
+            ≡ filled_sink_taken self.old ++ (segment.entry.kept.now ++ small_text_bytes text) }
+        ensures failures { filled_sink_failures self.new ≡ filled_sink_failures self.old }
+        ensures room { filled_sink_room self.old ≤ filled_sink_room self.new
+            + (length segment.entry.kept.now + length (small_text_bytes text)) }
         ensures same_reference { (filled_sink_output self.new).ghost_name
             ≡ (filled_sink_output self.old).ghost_name }
         ensures same_begin { filled_sink_begin self.new ≡ filled_sink_begin self.old }
     {
-        let count = segment.kept.len();
-        if count > self.room() {
-            self.log = self.log.after_failing();
-            return Err(AllocError);
-        }
-        self.end = store_first(self.output.as_mut_slice(), self.end, segment.rest, count);
-        self.log = self.log.after_taking(segment.kept.as_bytes());
-        Ok(())
-    }
-
-    #[inline(always)]
-    fn put_small(&mut self, text: SmallText) -> Result<(), AllocError>
-        ensures ok_taken { OnOk result
-            (filled_sink_taken self.new ≡ filled_sink_taken self.old ++ small_text_bytes text) }
-        ensures ok_failures { OnOk result
-            (filled_sink_failures self.new ≡ filled_sink_failures self.old) }
-        ensures err_taken { OnErr result (filled_sink_taken self.new ≡ filled_sink_taken self.old) }
-        ensures err_failures { OnErr result
-            (filled_sink_failures self.new ≡ filled_sink_failures self.old + 1) }
-        ensures fits { length (small_text_bytes text) ≤ filled_sink_room self.old → IsOk result }
-        ensures room { OnOk result (filled_sink_room self.old
-            ≤ filled_sink_room self.new + length (small_text_bytes text)) }
-        ensures same_reference { (filled_sink_output self.new).ghost_name
-            ≡ (filled_sink_output self.old).ghost_name }
-        ensures same_begin { filled_sink_begin self.new ≡ filled_sink_begin self.old }
-    {
-        if text.len() > self.room() {
-            self.log = self.log.after_failing();
-            return Err(AllocError);
-        }
-        self.end = store_small(self.output.as_mut_slice(), self.end, text);
-        self.log = self.log.after_taking(text.as_str().as_bytes());
-        Ok(())
+        let kept = segment.kept.as_bytes();
+        self.end = store_both(
+            self.output.as_mut_slice(),
+            self.end,
+            segment.rest,
+            kept.len(),
+            text,
+        );
+        let log = self.log.after_taking(kept);
+        self.log = log.after_taking(text.as_str().as_bytes());
     }
 }
 
@@ -163,10 +138,16 @@ impl<A: Allocator> Sink for FilledSink<'_, A> {
     // Most stretches and replacements are short.
     #[inline(always)]
     fn put_segment(&mut self, segment: Segment<'_>) -> Result<(), AllocError> {
-        self.put_stretch(segment)?;
+        if let Replacement::Small(text) = segment.new {
+            if segment.kept.len() <= 16 && self.room() >= 24 {
+                self.put_both(segment, text);
+                return Ok(());
+            }
+        }
+        self.put_some(segment.kept)?;
         match segment.new {
             Replacement::Borrowed(text) => self.put_some(text),
-            Replacement::Small(text) => self.put_small(text),
+            Replacement::Small(text) => self.put_some(text.as_str()),
         }
     }
 }

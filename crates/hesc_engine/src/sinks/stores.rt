@@ -1,38 +1,28 @@
 //! Short texts stored into a slice by a store or two of a constant length.
-ghost use Rattle.std.specs.Prelude.{◌≡◌, ◌≤◌, ◌+◌, length, take};
+ghost use Rattle.std.specs.Prelude.{◌≡◌, ◌≤◌, ◌+◌, ◌++◌, length, take};
 ghost use Rattle.hesc_engine.specs.Stores.{Stored};
 ghost use Rattle.hesc_engine.specs.Text.{small_text_bytes};
 
 use crate::small_text::SmallText;
 use std::simd::Simd;
 
-/// Stores the first `count` of the bytes at a place, and answers the place after them. What stands
-/// there afterwards is lost.
+/// Stores the first `count` of the bytes, and after them the text, at a place where a block of each
+/// fits, and answers the place after both. What stands there afterwards is lost.
 #[inline(always)]
-pub(crate) fn store_first(room: &mut [u8], place: usize, bytes: &[u8], count: usize) -> usize
+pub(crate) fn store_both(
+    room: &mut [u8],
+    place: usize,
+    bytes: &[u8],
+    count: usize,
+    text: SmallText,
+) -> usize
+    requires few { count ≤ 16 }
     requires there { count ≤ length bytes.now }
-    requires fits { place + count ≤ length room.old }
-    ensures { Stored room.old room.new place (take count bytes.now) result }
+    requires fits { place + 24 ≤ length room.old }
+    ensures { Stored room.old room.new place (take count bytes.now ++ small_text_bytes text) result }
 {
-    // A block for all short stretches, empty ones too, needs no guess of how long the next is.
-    if count <= 16 && 16 <= bytes.len() && 16 <= room.len() - place {
-        store_block::<16>(room, place, bytes);
-        return place + count;
-    }
-    store(room, place, &bytes[..count])
-}
-
-/// Stores the text at a place, and answers the place after it. What stands there afterwards is lost.
-#[inline(always)]
-pub(crate) fn store_small(room: &mut [u8], place: usize, text: SmallText) -> usize
-    requires { place + length (small_text_bytes text) ≤ length room.old }
-    ensures { Stored room.old room.new place (small_text_bytes text) result }
-{
-    if room.len() - place >= 8 {
-        store_block::<8>(room, place, &text.block());
-        return place + text.len();
-    }
-    store(room, place, text.as_str().as_bytes())
+    let middle = store_short(room, place, bytes, count);
+    store_padded(room, middle, text)
 }
 
 /// Stores the bytes at a place, and answers the place after them.
@@ -57,6 +47,35 @@ pub(crate) fn store(room: &mut [u8], place: usize, bytes: &[u8]) -> usize
     } else {
         place
     }
+}
+
+// At most 16 of the bytes, at a place where 16 fit.
+#[inline(always)]
+fn store_short(room: &mut [u8], place: usize, bytes: &[u8], count: usize) -> usize
+    requires few { count ≤ 16 }
+    requires there { count ≤ length bytes.now }
+    requires fits { place + 16 ≤ length room.old }
+    ensures { Stored room.old room.new place (take count bytes.now) result }
+{
+    // A block for all short stretches, empty ones too, needs no guess of how long the next is.
+    if bytes.len() >= 16 {
+        store_block::<16>(room, place, bytes);
+        return place + count;
+    }
+    if count == 0 {
+        return place;
+    }
+    store(room, place, &bytes[..count])
+}
+
+// The text with its padding, by one store.
+#[inline(always)]
+fn store_padded(room: &mut [u8], place: usize, text: SmallText) -> usize
+    requires { place + 8 ≤ length room.old }
+    ensures { Stored room.old room.new place (small_text_bytes text) result }
+{
+    store_block::<8>(room, place, &text.block());
+    place + text.len()
 }
 
 // As many bytes as a block has, or up to twice as many: the last ones overlap the first.
