@@ -1,4 +1,3 @@
-pub mod Blocks
 pub mod HandsOn
 pub mod Progress
 pub mod Seam

@@ -1,8 +1,13 @@
 -- Stores of a constant length, of which less is wanted.
-use Rattle.std.proofs.Common.{◌≡◌, ℕ, ◌+◌, ◌-◌, ◌≤◌, List, ◌++◌, ◌∙◌, ap, sym, length, take, drop, arith, length-append, length-take-le, take-take}
+use Rattle.std.proofs.Common.{◌≡◌, ℕ, ◌+◌, ◌-◌, ◌≤◌, List, ◌++◌, ◌∙◌, ap, sym, length, take, drop, arith, length-append, length-take, length-take-le, take-take, take_all}
 use Rattle.std.proofs.lemmas.List.{append_assoc, length-drop, take-append-drop, take-append-le, take_rest}
-use Rattle.hesc_engine.proofs.Blocks.{cut_after}
+use Rattle.std.proofs.Math.Seq.{take-append-add}
 use Rattle.hesc_engine.specs.Stores.{Stored}
+
+-- more than is wanted after some bytes, cut off again
+pub cut_after : (old bytes long short : List ℕ) (count block len : ℕ) → len ≡ length old → count ≤ block → long ≡ old ++ take block bytes → short ≡ take (len + count) long → short ≡ old ++ take count bytes
+cut_after old bytes long short count block len is_len few is_long is_short =
+    rw (is_short, is_long, is_len) (take-append-add old (take block bytes) count ∙ ap (λ (more : List ℕ). old ++ more) (take-take count block bytes few))
 
 -- the first bytes of a block
 pub stored_first : (old new bytes : List ℕ) (place block count end : ℕ) → count ≤ block → block ≤ length bytes → place ≤ length old
@@ -54,5 +59,18 @@ taken_after old new before taken bytes all tail place end len stored within long
     ∙ take-append-le end new tail (omega (arith, stored.after, stored.long, within))
     ∙ stored.before
     ∙ ap (λ (l : List ℕ). l ++ bytes) held
+    ∙ append_assoc before taken bytes
+    ∙ ap (λ (l : List ℕ). before ++ l) (sym is)
+
+-- no more bytes than the vector has, which are no more than the limit
+pub filled_after : (n limit : ℕ) (bytes : List ℕ) → n ≤ limit → length (take n bytes) ≤ limit
+filled_after n limit bytes within = omega (arith, within, length-take n bytes)
+
+-- bytes that were appended after a place
+pub appended_after : (old mid new before taken bytes all : List ℕ) (end : ℕ) → end ≤ length old → mid ≡ take end old → new ≡ mid ++ bytes → take end old ≡ before ++ taken → all ≡ taken ++ bytes → take (end + length bytes) new ≡ before ++ all
+appended_after old mid new before taken bytes all end within cut more held is =
+    ap (take (end + length bytes)) more
+    ∙ take_all (end + length bytes) (mid ++ bytes) (omega (arith, within, length-append mid bytes, ap length cut, length-take end old))
+    ∙ ap (λ (l : List ℕ). l ++ bytes) (cut ∙ held)
     ∙ append_assoc before taken bytes
     ∙ ap (λ (l : List ℕ). before ++ l) (sym is)

@@ -1,5 +1,5 @@
 -- What a sink took, how often it failed, where it writes to, and what stood there at first.
-use Rattle.std.specs.Prelude.{◌-◌, ℕ, List, String, Vec, length, take}
+use Rattle.std.specs.Prelude.{◌-◌, ℕ, List, String, Vec, length}
 use Rattle.std.specs.Borrow.{MutBor}
 use Rattle.hesc_engine.specs.declared.sinks.counter.Counter.{Counter}
 use Rattle.hesc_engine.specs.declared.sinks.filled.FilledSink.{FilledSink}
@@ -57,12 +57,15 @@ filled_sink_failures sink = sink.log.failures
 abbrev pub filled_sink_output : {A : Type 0} → FilledSink A → MutBor (Vec ℕ A)
 filled_sink_output sink = sink.output
 
--- what stands before the bytes that it writes over
-abbrev pub filled_sink_begin : {A : Type 0} → FilledSink A → List ℕ
-filled_sink_begin sink = take sink.begin sink.start.value.items
+abbrev pub filled_sink_start : {A : Type 0} → FilledSink A → List ℕ
+filled_sink_start sink = sink.start.value.items
 
+-- how many bytes it takes before its limit, and how many over what is filled
 abbrev pub filled_sink_room : {A : Type 0} → FilledSink A → ℕ
-filled_sink_room sink = length sink.output.now.items - sink.end
+filled_sink_room sink = sink.limit - sink.end
+
+abbrev pub filled_sink_left : {A : Type 0} → FilledSink A → ℕ
+filled_sink_left sink = length sink.output.now.items - sink.end
 
 abbrev pub writer_sink_taken : {W : Type 0} {writes : Ghosts W} → WriterSink W writes → List ℕ
 writer_sink_taken sink = sink.log.taken

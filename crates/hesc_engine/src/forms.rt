@@ -4,7 +4,7 @@
 //! A form that appends finds out what room is enough, reserves once, and then runs into room that
 //! is known to suffice, so a refusal leaves the output as it was.
 pub mod cow;
-pub mod kept;
+mod kept;
 pub mod made;
 pub mod measure;
 pub mod parts;

@@ -1,9 +1,7 @@
 //! The sinks: a count, an array on the stack, a string, a vector, a writer.
-mod blocks;
 pub mod counter;
 pub(crate) mod filled;
 pub mod log;
-pub(crate) mod room;
 pub mod stack;
 mod stores;
 pub mod string;

@@ -1,27 +1,20 @@
 //! A text made of parts, appended: room is found out and reserved once, and then the parts are put.
 //! Nothing else grows an output.
-ghost use Rattle.std.specs.Prelude.{◌≡◌, ◌≤◌, ◌<◌, ◌+◌, ◌^◌, ℕ, List, [], ◌++◌, if◌then◌else◌, length, take, vec_len, IfNone, IfOk, IfSome, IsOk, IsTrue, OnOk};
+ghost use Rattle.std.specs.Prelude.{◌≡◌, ◌≤◌, ◌<◌, ◌^◌, ℕ, List, [], ◌++◌, if◌then◌else◌, length, IfNone, IfOk, IfSome, IsOk, IsTrue, OnOk};
 ghost use Rattle.std.specs.Str.{IsUtf8};
 ghost use Rattle.std.specs.String.{string_bytes};
 ghost use Rattle.hesc_engine.specs.Forms.{Appended, string_room, vec_room};
 
-use crate::forms::kept::Kept;
+use crate::forms::kept::append_kept_to_vec;
 use crate::sink::Sink;
 use crate::sinks::counter::{CountOverflow, Counter};
 use crate::sinks::filled::FilledSink;
-use crate::sinks::room::RoomSink;
 use crate::sinks::stack::StackSink;
-use crate::sinks::vec::VecSink;
 use core::mem::replace_with;
 use std::alloc::{AllocError, Allocator};
 
 /// The most bytes that are made on the stack.
 const STACK: usize = 416;
-
-/// The most room that is filled with zeros first. More of it would be written to memory twice.
-const SHORT: usize = 64 << 10;
-
-static ZEROS: [u8; 1024] = [0; 1024];
 
 /// A text as the parts that are put into a sink, one after another.
 pub trait Parts {
@@ -65,12 +58,6 @@ pub trait Parts {
     /// Whether the text is so short that it is made on the stack first.
     #[inline(always)]
     fn is_short(&self) -> bool {
-        false
-    }
-
-    /// Whether the text is one part, which is copied as it is.
-    #[inline(always)]
-    fn is_one_part(&self) -> bool {
         false
     }
 }
@@ -148,12 +135,7 @@ fn append_by_stack<P: Parts, A: Allocator>(
     if parts.put_into(&mut short).is_err() {
         return None;
     }
-    Some(append_measured(
-        output,
-        &Kept {
-            text: short.as_str(),
-        },
-    ))
+    Some(append_kept_to_vec(output, short.as_str()))
 }
 
 // By one request for as much room as is found out first.
@@ -174,48 +156,10 @@ fn append_measured<P: Parts, A: Allocator>(
         return Ok(());
     }
     output.reserve(room)?;
-    if room <= SHORT && !parts.is_one_part() {
-        return put_over_zeros(output, parts, room);
-    }
-    let mut sink = VecSink::new(output);
+    let mut sink = FilledSink::new(output, room);
     let outcome = parts.put_into(&mut sink);
     let _output = sink.into_output();
     outcome
-}
-
-// Appends zeros and writes the parts over them: a store into a slice costs less than an append.
-#[inline(always)]
-fn put_over_zeros<P: Parts, A: Allocator>(
-    output: &mut Vec<u8, A>,
-    parts: &P,
-    room: usize,
-) -> Result<(), AllocError>
-    requires enough { length (P.text parts.now) ≤ room }
-    requires fits { room ≤ vec_room output.old }
-    ensures is_ok { IsOk result }
-    ensures items { output.new.items ≡ output.old.items ++ P.text parts.now }
-    ensures utf8 { IsUtf8 (P.text parts.now) }
-{
-    let start = output.len();
-    append_zeros(output, room)?;
-    let mut sink = FilledSink::new(output, start);
-    let outcome = parts.put_into(&mut sink);
-    let _output = sink.into_output();
-    outcome
-}
-
-fn append_zeros<A: Allocator>(output: &mut Vec<u8, A>, count: usize) -> Result<(), AllocError>
-    requires { count ≤ vec_room output.old }
-    ensures is_ok { IsOk result }
-    ensures items { take (vec_len output.old) output.new.items ≡ output.old.items }
-    ensures len { vec_len output.new ≡ vec_len output.old + count }
-{
-    let end = output.len() + count;
-    while output.len() < end {
-        let step = (end - output.len()).min(ZEROS.len());
-        output.extend_from_slice(&ZEROS[..step])?;
-    }
-    Ok(())
 }
 
 // Appends the text of the parts to the room that is there, or leaves the output as it was.
@@ -227,7 +171,7 @@ fn put_in_room<P: Parts, A: Allocator>(output: &mut Vec<u8, A>, parts: &P) -> bo
     ensures utf8 { IsTrue result → IsUtf8 (P.text parts.now) }
 {
     let start = output.len();
-    let mut sink = RoomSink::new(output);
+    let mut sink = FilledSink::new(output, output.capacity() - start);
     let is_put = parts.put_into(&mut sink).is_ok();
     let output = sink.into_output();
     if !is_put {

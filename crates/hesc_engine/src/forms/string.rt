@@ -6,9 +6,9 @@ ghost use Rattle.std.specs.String.{string_bytes};
 ghost use Rattle.hesc_engine.specs.Forms.{AnswersPart, Appended, StringAppended, string_room};
 
 use crate::ahead::Ahead;
-use crate::forms::kept::Kept;
+use crate::forms::kept::append_kept;
 use crate::forms::made::Made;
-use crate::forms::parts::append_parts;
+use crate::forms::parts::{Parts, append_parts};
 use crate::rule::Rule;
 use std::alloc::{AllocError, Allocator};
 
@@ -28,9 +28,19 @@ pub fn append_to_string<R: Rule, A: Allocator>(
     // Most texts stay as they are, and that is found out once.
     let mut ahead = Ahead::nothing(text);
     if rule.next_ahead(text, 0, &mut ahead).is_none() {
-        return append_parts(output, &Kept { text });
+        return append_kept(output, text);
     }
-    append_parts(output, &Made { rule, text, ahead })
+    append_made(output, &Made { rule, text, ahead })
+}
+
+// A call of its own, so that a text that stays costs little more than its scan and its copy.
+#[inline(never)]
+fn append_made<P: Parts, A: Allocator>(output: &mut String<A>, parts: &P) -> Result<(), AllocError>
+    ensures appended { Appended (string_bytes output.old) (string_bytes output.new)
+        (P.text parts.now) result }
+    ensures fits { length (P.text parts.now) ≤ string_room output.old → IsOk result }
+{
+    append_parts(output, parts)
 }
 
 /// Appends what `rule` makes of `text`, and answers the part that was added. On a refusal the

@@ -5,9 +5,9 @@ ghost use Rattle.std.specs.Str.{IsUtf8};
 ghost use Rattle.hesc_engine.specs.Forms.{AnswersPart, Appended, VecAppended, vec_room};
 
 use crate::ahead::Ahead;
-use crate::forms::kept::Kept;
+use crate::forms::kept::append_kept_to_vec;
 use crate::forms::made::Made;
-use crate::forms::parts::append_parts_to_vec;
+use crate::forms::parts::{Parts, append_parts_to_vec};
 use crate::rule::Rule;
 use std::alloc::{AllocError, Allocator};
 
@@ -28,9 +28,19 @@ pub fn append_to_vec<R: Rule, A: Allocator>(
     // Most texts stay as they are, and that is found out once.
     let mut ahead = Ahead::nothing(text);
     if rule.next_ahead(text, 0, &mut ahead).is_none() {
-        return append_parts_to_vec(output, &Kept { text });
+        return append_kept_to_vec(output, text);
     }
-    append_parts_to_vec(output, &Made { rule, text, ahead })
+    append_made(output, &Made { rule, text, ahead })
+}
+
+// A call of its own, so that a text that stays costs little more than its scan and its copy.
+#[inline(never)]
+fn append_made<P: Parts, A: Allocator>(output: &mut Vec<u8, A>, parts: &P) -> Result<(), AllocError>
+    ensures appended { Appended output.old.items output.new.items (P.text parts.now) result }
+    ensures fits { length (P.text parts.now) ≤ vec_room output.old → IsOk result }
+    ensures utf8 { OnOk result (IsUtf8 (P.text parts.now)) }
+{
+    append_parts_to_vec(output, parts)
 }
 
 /// Appends what `rule` makes of `text`, and answers the part that was added. On a refusal the

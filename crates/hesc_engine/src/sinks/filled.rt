@@ -1,6 +1,7 @@
-//! The sink that writes over the bytes of a vector.
+//! The sink that writes into the room of a vector.
 ghost use Rattle.std.specs.Prelude.{◌≡◌, ◌≤◌, ◌-◌, ◌++◌, Some, length, take};
 ghost use Rattle.std.specs.Str.{IsUtf8};
+ghost use Rattle.std.specs.Vec.{vec_capacity};
 
 use crate::found::Replacement;
 use crate::segment::Segment;
@@ -11,57 +12,67 @@ use crate::small_text::SmallText;
 use std::alloc::{AllocError, Allocator};
 use std::snapshot::Snapshot;
 
-/// Writes over the bytes of a vector from a place on, and fails where they do not suffice.
+static ZEROS: [u8; 1024] = [0; 1024];
+
+/// Appends to a vector up to a limit, and never grows it.
 ///
-/// A short text is a store or two. An append also writes the vector's length, and the next append has
-/// to wait for it.
+/// Short pieces are stored over zeros that were appended before, which is a store or two: an append
+/// also writes the vector's length, and the next append has to wait for it. What was not written over
+/// is cut off at the end.
 #[derive(Drop)]
 pub(crate) struct FilledSink<'a, A: Allocator> {
     output: &'a mut Vec<u8, A>,
     start: Snapshot<Vec<u8, A>>,
-    begin: usize,
+    // How far it has written, and how far it may.
     end: usize,
+    limit: usize,
     log: Log,
-    pub ghost within: { end ≤ length output.now.items },
-    pub ghost holds: { take end output.now.items ≡ take begin start.value.items ++ log.taken },
+    pub ghost written: { end ≤ length output.now.items },
+    pub ghost filled: { length output.now.items ≤ limit },
+    pub ghost room: { limit ≤ vec_capacity output.now },
+    pub ghost holds: { take end output.now.items ≡ start.value.items ++ log.taken },
     pub ghost utf8: { ∥ IsUtf8 log.taken ∥₁ },
 }
 
 impl<'a, A: Allocator> FilledSink<'a, A> {
-    ghost use Rattle.std.specs.Prelude.{[], ◌+◌};
+    ghost use Rattle.std.specs.Prelude.{◌+◌, [], IsOk, IsTrue, OnErr, OnOk};
+    ghost use Rattle.hesc_specs.specs.Text.Beginning.{TookBeginning};
+    ghost use Rattle.hesc_engine.specs.Forms.{vec_room};
     ghost use Rattle.hesc_engine.specs.Sinks.{
-      filled_sink_begin,
       filled_sink_failures,
+      filled_sink_left,
       filled_sink_output,
       filled_sink_room,
+      filled_sink_start,
       filled_sink_taken,
     };
     ghost use Rattle.hesc_engine.specs.Text.{small_text_bytes};
 
-    /// A sink over the bytes from a place on.
+    /// A sink after the bytes of the output, for so many bytes at most.
     #[inline(always)]
-    pub(crate) fn new(output: &'a mut Vec<u8, A>, begin: usize) -> FilledSink<'a, A>
-        requires { begin ≤ length output.old.items }
+    pub(crate) fn new(output: &'a mut Vec<u8, A>, room: usize) -> FilledSink<'a, A>
+        requires { room ≤ vec_room output.old }
         ensures same_reference { (filled_sink_output result).ghost_name ≡ output.entry.ghost_name }
-        ensures begin { filled_sink_begin result ≡ take begin output.old.items }
-        ensures room { filled_sink_room result ≡ length output.old.items - begin }
+        ensures start { filled_sink_start result ≡ output.old.items }
+        ensures room { filled_sink_room result ≡ room }
         ensures nothing { filled_sink_taken result ≡ [] }
     {
         let start = Snapshot::of(&*output);
+        let end = output.len();
         FilledSink {
             output,
             start,
-            begin,
-            end: begin,
+            end,
+            limit: end + room,
             log: Log::new(),
         }
     }
 
-    /// The vector without the bytes that were not written over.
+    /// The vector without the zeros that were not written over.
     #[inline(always)]
     pub(crate) fn into_output(self) -> &'a mut Vec<u8, A>
         ensures same_reference { result.ghost_name ≡ (filled_sink_output self.entry).ghost_name }
-        ensures items { result.now.items ≡ filled_sink_begin self.entry ++ filled_sink_taken self.entry }
+        ensures items { result.now.items ≡ filled_sink_start self.entry ++ filled_sink_taken self.entry }
         ensures utf8 { IsUtf8 (filled_sink_taken self.entry) }
     {
         let output = self.output;
@@ -69,18 +80,36 @@ impl<'a, A: Allocator> FilledSink<'a, A> {
         output
     }
 
+    // How many zeros there are to write over.
     #[inline(always)]
-    fn room(&self) -> usize
-        ensures { result ≡ filled_sink_room self.now }
+    fn left(&self) -> usize
+        ensures { result ≡ filled_sink_left self.now }
     {
         self.output.len() - self.end
     }
 
-    // A short stretch and a short text, where a block of each fits.
+    // Whether a stretch of so many bytes and a short text fit over zeros, more of which are appended
+    // where too few are left.
+    #[inline(never)]
+    fn fill(&mut self, count: usize) -> bool
+        ensures fits { IsTrue result → count + 24 ≤ filled_sink_left self.new }
+        ensures taken { filled_sink_taken self.new ≡ filled_sink_taken self.old }
+        ensures failures { filled_sink_failures self.new ≡ filled_sink_failures self.old }
+        ensures room { filled_sink_room self.new ≡ filled_sink_room self.old }
+        ensures same_reference { (filled_sink_output self.new).ghost_name
+            ≡ (filled_sink_output self.old).ghost_name }
+        ensures same_start { filled_sink_start self.new ≡ filled_sink_start self.old }
+    {
+        let step = (self.limit - self.output.len()).min(ZEROS.len());
+        let _appended = self.output.extend_from_slice(&ZEROS[..step]);
+        let left = self.left();
+        left >= 24 && count <= left - 24
+    }
+
+    // A stretch and a short text, where there are zeros for both.
     #[inline(always)]
     fn put_both(&mut self, segment: Segment<'_>, text: SmallText)
-        requires few { length segment.kept.now ≤ 16 }
-        requires fits { 24 ≤ filled_sink_room self.old }
+        requires { length segment.kept.now + 24 ≤ filled_sink_left self.old }
         ensures taken { filled_sink_taken self.new
             ≡ filled_sink_taken self.old ++ (segment.entry.kept.now ++ small_text_bytes text) }
         ensures failures { filled_sink_failures self.new ≡ filled_sink_failures self.old }
@@ -88,7 +117,7 @@ impl<'a, A: Allocator> FilledSink<'a, A> {
             + (length segment.entry.kept.now + length (small_text_bytes text)) }
         ensures same_reference { (filled_sink_output self.new).ghost_name
             ≡ (filled_sink_output self.old).ghost_name }
-        ensures same_begin { filled_sink_begin self.new ≡ filled_sink_begin self.old }
+        ensures same_start { filled_sink_start self.new ≡ filled_sink_start self.old }
     {
         let kept = segment.kept.as_bytes();
         self.end = store_both(
@@ -101,14 +130,75 @@ impl<'a, A: Allocator> FilledSink<'a, A> {
         let log = self.log.after_taking(kept);
         self.log = log.after_taking(text.as_str().as_bytes());
     }
+
+    // The same, where there may be too few zeros.
+    #[inline(never)]
+    fn fill_and_put(&mut self, segment: Segment<'_>, text: SmallText) -> Result<(), AllocError>
+        ensures ok_taken { OnOk result
+            (filled_sink_taken self.new ≡ filled_sink_taken self.old ++ (segment.entry.kept.now ++ small_text_bytes text)) }
+        ensures ok_failures { OnOk result
+            (filled_sink_failures self.new ≡ filled_sink_failures self.old) }
+        ensures err_taken { OnErr result (TookBeginning (filled_sink_taken self.old)
+            (filled_sink_taken self.new) (segment.entry.kept.now ++ small_text_bytes text)) }
+        ensures err_failures { OnErr result
+            (filled_sink_failures self.new ≡ filled_sink_failures self.old + 1) }
+        ensures fits { length (segment.entry.kept.now ++ small_text_bytes text) ≤ filled_sink_room self.old → IsOk result }
+        ensures room { OnOk result (filled_sink_room self.old
+            ≤ filled_sink_room self.new + length (segment.entry.kept.now ++ small_text_bytes text)) }
+        ensures same_reference { (filled_sink_output self.new).ghost_name
+            ≡ (filled_sink_output self.old).ghost_name }
+        ensures same_start { filled_sink_start self.new ≡ filled_sink_start self.old }
+    {
+        if self.fill(segment.kept.len()) {
+            self.put_both(segment, text);
+            return Ok(());
+        }
+        self.put_some(segment.kept)?;
+        self.put_some(text.as_str())
+    }
+
+    // A piece that there are too few zeros for.
+    #[inline(never)]
+    fn append(&mut self, piece: &str) -> Result<(), AllocError>
+        ensures ok_taken { OnOk result
+            (filled_sink_taken self.new ≡ filled_sink_taken self.old ++ piece.now) }
+        ensures ok_failures { OnOk result
+            (filled_sink_failures self.new ≡ filled_sink_failures self.old) }
+        ensures err_taken { OnErr result (filled_sink_taken self.new ≡ filled_sink_taken self.old) }
+        ensures err_failures { OnErr result
+            (filled_sink_failures self.new ≡ filled_sink_failures self.old + 1) }
+        ensures fits { length piece.now ≤ filled_sink_room self.old → IsOk result }
+        ensures room { OnOk result (filled_sink_room self.old
+            ≤ filled_sink_room self.new + length piece.now) }
+        ensures same_reference { (filled_sink_output self.new).ghost_name
+            ≡ (filled_sink_output self.old).ghost_name }
+        ensures same_start { filled_sink_start self.new ≡ filled_sink_start self.old }
+    {
+        if piece.len() > self.limit - self.end {
+            self.log = self.log.after_failing();
+            return Err(AllocError);
+        }
+        self.output.truncate(self.end);
+        match self.output.extend_from_slice(piece.as_bytes()) {
+            Ok(()) => {
+                self.end += piece.len();
+                self.log = self.log.after_taking(piece.as_bytes());
+                Ok(())
+            }
+            Err(fault) => {
+                self.log = self.log.after_failing();
+                Err(fault)
+            }
+        }
+    }
 }
 
 impl<A: Allocator> Sink for FilledSink<'_, A> {
     ghost use Rattle.hesc_engine.specs.Sinks.{
-      filled_sink_begin,
       filled_sink_failures,
       filled_sink_output,
       filled_sink_room,
+      filled_sink_start,
       filled_sink_taken,
     };
 
@@ -122,13 +212,12 @@ impl<A: Allocator> Sink for FilledSink<'_, A> {
 
     ghost reference = { λ sink. (filled_sink_output sink).ghost_name };
 
-    ghost before = { λ sink. Some (filled_sink_begin sink) };
+    ghost before = { λ sink. Some (filled_sink_start sink) };
 
     #[inline(always)]
     fn put(&mut self, piece: &str) -> Result<(), AllocError> {
-        if piece.len() > self.room() {
-            self.log = self.log.after_failing();
-            return Err(AllocError);
+        if piece.len() > self.left() {
+            return self.append(piece);
         }
         self.end = store(self.output.as_mut_slice(), self.end, piece.as_bytes());
         self.log = self.log.after_taking(piece.as_bytes());
@@ -138,16 +227,19 @@ impl<A: Allocator> Sink for FilledSink<'_, A> {
     // Most stretches and replacements are short.
     #[inline(always)]
     fn put_segment(&mut self, segment: Segment<'_>) -> Result<(), AllocError> {
-        if let Replacement::Small(text) = segment.new {
-            if segment.kept.len() <= 16 && self.room() >= 24 {
-                self.put_both(segment, text);
-                return Ok(());
-            }
-        }
-        self.put_some(segment.kept)?;
         match segment.new {
-            Replacement::Borrowed(text) => self.put_some(text),
-            Replacement::Small(text) => self.put_some(text.as_str()),
+            Replacement::Small(text) => {
+                let left = self.left();
+                if left < 24 || segment.kept.len() > left - 24 {
+                    return self.fill_and_put(segment, text);
+                }
+                self.put_both(segment, text);
+                Ok(())
+            }
+            Replacement::Borrowed(text) => {
+                self.put_some(segment.kept)?;
+                self.put_some(text)
+            }
         }
     }
 }

@@ -2,12 +2,8 @@
 ghost use Rattle.std.specs.Prelude.{◌≡◌, [], ◌++◌, Some};
 ghost use Rattle.std.specs.Str.{IsUtf8};
 
-use crate::found::Replacement;
-use crate::segment::Segment;
 use crate::sink::Sink;
-use crate::sinks::blocks::{append_first, append_small};
 use crate::sinks::log::Log;
-use crate::small_text::SmallText;
 use std::alloc::{AllocError, Allocator};
 use std::snapshot::Snapshot;
 
@@ -61,70 +57,6 @@ impl<'a, A: Allocator> VecSink<'a, A> {
     {
         self.output
     }
-
-    /// How many more bytes the output takes without growing.
-    #[inline(always)]
-    pub(crate) fn room(&self) -> usize
-        ensures { result ≡ vec_room (vec_sink_output self.now).now }
-    {
-        self.output.capacity() - self.output.len()
-    }
-
-    #[inline(always)]
-    fn put_stretch(&mut self, segment: Segment<'_>) -> Result<(), AllocError>
-        ensures ok_taken { OnOk result
-            (vec_sink_taken self.new ≡ vec_sink_taken self.old ++ segment.entry.kept.now) }
-        ensures ok_failures { OnOk result
-            (vec_sink_failures self.new ≡ vec_sink_failures self.old) }
-        ensures err_taken { OnErr result (vec_sink_taken self.new ≡ vec_sink_taken self.old) }
-        ensures err_failures { OnErr result
-            (vec_sink_failures self.new ≡ vec_sink_failures self.old + 1) }
-        ensures fits { length segment.entry.kept.now ≤ vec_room (vec_sink_output self.old).now → IsOk result }
-        ensures room { OnOk result (vec_room (vec_sink_output self.old).now
-            ≤ vec_room (vec_sink_output self.new).now + length segment.entry.kept.now) }
-        ensures same_reference { (vec_sink_output self.new).ghost_name
-            ≡ (vec_sink_output self.old).ghost_name }
-        ensures same_start { vec_sink_start self.new ≡ vec_sink_start self.old }
-    {
-        match append_first(self.output, segment.rest, segment.kept.len()) {
-            Ok(()) => {
-                self.log = self.log.after_taking(segment.kept.as_bytes());
-                Ok(())
-            }
-            Err(fault) => {
-                self.log = self.log.after_failing();
-                Err(fault)
-            }
-        }
-    }
-
-    #[inline(always)]
-    fn put_small(&mut self, text: SmallText) -> Result<(), AllocError>
-        ensures ok_taken { OnOk result
-            (vec_sink_taken self.new ≡ vec_sink_taken self.old ++ small_text_bytes text) }
-        ensures ok_failures { OnOk result
-            (vec_sink_failures self.new ≡ vec_sink_failures self.old) }
-        ensures err_taken { OnErr result (vec_sink_taken self.new ≡ vec_sink_taken self.old) }
-        ensures err_failures { OnErr result
-            (vec_sink_failures self.new ≡ vec_sink_failures self.old + 1) }
-        ensures fits { length (small_text_bytes text) ≤ vec_room (vec_sink_output self.old).now → IsOk result }
-        ensures room { OnOk result (vec_room (vec_sink_output self.old).now
-            ≤ vec_room (vec_sink_output self.new).now + length (small_text_bytes text)) }
-        ensures same_reference { (vec_sink_output self.new).ghost_name
-            ≡ (vec_sink_output self.old).ghost_name }
-        ensures same_start { vec_sink_start self.new ≡ vec_sink_start self.old }
-    {
-        match append_small(self.output, text) {
-            Ok(()) => {
-                self.log = self.log.after_taking(text.as_str().as_bytes());
-                Ok(())
-            }
-            Err(fault) => {
-                self.log = self.log.after_failing();
-                Err(fault)
-            }
-        }
-    }
 }
 
 impl<A: Allocator> Sink for VecSink<'_, A> {
@@ -159,16 +91,6 @@ impl<A: Allocator> Sink for VecSink<'_, A> {
                 self.log = self.log.after_failing();
                 Err(fault)
             }
-        }
-    }
-
-    // Most stretches and replacements are short.
-    #[inline(always)]
-    fn put_segment(&mut self, segment: Segment<'_>) -> Result<(), AllocError> {
-        self.put_stretch(segment)?;
-        match segment.new {
-            Replacement::Borrowed(text) => self.put_some(text),
-            Replacement::Small(text) => self.put_small(text),
         }
     }
 }
