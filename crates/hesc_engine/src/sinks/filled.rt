@@ -35,7 +35,7 @@ pub(crate) struct FilledSink<'a, A: Allocator> {
 }
 
 impl<'a, A: Allocator> FilledSink<'a, A> {
-    ghost use Rattle.std.specs.Prelude.{◌+◌, [], IsOk, IsTrue, OnErr, OnOk};
+    ghost use Rattle.std.specs.Prelude.{◌+◌, [], IsOk, OnErr, OnOk};
     ghost use Rattle.hesc_specs.specs.Text.Beginning.{TookBeginning};
     ghost use Rattle.hesc_engine.specs.Forms.{vec_room};
     ghost use Rattle.hesc_engine.specs.Sinks.{
@@ -88,11 +88,9 @@ impl<'a, A: Allocator> FilledSink<'a, A> {
         self.output.len() - self.end
     }
 
-    // Whether a stretch of so many bytes and a short text fit over zeros, more of which are appended
-    // where too few are left.
-    #[inline(never)]
-    fn fill(&mut self, count: usize) -> bool
-        ensures fits { IsTrue result → count + 24 ≤ filled_sink_left self.new }
+    // Appends more zeros.
+    #[inline(always)]
+    fn fill(&mut self)
         ensures taken { filled_sink_taken self.new ≡ filled_sink_taken self.old }
         ensures failures { filled_sink_failures self.new ≡ filled_sink_failures self.old }
         ensures room { filled_sink_room self.new ≡ filled_sink_room self.old }
@@ -102,14 +100,13 @@ impl<'a, A: Allocator> FilledSink<'a, A> {
     {
         let step = (self.limit - self.output.len()).min(ZEROS.len());
         let _appended = self.output.extend_from_slice(&ZEROS[..step]);
-        let left = self.left();
-        left >= 24 && count <= left - 24
     }
 
-    // A stretch and a short text, where there are zeros for both.
+    // A short stretch and a short text, where there are zeros for a block of each.
     #[inline(always)]
     fn put_both(&mut self, segment: Segment<'_>, text: SmallText)
-        requires { length segment.kept.now + 24 ≤ filled_sink_left self.old }
+        requires few { length segment.kept.now ≤ 16 }
+        requires fits { 24 ≤ filled_sink_left self.old }
         ensures taken { filled_sink_taken self.new
             ≡ filled_sink_taken self.old ++ (segment.entry.kept.now ++ small_text_bytes text) }
         ensures failures { filled_sink_failures self.new ≡ filled_sink_failures self.old }
@@ -131,7 +128,7 @@ impl<'a, A: Allocator> FilledSink<'a, A> {
         self.log = log.after_taking(text.as_str().as_bytes());
     }
 
-    // The same, where there may be too few zeros.
+    // A stretch and a short text, where there are too few zeros.
     #[inline(never)]
     fn fill_and_put(&mut self, segment: Segment<'_>, text: SmallText) -> Result<(), AllocError>
         ensures ok_taken { OnOk result
@@ -149,7 +146,8 @@ impl<'a, A: Allocator> FilledSink<'a, A> {
             ≡ (filled_sink_output self.old).ghost_name }
         ensures same_start { filled_sink_start self.new ≡ filled_sink_start self.old }
     {
-        if self.fill(segment.kept.len()) {
+        self.fill();
+        if segment.kept.len() <= 16 && self.left() >= 24 {
             self.put_both(segment, text);
             return Ok(());
         }
@@ -229,12 +227,15 @@ impl<A: Allocator> Sink for FilledSink<'_, A> {
     fn put_segment(&mut self, segment: Segment<'_>) -> Result<(), AllocError> {
         match segment.new {
             Replacement::Small(text) => {
-                let left = self.left();
-                if left < 24 || segment.kept.len() > left - 24 {
+                if self.left() < 24 {
                     return self.fill_and_put(segment, text);
                 }
-                self.put_both(segment, text);
-                Ok(())
+                if segment.kept.len() <= 16 {
+                    self.put_both(segment, text);
+                    return Ok(());
+                }
+                self.put_some(segment.kept)?;
+                self.put_some(text.as_str())
             }
             Replacement::Borrowed(text) => {
                 self.put_some(segment.kept)?;

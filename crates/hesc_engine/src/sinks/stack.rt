@@ -69,10 +69,11 @@ impl<const N: usize> StackSink<N> {
         N - self.end
     }
 
-    // A stretch and a short text, where there is room for blocks.
+    // A short stretch and a short text, where a block of each fits.
     #[inline(always)]
     fn put_both(&mut self, segment: Segment<'_>, text: SmallText)
-        requires { length segment.kept.now + 24 ≤ stack_sink_room self.old }
+        requires few { length segment.kept.now ≤ 16 }
+        requires fits { 24 ≤ stack_sink_room self.old }
         ensures taken { stack_sink_taken self.new
             ≡ stack_sink_taken self.old ++ (segment.entry.kept.now ++ small_text_bytes text) }
         ensures failures { stack_sink_failures self.new ≡ stack_sink_failures self.old }
@@ -121,8 +122,7 @@ impl<const N: usize> Sink for StackSink<N> {
     #[inline(always)]
     fn put_segment(&mut self, segment: Segment<'_>) -> Result<(), StackFull> {
         if let Replacement::Small(text) = segment.new {
-            let room = self.room();
-            if room >= 24 && segment.kept.len() <= room - 24 {
+            if segment.kept.len() <= 16 && self.room() >= 24 {
                 self.put_both(segment, text);
                 return Ok(());
             }

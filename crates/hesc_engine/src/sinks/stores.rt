@@ -6,8 +6,8 @@ ghost use Rattle.hesc_engine.specs.Text.{small_text_bytes};
 use crate::small_text::SmallText;
 use std::simd::Simd;
 
-/// Stores the first `count` of the bytes, and after them the text, at a place where there is room for
-/// blocks, and answers the place after both. What stands there afterwards is lost.
+/// Stores the first `count` of the bytes, and after them the text, at a place where a block of each
+/// fits, and answers the place after both. What stands there afterwards is lost.
 #[inline(always)]
 pub(crate) fn store_both(
     room: &mut [u8],
@@ -16,11 +16,12 @@ pub(crate) fn store_both(
     count: usize,
     text: SmallText,
 ) -> usize
+    requires few { count ≤ 16 }
     requires there { count ≤ length bytes.now }
-    requires fits { place + (count + 24) ≤ length room.old }
+    requires fits { place + 24 ≤ length room.old }
     ensures { Stored room.old room.new place (take count bytes.now ++ small_text_bytes text) result }
 {
-    let middle = store_first(room, place, bytes, count);
+    let middle = store_short(room, place, bytes, count);
     store_padded(room, middle, text)
 }
 
@@ -50,15 +51,16 @@ pub(crate) fn store(room: &mut [u8], place: usize, bytes: &[u8]) -> usize
     }
 }
 
-// The first `count` of the bytes, at a place where there is room for a block.
+// At most 16 of the bytes, at a place where 16 fit.
 #[inline(always)]
-fn store_first(room: &mut [u8], place: usize, bytes: &[u8], count: usize) -> usize
+fn store_short(room: &mut [u8], place: usize, bytes: &[u8], count: usize) -> usize
+    requires few { count ≤ 16 }
     requires there { count ≤ length bytes.now }
-    requires fits { place + (count + 16) ≤ length room.old }
+    requires fits { place + 16 ≤ length room.old }
     ensures { Stored room.old room.new place (take count bytes.now) result }
 {
     // A block for all short stretches, empty ones too, needs no guess of how long the next is.
-    if count <= 16 && bytes.len() >= 16 {
+    if bytes.len() >= 16 {
         store_block::<16>(room, place, bytes);
         return place + count;
     }

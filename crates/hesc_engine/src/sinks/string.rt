@@ -2,6 +2,7 @@
 ghost use Rattle.std.specs.Prelude.{◌≡◌, [], ◌++◌, Some};
 ghost use Rattle.std.specs.String.{string_bytes};
 
+use crate::segment::Segment;
 use crate::sink::Sink;
 use crate::sinks::log::Log;
 use std::alloc::{AllocError, Allocator};
@@ -82,5 +83,12 @@ impl<A: Allocator> Sink for StringSink<'_, A> {
                 Err(fault)
             }
         }
+    }
+
+    // As by default, and inlined.
+    #[inline(always)]
+    fn put_segment(&mut self, segment: Segment<'_>) -> Result<(), AllocError> {
+        self.put_some(segment.kept)?;
+        self.put_some(segment.new.as_str())
     }
 }

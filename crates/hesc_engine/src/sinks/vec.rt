@@ -2,6 +2,7 @@
 ghost use Rattle.std.specs.Prelude.{◌≡◌, [], ◌++◌, Some};
 ghost use Rattle.std.specs.Str.{IsUtf8};
 
+use crate::segment::Segment;
 use crate::sink::Sink;
 use crate::sinks::log::Log;
 use std::alloc::{AllocError, Allocator};
@@ -92,5 +93,12 @@ impl<A: Allocator> Sink for VecSink<'_, A> {
                 Err(fault)
             }
         }
+    }
+
+    // As by default, and inlined.
+    #[inline(always)]
+    fn put_segment(&mut self, segment: Segment<'_>) -> Result<(), AllocError> {
+        self.put_some(segment.kept)?;
+        self.put_some(segment.new.as_str())
     }
 }

@@ -1,6 +1,6 @@
 use Rattle.std.proofs.Common.{arith}
 use Rattle.hesc_engine.proofs.Stores.{stored_first}
-use Rattle.hesc_engine.proofs.sinks.stores.store_first.Goals as goal
+use Rattle.hesc_engine.proofs.sinks.stores.store_short.Goals as goal
 
 pub returns-then-bytes-ge16 : goal.returns-then-bytes-ge16
 returns-then-bytes-ge16 c =
