@@ -3,7 +3,7 @@ use std::alloc::{AllocError, Global};
 
 /// A part, and about how long a text of such parts is. One part is changed by no operation, and the
 /// others by some much, for the length of the answer or for the bound of it that is reserved.
-pub const TEXTS: [(&str, usize); 12] = [
+pub static TEXTS: [(&str, usize); 12] = [
     ("a", 10),
     ("a", 1000),
     ("a", 65_536),

@@ -20,7 +20,7 @@ pub const MILLION: usize = 1_000_000;
 pub const MANY: usize = 131_072;
 
 /// Texts at which a search that begins anew for each part never comes to its end.
-pub const TRAPS: [Long; 9] = [
+pub static TRAPS: [Long; 9] = [
     ("", "&", MILLION, ""),
     ("", "<", MILLION, ""),
     ("", "\\", MILLION, ""),

@@ -4,7 +4,7 @@ ghost use Rattle.std.specs.Prelude.{◌≡◌, ◌<◌, get_or};
 use html_escape::{Decoder, Encoder, Operation};
 
 /// Every operation, the encoders first.
-pub const OPERATIONS: [Operation; 24] = [
+pub static OPERATIONS: [Operation; 24] = [
     Operation::Encode(Encoder::TextMinimal),
     Operation::Encode(Encoder::Text),
     Operation::Encode(Encoder::DoubleQuotedAttribute),

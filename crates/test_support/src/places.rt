@@ -3,7 +3,7 @@ use hesc_places::{End, Place};
 use std::alloc::{AllocError, Global};
 
 /// Every place, the unquoted value with each of its five ends.
-pub const PLACES: [Place; 14] = [
+pub static PLACES: [Place; 14] = [
     Place::Text,
     Place::DoubleAttribute,
     Place::SingleAttribute,

@@ -2,7 +2,7 @@
 use crate::rows::Held::{Borrowed, Owned};
 use crate::rows::Row;
 
-pub const ENCODED_SCRIPTS: [Row; 37] = [
+pub static ENCODED_SCRIPTS: [Row; 37] = [
     ("s", "s", Borrowed),
     ("</scripts", "</scripts", Borrowed),
     ("", "", Borrowed),
@@ -42,7 +42,7 @@ pub const ENCODED_SCRIPTS: [Row; 37] = [
     ("</style\u{b}", "</style\u{b}", Borrowed),
 ];
 
-pub const ENCODED_STYLES: [Row; 39] = [
+pub static ENCODED_STYLES: [Row; 39] = [
     ("s", "s", Borrowed),
     ("</styles", "</styles", Borrowed),
     ("", "", Borrowed),
@@ -84,7 +84,7 @@ pub const ENCODED_STYLES: [Row; 39] = [
     ("</script<", "</script<", Borrowed),
 ];
 
-pub const DECODED_SCRIPTS: [Row; 36] = [
+pub static DECODED_SCRIPTS: [Row; 36] = [
     ("", "", Borrowed),
     ("<", "<", Borrowed),
     ("<<", "<<", Borrowed),
@@ -127,7 +127,7 @@ pub const DECODED_SCRIPTS: [Row; 36] = [
     ("</style\u{b}", "</style\u{b}", Borrowed),
 ];
 
-pub const DECODED_STYLES: [Row; 37] = [
+pub static DECODED_STYLES: [Row; 37] = [
     ("", "", Borrowed),
     ("<", "<", Borrowed),
     ("<<", "<<", Borrowed),

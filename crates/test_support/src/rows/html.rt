@@ -2,7 +2,7 @@
 use crate::rows::Held::{Borrowed, Owned};
 use crate::rows::Row;
 
-pub const TEXT_MINIMAL: [Row; 18] = [
+pub static TEXT_MINIMAL: [Row; 18] = [
     ("", "", Borrowed),
     (">a>", ">a>", Borrowed),
     ("\u{0}é\u{0}", "\u{0}é\u{0}", Borrowed),
@@ -23,7 +23,7 @@ pub const TEXT_MINIMAL: [Row; 18] = [
     ("</style\u{b}", "&lt;/style\u{b}", Owned),
 ];
 
-pub const TEXT: [Row; 22] = [
+pub static TEXT: [Row; 22] = [
     ("", "", Borrowed),
     ("\"a\"", "\"a\"", Borrowed),
     (";/ ;' ", ";/ ;' ", Borrowed),
@@ -48,7 +48,7 @@ pub const TEXT: [Row; 22] = [
     ("</style\u{b}", "&lt;/style\u{b}", Owned),
 ];
 
-pub const DOUBLE_QUOTED_ATTRIBUTE: [Row; 18] = [
+pub static DOUBLE_QUOTED_ATTRIBUTE: [Row; 18] = [
     ("", "", Borrowed),
     ("'a'", "'a'", Borrowed),
     ("/", "/", Borrowed),
@@ -73,7 +73,7 @@ pub const DOUBLE_QUOTED_ATTRIBUTE: [Row; 18] = [
     ("</style\u{b}", "&lt;/style\u{b}", Owned),
 ];
 
-pub const SINGLE_QUOTED_ATTRIBUTE: [Row; 18] = [
+pub static SINGLE_QUOTED_ATTRIBUTE: [Row; 18] = [
     ("", "", Borrowed),
     ("\"a\"", "\"a\"", Borrowed),
     ("/a/", "/a/", Borrowed),
@@ -98,7 +98,7 @@ pub const SINGLE_QUOTED_ATTRIBUTE: [Row; 18] = [
     ("</style\u{b}", "&lt;/style\u{b}", Owned),
 ];
 
-pub const QUOTED_ATTRIBUTE: [Row; 18] = [
+pub static QUOTED_ATTRIBUTE: [Row; 18] = [
     ("", "", Borrowed),
     ("/a/", "/a/", Borrowed),
     ("\u{0}/", "\u{0}/", Borrowed),
@@ -123,7 +123,7 @@ pub const QUOTED_ATTRIBUTE: [Row; 18] = [
     ("</style\u{b}", "&lt;/style\u{b}", Owned),
 ];
 
-pub const SAFE: [Row; 18] = [
+pub static SAFE: [Row; 18] = [
     ("", "", Borrowed),
     ("aaaaaxaaaaa!", "aaaaaxaaaaa!", Borrowed),
     (
@@ -152,7 +152,7 @@ pub const SAFE: [Row; 18] = [
     ("</style\u{b}", "&lt;&#x2F;style\u{b}", Owned),
 ];
 
-pub const UNQUOTED_ATTRIBUTE: [Row; 26] = [
+pub static UNQUOTED_ATTRIBUTE: [Row; 26] = [
     ("", "", Borrowed),
     ("plain", "plain", Borrowed),
     ("é", "é", Borrowed),

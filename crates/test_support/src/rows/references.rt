@@ -2,7 +2,7 @@
 use crate::rows::Held::{Borrowed, Owned};
 use crate::rows::Row;
 
-pub const DECODED_REFERENCES: [Row; 56] = [
+pub static DECODED_REFERENCES: [Row; 56] = [
     ("", "", Borrowed),
     ("plain", "plain", Borrowed),
     ("&#+65;&#0;&&amp;", "&#+65;&#0;&&", Owned),
@@ -71,7 +71,7 @@ pub const DECODED_REFERENCES: [Row; 56] = [
 ];
 
 /// The same, by a table that has a row for `copy` too.
-pub const DECODED_BY_THE_FULLER_TABLE: [Row; 15] = [
+pub static DECODED_BY_THE_FULLER_TABLE: [Row; 15] = [
     ("", "", Borrowed),
     ("plain", "plain", Borrowed),
     ("&amp;lt;&AMP;&Amp;&copy;", "&lt;&&Amp;\u{a9}", Owned),

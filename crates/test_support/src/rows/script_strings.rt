@@ -2,7 +2,7 @@
 use crate::rows::Held::{Borrowed, Owned};
 use crate::rows::Row;
 
-pub const ENCODED_SINGLE: [Row; 26] = [
+pub static ENCODED_SINGLE: [Row; 26] = [
     ("C:\\temp\\file", "C:\\\\temp\\\\file", Owned),
     ("\\>&;\t>", "\\\\>&;\\x09>", Owned),
     ("\u{0}< ", "\\x00\\x3C ", Owned),
@@ -35,7 +35,7 @@ pub const ENCODED_SINGLE: [Row; 26] = [
     ("</style\u{b}", "\\x3C/style\\x0B", Owned),
 ];
 
-pub const ENCODED_DOUBLE: [Row; 25] = [
+pub static ENCODED_DOUBLE: [Row; 25] = [
     (" \u{b};\u{b};';0'", " \\x0B;\\x0B;';0'", Owned),
     ("##\u{b}\t\t<", "##\\x0B\\x09\\x09\\x3C", Owned),
     ("0&&x\u{2029}\\\u{b}&&", "0&&x\\u2029\\\\\\x0B&&", Owned),
@@ -67,7 +67,7 @@ pub const ENCODED_DOUBLE: [Row; 25] = [
     ("</style\u{b}", "\\x3C/style\\x0B", Owned),
 ];
 
-pub const ENCODED_BOTH: [Row; 37] = [
+pub static ENCODED_BOTH: [Row; 37] = [
     ("\u{2028}\u{2026}", "\\u2028\u{2026}", Owned),
     (";\\;//\"", ";\\\\;//\\\"", Owned),
     ("'a'", "\\'a\\'", Owned),
@@ -111,7 +111,7 @@ pub const ENCODED_BOTH: [Row; 37] = [
     ("</style\u{b}", "\\x3C/style\\x0B", Owned),
 ];
 
-pub const DECODED_SINGLE: [Row; 38] = [
+pub static DECODED_SINGLE: [Row; 38] = [
     ("C:\\\\temp\\\\file", "C:\\temp\\file", Owned),
     ("\\x0A", "\n", Owned),
     ("\\\\x0A", "\\x0A", Owned),
@@ -156,7 +156,7 @@ pub const DECODED_SINGLE: [Row; 38] = [
     ("\\x3C/style\\x0B", "</style\u{b}", Owned),
 ];
 
-pub const DECODED_DOUBLE: [Row; 34] = [
+pub static DECODED_DOUBLE: [Row; 34] = [
     ("\\\\", "\\", Owned),
     ("<\\", "<\\", Borrowed),
     ("", "", Borrowed),
@@ -205,7 +205,7 @@ pub const DECODED_DOUBLE: [Row; 34] = [
     ("\\x3C/style\\x0B", "</style\u{b}", Owned),
 ];
 
-pub const DECODED_BOTH: [Row; 85] = [
+pub static DECODED_BOTH: [Row; 85] = [
     ("\\x3C\\!--", "<\\!--", Owned),
     ("\\\\'", "\\'", Owned),
     ("\\\\", "\\", Owned),

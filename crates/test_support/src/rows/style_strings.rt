@@ -2,7 +2,7 @@
 use crate::rows::Held::{Borrowed, Owned};
 use crate::rows::Row;
 
-pub const ENCODED_SINGLE: [Row; 25] = [
+pub static ENCODED_SINGLE: [Row; 25] = [
     ("\u{b}#<s", "\\0B #\\3C s", Owned),
     (
         "\u{0}'\\é'\u{0}\u{b}&é\\&--\u{0}",
@@ -42,7 +42,7 @@ pub const ENCODED_SINGLE: [Row; 25] = [
     ("</style\u{b}", "\\3C /style\\0B ", Owned),
 ];
 
-pub const ENCODED_DOUBLE: [Row; 25] = [
+pub static ENCODED_DOUBLE: [Row; 25] = [
     ("0>\t/", "0>\\09 /", Owned),
     ("\t\\\u{0}", "\\09 \\\\\u{fffd}", Owned),
     ("; ", "; ", Borrowed),
@@ -70,7 +70,7 @@ pub const ENCODED_DOUBLE: [Row; 25] = [
     ("</style\u{b}", "\\3C /style\\0B ", Owned),
 ];
 
-pub const ENCODED_BOTH: [Row; 37] = [
+pub static ENCODED_BOTH: [Row; 37] = [
     ("< a", "\\3C  a", Owned),
     ("\u{1c}!;\u{1c}", "\\1C !;\\1C ", Owned),
     ("'s&é", "\\'s&é", Owned),
@@ -122,7 +122,7 @@ pub const ENCODED_BOTH: [Row; 37] = [
     ("</style\u{b}", "\\3C /style\\0B ", Owned),
 ];
 
-pub const DECODED_SINGLE: [Row; 34] = [
+pub static DECODED_SINGLE: [Row; 34] = [
     ("\\\\", "\\", Owned),
     ("", "", Borrowed),
     (
@@ -163,7 +163,7 @@ pub const DECODED_SINGLE: [Row; 34] = [
     ("\\3C /style\\0B ", "</style\u{b}", Owned),
 ];
 
-pub const DECODED_DOUBLE: [Row; 34] = [
+pub static DECODED_DOUBLE: [Row; 34] = [
     ("\\\\", "\\", Owned),
     ("", "", Borrowed),
     ("<\\!--", "<!--", Owned),
@@ -200,7 +200,7 @@ pub const DECODED_DOUBLE: [Row; 34] = [
     ("\\3C /style\\0B ", "</style\u{b}", Owned),
 ];
 
-pub const DECODED_BOTH: [Row; 85] = [
+pub static DECODED_BOTH: [Row; 85] = [
     ("\\00 \\1F \\3C b", "\\00 \u{1f}<b", Owned),
     ("\\3C  a", "< a", Owned),
     ("\\\\", "\\", Owned),
