@@ -11,6 +11,7 @@ use html_escape::{
     BodyEncoder, BodyKind, Class, Encoder, EntityTable, Found, Operation, SmallText, append,
     append_to_vec, encode_pieces, pieces,
 };
+use std::alloc::AllocError;
 use std::process::Abort;
 use std::test::Fail;
 
@@ -30,12 +31,24 @@ fn values_and_sessions_append_as_they_are_said_to(rt: HostRuntime) -> Result<(),
     assert!(rt; append(&mut page, &Encoder::Text, "a<b")? == "a&lt;b");
     let script = ["</scr", "ipt>"];
     assert!(rt; encode_pieces(&mut page, BodyKind::Script, &script)? == "<\\/script>");
-    let mut session = BodyEncoder::new(BodyKind::Script);
-    assert!(rt; session.push("</scr", &mut page)?.is_empty());
-    assert!(rt; session.push("ipt>", &mut page)? == "<\\/script>");
-    assert!(rt; session.push("a<", &mut page)? == "a");
-    assert!(rt; session.finish(&mut page)? == "<");
+    assert!(rt; is_session_onto(&mut page)?);
     assert!(rt; page.as_str() == "xa&lt;b<\\/script><\\/script>a<");
+    Ok(())
+}
+
+// Whether each call of a session appends what it is said to.
+fn is_session_onto(page: &mut String) -> Result<bool, AllocError> {
+    let mut session = BodyEncoder::new(BodyKind::Script);
+    Ok(
+        session.push("</scr", page)?.is_empty()
+            && session.push("ipt>", page)? == "<\\/script>"
+            && session.push("a<", page)? == "a"
+            && session.finish(page)? == "<",
+    )
+}
+
+#[test]
+fn values_append_bytes_as_they_are_said_to(rt: HostRuntime) -> Result<(), Fail> {
     let mut bytes = b"x".to_vec(rt.alloc())?;
     assert!(rt; append_to_vec(&mut bytes, &Encoder::Text, "a<b")? == b"a&lt;b".as_slice());
     let operation = Operation::Encode(Encoder::Text);
@@ -48,12 +61,20 @@ fn sessions_append_as_they_are_said_to(rt: HostRuntime) -> Result<(), Fail> {
     let mut page = String::new(rt.alloc());
     let mut session = BodyEncoder::new(BodyKind::Script);
     assert!(rt; session.finish(&mut page)?.is_empty());
-    assert!(rt; BodyEncoder::append_piece(&mut page, &mut session, "</scr")?.is_empty());
-    let part = BodyEncoder::append_piece(&mut page, &mut session, "ipt>")?;
-    assert!(rt; part == "<\\/script>");
-    assert!(rt; BodyEncoder::append_piece(&mut page, &mut session, "a<")? == "a");
+    assert!(rt; adds_piece(&mut page, &mut session, "</scr", "")?);
+    assert!(rt; adds_piece(&mut page, &mut session, "ipt>", "<\\/script>")?);
+    assert!(rt; adds_piece(&mut page, &mut session, "a<", "a")?);
     assert!(rt; BodyEncoder::append_rest(&mut page, &mut session)? == "<");
     Ok(())
+}
+
+fn adds_piece(
+    page: &mut String,
+    session: &mut BodyEncoder,
+    piece: &str,
+    added: &str,
+) -> Result<bool, AllocError> {
+    Ok(BodyEncoder::append_piece(page, session, piece)? == added)
 }
 
 #[test]

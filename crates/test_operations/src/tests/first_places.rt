@@ -23,7 +23,7 @@ pub fn rows(class: Class) -> &'static [Row] {
     }
 }
 
-const TEXT_MINIMAL: [Row; 4] = [
+static TEXT_MINIMAL: [Row; 4] = [
     (b"", 0, 0),
     (b"c\xe3c9bb0XbZb\xc3b9a0YbZbc&cc0c099cY00", 15, 21),
     (
@@ -38,7 +38,7 @@ const TEXT_MINIMAL: [Row; 4] = [
     ),
 ];
 
-const TEXT: [Row; 3] = [
+static TEXT: [Row; 3] = [
     (b"Za\xc30\xe3bcbcc0ZYXY\xe1X\xc3Xc099&aaa090c", 0, 23),
     (
         b"9\xc3bY99\xe3bXcX0b9Y\xc3c0\xe3c\xc30a0\xe3X\xc30\xe399Y99XY\xc39Y\xe3\xc3\xc3Z\xc3Z\xe3X9c9Y0bYc\xe30cXY9\xc3\xe3<Y",
@@ -52,7 +52,7 @@ const TEXT: [Row; 3] = [
     ),
 ];
 
-const DOUBLE_QUOTED_ATTRIBUTE: [Row; 4] = [
+static DOUBLE_QUOTED_ATTRIBUTE: [Row; 4] = [
     (
         b"Y\xc3ab\xe30b90b90Y\xc3Z!ZbZ0c\xc3\xe3Z9\"bXaa\xc30\xc3",
         0,
@@ -71,7 +71,7 @@ const DOUBLE_QUOTED_ATTRIBUTE: [Row; 4] = [
     ),
 ];
 
-const SINGLE_QUOTED_ATTRIBUTE: [Row; 3] = [
+static SINGLE_QUOTED_ATTRIBUTE: [Row; 3] = [
     (b"0&a\xe30Ya", 0, 1),
     (
         b"bXY!c00Zc0ZX0caYY\xe3Z\xe3\xe3X9b9aX0\x7fa\xc30bYZZcZcaXba9Zca09\xe3\xe39\xe39Xa>Y\xe3Yb\xe3b",
@@ -81,7 +81,7 @@ const SINGLE_QUOTED_ATTRIBUTE: [Row; 3] = [
     (b"<acZXcZXbbXY9a9X0'X'ZXZ\xc3\xc3ZX9bYZc9", 33, 33),
 ];
 
-const QUOTED_ATTRIBUTE: [Row; 3] = [
+static QUOTED_ATTRIBUTE: [Row; 3] = [
     (b"baaX0cYZ>9c0X\xc39X0Za\xc300cc\xe3ZbcXbZ\xc3\xbc", 1, 8),
     (
         b"\xe39aZ9Ya\xc3ZbX9\xc3Yab90c!a\xe3XX0\xe3b\xc30\xe3900a\xe3\xe3Zaa0YY&aZ\xe39cX99bZb\xc39Ycb\xe3b0b",
@@ -91,7 +91,7 @@ const QUOTED_ATTRIBUTE: [Row; 3] = [
     (b"!Y\xe3\xe39YZZcX9X09b0b\xc3XaYa0\xe3aX\xc39bYZXb", 5, 33),
 ];
 
-const SAFE: [Row; 3] = [
+static SAFE: [Row; 3] = [
     (
         b"X9\xe3cXX\xc3YX0\xe3X90\xe3Z>Y'cbXaX\xc3Y9cYbbX\xc3",
         0,
@@ -109,7 +109,7 @@ const SAFE: [Row; 3] = [
     ),
 ];
 
-const UNQUOTED_ATTRIBUTE: [Row; 3] = [
+static UNQUOTED_ATTRIBUTE: [Row; 3] = [
     (b"b0X>aYaac9\xe3Xa\xe3aY0ZZ\x02\xc3Z\xe3Y9bZ\xe3#b0", 1, 3),
     (
         b"\xc3cc\xc3abXaYaaYXX\xc3Ycc\xc3X0\xe3Z9\xc3ZX\xe3Z\xc3cYZab9Z\xc3Y\x0790!a\xe3ccZ0YYbaa0YY\x18c9\xc3Z\xc3Y",
@@ -123,7 +123,7 @@ const UNQUOTED_ATTRIBUTE: [Row; 3] = [
     ),
 ];
 
-const SCRIPT_SINGLE_QUOTED: [Row; 4] = [
+static SCRIPT_SINGLE_QUOTED: [Row; 4] = [
     (b"\x0f0\xc3Xc0Xb\xe300ZZ\xc3090Zcaa\xe3caZX9Y0\x04b", 0, 0),
     (
         b"XXbcZ\xe3ZYca9\xe3YXZYac\xc3a\xe39XaaX9\xe3\xe3a0\xc3cZbYYb\x1eXa9c\x11\xe3a0accX0YY\xe39Xc\xc300caaa",
@@ -138,7 +138,7 @@ const SCRIPT_SINGLE_QUOTED: [Row; 4] = [
     (b"c0c\x12a\xe3X\xc3X\x10c\xe3cXXacaX0ZZb0baX9bc99", 32, 32),
 ];
 
-const SCRIPT_DOUBLE_QUOTED: [Row; 3] = [
+static SCRIPT_DOUBLE_QUOTED: [Row; 3] = [
     (b"\xe3\xc3XZ\xc3c9X\x130bXZ09Y0acbY0cYZ\xe309ba0ac", 0, 8),
     (
         b"0Y\xc3009Z\xe3\xc3\xe3aZYZc\xc3\xc30XX\xc3Y9\xc3\xc39Y\xe3XXbbZ\xe30Z\xc3a\xe39a9bc\xe3cXX0cXY\xe30a<X\xc39ccZ\xc3\xe3",
@@ -152,7 +152,7 @@ const SCRIPT_DOUBLE_QUOTED: [Row; 3] = [
     ),
 ];
 
-const SCRIPT_QUOTED: [Row; 3] = [
+static SCRIPT_QUOTED: [Row; 3] = [
     (
         b"Z\xc3Yc0YbX9Zca\xe3a\x059XXZbZ\xc3ZXX\xc39Z0\xc3Y0\x17",
         0,
@@ -170,7 +170,7 @@ const SCRIPT_QUOTED: [Row; 3] = [
     ),
 ];
 
-const STYLE_SINGLE_QUOTED: [Row; 4] = [
+static STYLE_SINGLE_QUOTED: [Row; 4] = [
     (
         b"9YaaZc09999\xc3\xc3cZcc09\xc3b\x0e0\xc3Y9cYac\xe3ZY",
         7,
@@ -193,7 +193,7 @@ const STYLE_SINGLE_QUOTED: [Row; 4] = [
     ),
 ];
 
-const STYLE_DOUBLE_QUOTED: [Row; 3] = [
+static STYLE_DOUBLE_QUOTED: [Row; 3] = [
     (b"0Z0X9990a\xc3\xe3\x049aXb9a90XZcZb\xe3\xc3X\xe3cY", 0, 11),
     (
         b"ccZX\xc3b\xe39YY\xe30Z9c00b0YY0XXb\xc3bXYXc\xc3\x15",
@@ -207,7 +207,7 @@ const STYLE_DOUBLE_QUOTED: [Row; 3] = [
     ),
 ];
 
-const STYLE_QUOTED: [Row; 3] = [
+static STYLE_QUOTED: [Row; 3] = [
     (b"9a<9Y\xe3cZX\xe3\xc3ba09c\xc3b\x0faX9XYa\xc3a09XXY9", 0, 2),
     (
         b"YbYX0c\xc3Y9ba0\xe3\xe3\xe3a\xc39Y\xe30XZ\xe39\xe3ZacYbZXaYccb9XX\xe3ZXY\xc3b099ab\xe3XX\x1fZZ0a900",

@@ -5,7 +5,7 @@ use hesc_core::{Class, Counter, Sink, SmallText};
 use std::test::Fail;
 
 // The place of the one `<` among 64 bytes, where the search begins, and what it finds.
-const FIRST_PLACES: [(usize, usize, usize); 16] = [
+static FIRST_PLACES: [(usize, usize, usize); 16] = [
     (0, 0, 0),
     (0, 1, 64),
     (0, 31, 64),
@@ -26,7 +26,7 @@ const FIRST_PLACES: [(usize, usize, usize); 16] = [
 
 #[test]
 fn the_first_place_is_found(rt: HostRuntime) {
-    for (at, from, first) in FIRST_PLACES {
+    for &(at, from, first) in &FIRST_PLACES {
         assert!(rt; at < 64 && from <= 64);
         let mut bytes = [b'a'; 64];
         bytes[at] = b'<';
@@ -38,7 +38,7 @@ fn the_first_place_is_found(rt: HostRuntime) {
 }
 
 // Bytes that need be no text, where the search begins, and what it finds.
-const FIRST_PLACES_IN_BYTES: [(Class, &[u8; 7], usize, usize); 10] = [
+static FIRST_PLACES_IN_BYTES: [(Class, &[u8; 7], usize, usize); 10] = [
     (Class::TextMinimal, b"Z\xE3cba<9", 1, 5),
     (Class::Text, b"\xE30ca0\xBC<", 1, 6),
     (Class::Text, b"c>0\xC3aYc", 1, 1),
@@ -53,7 +53,7 @@ const FIRST_PLACES_IN_BYTES: [(Class, &[u8; 7], usize, usize); 10] = [
 
 #[test]
 fn the_first_place_is_found_in_any_bytes(rt: HostRuntime) {
-    for (class, bytes, from, first) in FIRST_PLACES_IN_BYTES {
+    for &(class, bytes, from, first) in &FIRST_PLACES_IN_BYTES {
         assert!(rt; from <= bytes.len());
         assert!(rt;
             first_in(class, bytes, from) == first,

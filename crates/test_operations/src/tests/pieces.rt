@@ -25,7 +25,7 @@ const PUT_IN: [Part; 3] = [Kept(0, "<"), New("\\"), Kept(1, "/script")];
 
 const LEFT_OUT: [Part; 2] = [Kept(0, "<"), Kept(2, "/script")];
 
-const PIECES: [(Operation, &str, &[Part]); 8] = [
+static PIECES: [(Operation, &str, &[Part]); 8] = [
     (Operation::Encode(Encoder::Text), "", &NONE),
     (Operation::Decode(Decoder::ScriptQuoted), "", &NONE),
     (Operation::Encode(Encoder::Text), "a > b", &AROUND),
@@ -42,7 +42,7 @@ const PIECES: [(Operation, &str, &[Part]); 8] = [
 
 #[test]
 fn pieces_are_the_stretches_and_the_references(rt: HostRuntime) {
-    for (operation, text, parts) in PIECES {
+    for &(operation, text, parts) in &PIECES {
         let mut pieces = pieces(&operation, text);
         for part in parts {
             assert!(rt; is_part(pieces.next(), *part), "{part:?} of {text:?}");

@@ -25,7 +25,7 @@ fn each_name_has_its_value(rt: HostRuntime) {
 // Rows, and their first fault.
 type Faulty = (&'static [(&'static [u8], &'static str)], TableFault);
 
-const FAULTS: [Faulty; 8] = [
+static FAULTS: [Faulty; 8] = [
     (&[(b"", "x")], TableFault::EmptyName(0)),
     (&[(b"a-b", "x")], TableFault::BadName(0)),
     (&[(b"amp", "&"), (b"amp", "&")], TableFault::NotAscending(1)),
@@ -38,7 +38,7 @@ const FAULTS: [Faulty; 8] = [
 
 #[test]
 fn rows_have_their_first_fault(rt: HostRuntime) {
-    for (rows, fault) in FAULTS {
+    for &(rows, fault) in &FAULTS {
         assert!(rt; EntityTable::new(rows).err() == Some(fault));
     }
 }

@@ -5,7 +5,7 @@ use hesc_core::Class;
 use hesc_core::scan::{FLAGS, first_in};
 use std::process::Abort;
 
-const CLASSES: [Class; 13] = [
+static CLASSES: [Class; 13] = [
     Class::TextMinimal,
     Class::Text,
     Class::DoubleQuotedAttribute,
@@ -76,7 +76,7 @@ fn every_length_and_start_is_as_the_definition_says(rt: HostRuntime) {
     for kept in [0, 4, 30, 100] {
         let bytes = scattered(kept);
         for length in 0..=100 {
-            for class in CLASSES {
+            for &class in &CLASSES {
                 assert!(rt;
                     agrees(class, &bytes[..length]),
                     "{class:?}, {length} bytes"
@@ -92,7 +92,7 @@ fn every_byte_alone_is_found_at_each_place_of_a_chunk(rt: HostRuntime) {
         for place in 0..33 {
             let mut bytes = [b'a'; 33];
             bytes[place] = byte;
-            for class in CLASSES {
+            for &class in &CLASSES {
                 assert!(rt; agrees(class, &bytes), "{class:?}, {byte} at {place}");
             }
         }
@@ -101,7 +101,7 @@ fn every_byte_alone_is_found_at_each_place_of_a_chunk(rt: HostRuntime) {
 
 #[test]
 fn first_places(rt: HostRuntime) {
-    for class in CLASSES {
+    for &class in &CLASSES {
         for (bytes, from, first) in rows(class) {
             assert!(rt; *from <= bytes.len());
             assert!(rt;

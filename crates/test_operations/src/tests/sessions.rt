@@ -12,7 +12,7 @@ pub type Session = (
     &'static str,
 );
 
-const SCRIPTS: [Session; 24] = [
+static SCRIPTS: [Session; 24] = [
     (&[], &[], ""),
     (&[""], &[""], ""),
     (&["a<", "!", "--b"], &["a", "", "<\\!--b"], ""),
@@ -83,7 +83,7 @@ const SCRIPTS: [Session; 24] = [
     (&["</style", ">"], &["</style", ">"], ""),
 ];
 
-const STYLES: [Session; 16] = [
+static STYLES: [Session; 16] = [
     (&[], &[], ""),
     (&["</style", ">"], &["", "<\\/style>"], ""),
     (&["<", "/\u{1C}"], &["", "</\u{1C}"], ""),
@@ -145,7 +145,7 @@ fn sessions(kind: BodyKind) -> &'static [Session] {
     }
 }
 
-const KINDS: [BodyKind; 2] = [BodyKind::Script, BodyKind::Style];
+static KINDS: [BodyKind; 2] = [BodyKind::Script, BodyKind::Style];
 
 #[derive(Clone, Copy)]
 enum Call {
@@ -217,7 +217,7 @@ pub fn is_session(alloc: Global, kind: BodyKind, wanted: Session) -> Result<bool
 
 #[test]
 fn each_call_adds_what_is_decided(rt: HostRuntime) -> Result<(), Fail> {
-    for kind in KINDS {
+    for &kind in &KINDS {
         for wanted in sessions(kind) {
             let is_right = is_session(rt.alloc(), kind, *wanted)?;
             assert!(rt; is_right, "{kind:?} of {:?}", wanted.0);
@@ -231,14 +231,23 @@ fn two_sessions_know_nothing_of_each_other(rt: HostRuntime) -> Result<(), Fail> 
     let mut output = String::new(rt.alloc());
     let mut script = BodyEncoder::new(BodyKind::Script);
     let mut style = BodyEncoder::new(BodyKind::Style);
-    assert!(rt; script.push("</scr", &mut output)?.is_empty());
-    assert!(rt; style.push("</styl", &mut output)?.is_empty());
-    assert!(rt; script.push("ipt", &mut output)?.is_empty());
-    assert!(rt; style.push("e>", &mut output)? == "<\\/style>");
-    assert!(rt; style.finish(&mut output)?.is_empty());
-    assert!(rt; script.finish(&mut output)? == "<\\/script");
+    assert!(rt; adds(&mut script, Call::Push("</scr"), "", &mut output)?);
+    assert!(rt; adds(&mut style, Call::Push("</styl"), "", &mut output)?);
+    assert!(rt; adds(&mut script, Call::Push("ipt"), "", &mut output)?);
+    assert!(rt; adds(&mut style, Call::Push("e>"), "<\\/style>", &mut output)?);
+    assert!(rt; adds(&mut style, Call::Finish, "", &mut output)?);
+    assert!(rt; adds(&mut script, Call::Finish, "<\\/script", &mut output)?);
     assert!(rt; output.as_str() == "<\\/style><\\/script");
     Ok(())
+}
+
+fn adds(
+    session: &mut BodyEncoder,
+    call: Call,
+    added: &str,
+    output: &mut String,
+) -> Result<bool, AllocError> {
+    Ok(make(session, call, output)? == added)
 }
 
 const TEXT: &str = "x</SCRIPT ><!--<script></script";
@@ -248,36 +257,53 @@ const ENCODED: &str = "x<\\/SCRIPT ><\\!--<script><\\/script";
 #[test]
 fn a_body_may_be_cut_anywhere(rt: HostRuntime) -> Result<(), Fail> {
     for at in 0..=TEXT.len() {
-        let (Some(first), Some(second)) = (TEXT.get(..at), TEXT.get(at..)) else {
-            panic!(rt; "{at} is between characters");
-        };
-        let mut output = String::new(rt.alloc());
-        let mut session = BodyEncoder::new(BodyKind::Script);
-        session.push(first, &mut output)?;
-        session.push(second, &mut output)?;
-        session.finish(&mut output)?;
-        assert!(rt; output.as_str() == ENCODED, "cut at {at}");
+        assert!(rt; is_encoded_in_two(rt.alloc(), at)?, "cut at {at}");
     }
     Ok(())
+}
+
+fn is_encoded_in_two(alloc: Global, at: usize) -> Result<bool, AllocError> {
+    let Some((first, second)) = TEXT.split_at_checked(at) else {
+        return Ok(false);
+    };
+    let mut output = String::new(alloc);
+    let mut session = BodyEncoder::new(BodyKind::Script);
+    session.push(first, &mut output)?;
+    session.push(second, &mut output)?;
+    session.finish(&mut output)?;
+    Ok(output.as_str() == ENCODED)
 }
 
 #[test]
 fn a_body_may_come_by_single_bytes(rt: HostRuntime) -> Result<(), Fail> {
-    let mut output = String::new(rt.alloc());
-    let mut session = BodyEncoder::new(BodyKind::Script);
-    for at in 0..TEXT.len() {
-        let Some(piece) = TEXT.get(at..at + 1) else {
-            panic!(rt; "{at} is between characters");
-        };
-        session.push(piece, &mut output)?;
-    }
-    session.finish(&mut output)?;
+    let output = encoded_in_pieces(rt.alloc(), BodyKind::Script, TEXT, 1)?;
     assert!(rt; output.as_str() == ENCODED);
     Ok(())
 }
 
+/// The body of pieces of so many bytes; the text is ASCII.
+pub fn encoded_in_pieces(
+    alloc: Global,
+    kind: BodyKind,
+    text: &str,
+    size: usize,
+) -> Result<String, AllocError> {
+    let mut output = String::new(alloc);
+    let mut session = BodyEncoder::new(kind);
+    let mut rest = text;
+    for _ in 0..text.len() {
+        let Some((piece, left)) = rest.split_at_checked(size.min(rest.len())) else {
+            break;
+        };
+        session.push(piece, &mut output)?;
+        rest = left;
+    }
+    session.finish(&mut output)?;
+    Ok(output)
+}
+
 // What a session does not add.
-const WRONG: [Session; 5] = [
+static WRONG: [Session; 5] = [
     (&["a<"], &["a<"], ""),
     (&["a<"], &["a"], ""),
     (&["a", "b"], &["a"], ""),
@@ -287,7 +313,7 @@ const WRONG: [Session; 5] = [
 
 #[test]
 fn sessions_that_are_wrong_are_refused(rt: HostRuntime) -> Result<(), Fail> {
-    for session in WRONG {
+    for &session in &WRONG {
         let is_right = is_session(rt.alloc(), BodyKind::Script, session)?;
         assert!(rt; !is_right, "{:?} of {:?}", session.1, session.0);
     }

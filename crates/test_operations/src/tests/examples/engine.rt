@@ -81,10 +81,21 @@ fn forms_append_as_they_are_said_to(rt: HostRuntime) -> Result<(), Fail> {
     append_to_string(&mut page, &encoder, "a<b")?;
     assert!(rt; page.as_str() == "xa&lt;b");
     assert!(rt; onto_string(&mut page, &encoder, "a<b")? == "a&lt;b");
+    Ok(())
+}
+
+#[test]
+fn forms_append_bytes_as_they_are_said_to(rt: HostRuntime) -> Result<(), Fail> {
+    let encoder = Escape(Class::Text);
     let mut bytes = b"x".to_vec(rt.alloc())?;
     append_to_vec(&mut bytes, &encoder, "a<b")?;
     assert!(rt; bytes.as_slice() == b"xa&lt;b".as_slice());
     assert!(rt; onto_vec(&mut bytes, &encoder, "a<b")? == b"a&lt;b".as_slice());
+    Ok(())
+}
+
+#[test]
+fn a_form_writes_as_it_is_said_to(rt: HostRuntime) -> Result<(), Fail> {
     let mut writer = WeakWriter::new(
         rt.alloc(),
         Weakness {
@@ -93,7 +104,7 @@ fn forms_append_as_they_are_said_to(rt: HostRuntime) -> Result<(), Fail> {
             trouble: Trouble::Calm,
         },
     );
-    to_writer(&encoder, "a<b", &mut writer)?;
+    to_writer(&Escape(Class::Text), "a<b", &mut writer)?;
     assert!(rt; writer.taken.as_slice() == b"a&lt;b".as_slice());
     Ok(())
 }

@@ -30,8 +30,8 @@ const PLACE_OF_COPY: usize = 73;
 
 /// The rows of the fuller table: the built-in ones, and `copy`.
 pub fn fuller_rows(alloc: Global) -> Result<Vec<(&'static [u8], &'static str)>, AllocError> {
-    let mut rows = NAMED_ENTITIES.to_vec(alloc)?;
-    rows.insert(PLACE_OF_COPY, (b"copy", "\u{A9}"))?;
+    let mut rows = EntityTable::built_in().rows().to_vec(alloc)?;
+    rows.insert(PLACE_OF_COPY.min(rows.len()), (b"copy", "\u{A9}"))?;
     Ok(rows)
 }
 

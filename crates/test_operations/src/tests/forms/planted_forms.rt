@@ -11,7 +11,7 @@ use test_support::flaws::Flaw;
 // adds up what is asked for.
 type Refused = (Flaw, [bool; 4]);
 
-const REFUSED: [Refused; 15] = [
+static REFUSED: [Refused; 15] = [
     (Flaw::Sound, [false, false, false, false]),
     (Flaw::OtherText, [true, true, true, false]),
     (Flaw::Copies, [true, true, false, true]),
@@ -31,7 +31,7 @@ const REFUSED: [Refused; 15] = [
 
 #[test]
 fn each_flaw_of_a_form_is_refused(rt: HostRuntime) -> Result<(), Fail> {
-    for (flaw, refused) in REFUSED {
+    for &(flaw, refused) in &REFUSED {
         let of = Call::Planted(flaw);
         let found = [
             answers::first_wrong(rt.alloc(), of)?.is_some(),

@@ -10,7 +10,7 @@ use test_support::operations::OPERATIONS;
 use test_support::rows::Row;
 use test_support::{Trouble, WeakWriter, Weakness};
 
-const TROUBLES: [Trouble; 3] = [Trouble::Fails, Trouble::Interrupted, Trouble::Idle];
+static TROUBLES: [Trouble; 3] = [Trouble::Fails, Trouble::Interrupted, Trouble::Idle];
 
 fn weakness(at: u64, trouble: Trouble) -> Weakness {
     Weakness {
@@ -22,7 +22,7 @@ fn weakness(at: u64, trouble: Trouble) -> Weakness {
 
 #[test]
 fn a_trouble_at_any_call_is_handed_on(rt: HostRuntime) -> Result<(), Fail> {
-    for operation in OPERATIONS {
+    for &operation in &OPERATIONS {
         let wrong = first_wrong(rt.alloc(), Call::Of(operation));
         assert!(rt; wrong.is_none(), "{wrong:?}: {operation:?}");
     }
@@ -40,7 +40,7 @@ pub fn first_wrong(alloc: Global, of: Call<'_>) -> Option<&'static str> {
         if !writes_all(alloc, of, *row) {
             return Some(row.0);
         }
-        for trouble in TROUBLES {
+        for &trouble in &TROUBLES {
             for at in 1..=row.1.len() as u64 {
                 if !hands_on(alloc, of, *row, weakness(at, trouble)) {
                     return Some(row.0);
@@ -104,7 +104,7 @@ fn a_writer_that_takes_much_is_called_once_for_a_piece(rt: HostRuntime) {
         at: 0,
         trouble: Trouble::Calm,
     };
-    for operation in OPERATIONS {
+    for &operation in &OPERATIONS {
         for row in rows_of(Call::Of(operation)) {
             let mut output = WeakWriter::new(rt.alloc(), strong);
             let is_ok = to_writer(Call::Of(operation), row.0, &mut output).is_ok();
@@ -140,7 +140,7 @@ fn an_empty_piece_is_no_call(rt: HostRuntime) {
 }
 
 // The call at which the writer fails, and what has then gone out of `a > b`.
-const GONE_OUT: [(u64, &str); 9] = [
+static GONE_OUT: [(u64, &str); 9] = [
     (1, ""),
     (2, "a"),
     (3, "a "),
@@ -154,7 +154,7 @@ const GONE_OUT: [(u64, &str); 9] = [
 
 #[test]
 fn a_failed_writer_has_a_beginning(rt: HostRuntime) {
-    for (at, gone_out) in GONE_OUT {
+    for &(at, gone_out) in &GONE_OUT {
         let mut output = WeakWriter::new(rt.alloc(), weakness(at, Trouble::Fails));
         let is_ok = encode_text_to_writer("a > b", &mut output).is_ok();
         assert!(rt; is_ok == (at == 9), "failing at {at}");

@@ -1,16 +1,19 @@
 //! Long and hostile texts: the answers are right, and come in time that grows with the length alone.
-use crate::tests::forms::values::{make, make_to_string, make_to_vec, make_to_writer};
+use crate::tests::forms::answers::{is_held, is_made};
+use crate::tests::forms::calls::Call;
+use crate::tests::forms::values::{make, make_to_string};
 use html_escape::{Decoder, Encoder, Operation};
-use std::borrow::CowStr;
+use std::alloc::{AllocError, Global};
 use std::process::Abort;
 use std::test::Fail;
 use test_support::long::{Long, MANY, MILLION, TRAPS, long_text};
 use test_support::operations::OPERATIONS;
+use test_support::rows::Held;
 
 // An operation, a text, and what is made of it.
 type Row = (Operation, Long, Long);
 
-const MADE: [Row; 14] = [
+static MADE: [Row; 14] = [
     (ENCODE_TEXT, ("", "<", 4096, ""), ("", "&lt;", 4096, "")),
     (
         ENCODE_SCRIPT_STRING,
@@ -95,25 +98,23 @@ const DECODE_STYLE_STRING: Operation = Operation::Decode(Decoder::StyleQuoted);
 
 #[test]
 fn long_texts_are_made(rt: HostRuntime) -> Result<(), Fail> {
-    for (operation, text, made) in MADE {
+    for &(operation, text, made) in &MADE {
         let text = long_text(rt.alloc(), text)?;
         let made = long_text(rt.alloc(), made)?;
-        let cow = make(operation, rt.alloc(), text.as_str())?;
-        assert!(rt; cow.as_str() == made.as_str(), "{operation:?}");
-        assert!(rt; matches!(cow, CowStr::Owned(_)), "{operation:?}");
-        let mut string = String::new(rt.alloc());
-        assert!(rt; make_to_string(operation, text.as_str(), &mut string)? == made.as_str());
-        let mut vec = Vec::new(rt.alloc());
-        assert!(rt; make_to_vec(operation, text.as_str(), &mut vec)? == made.as_bytes());
-        let mut written = Vec::new(rt.alloc());
-        make_to_writer(operation, text.as_str(), &mut written)?;
-        assert!(rt; written.as_slice() == made.as_bytes(), "{operation:?}");
+        let is_made = is_made(
+            rt.alloc(),
+            Call::Of(operation),
+            text.as_str(),
+            made.as_str(),
+            Held::Owned,
+        )?;
+        assert!(rt; is_made, "{operation:?}");
     }
     Ok(())
 }
 
 // An operation, and a text in which it changes nothing.
-const KEPT: [(Operation, Long); 12] = [
+static KEPT: [(Operation, Long); 12] = [
     (ENCODE_SCRIPT, ("", "<", 4096, "")),
     (ENCODE_SCRIPT, ("", "<", 1, "")),
     (ENCODE_SCRIPT, ("", "</", 1, "")),
@@ -130,25 +131,30 @@ const KEPT: [(Operation, Long); 12] = [
 
 #[test]
 fn long_texts_are_kept(rt: HostRuntime) -> Result<(), Fail> {
-    for (operation, text) in KEPT {
+    for &(operation, text) in &KEPT {
         let text = long_text(rt.alloc(), text)?;
-        let cow = make(operation, rt.alloc(), text.as_str())?;
-        assert!(rt; cow.as_str() == text.as_str(), "{operation:?}");
-        assert!(rt; matches!(cow, CowStr::Borrowed(_)), "{operation:?}");
+        let text = text.as_str();
+        let is_kept = is_held(rt.alloc(), Call::Of(operation), text, text, Held::Borrowed)?;
+        assert!(rt; is_kept, "{operation:?}");
     }
     Ok(())
 }
 
 #[test]
 fn every_operation_ends(rt: HostRuntime) -> Result<(), Fail> {
-    for trap in TRAPS {
+    for &trap in &TRAPS {
         let text = long_text(rt.alloc(), trap)?;
-        for operation in OPERATIONS {
-            let cow = make(operation, rt.alloc(), text.as_str())?;
-            let mut output = String::new(rt.alloc());
-            let part = make_to_string(operation, text.as_str(), &mut output)?;
-            assert!(rt; part == cow.as_str(), "{operation:?} of {trap:?}");
+        for &operation in &OPERATIONS {
+            let is_same = makes_the_same(rt.alloc(), operation, text.as_str())?;
+            assert!(rt; is_same, "{operation:?} of {trap:?}");
         }
     }
     Ok(())
+}
+
+// Whether the string form adds what the `Cow` form gives.
+fn makes_the_same(alloc: Global, operation: Operation, text: &str) -> Result<bool, AllocError> {
+    let cow = make(operation, alloc, text)?;
+    let mut output = String::new(alloc);
+    Ok(make_to_string(operation, text, &mut output)? == cow.as_str())
 }

@@ -14,7 +14,7 @@ const REFUSED_REQUESTS: u64 = 2;
 
 #[test]
 fn every_request_is_refused_in_turn(rt: HostRuntime) -> Result<(), Fail> {
-    for operation in OPERATIONS {
+    for &operation in &OPERATIONS {
         let wrong = first_wrong(rt.alloc(), Call::Of(operation))?;
         assert!(rt; wrong.is_none(), "{wrong:?}: {operation:?}");
     }
@@ -143,7 +143,7 @@ fn is_x_and(output: &[u8], added: &str) -> bool {
 #[test]
 fn nothing_added_takes_no_memory(rt: HostRuntime) {
     let heap = Refusing::new(rt.alloc(), 1);
-    for operation in OPERATIONS {
+    for &operation in &OPERATIONS {
         assert!(rt; adds_nothing(&heap, operation), "{operation:?}");
     }
     assert!(rt; heap.asked(1) == 0);

@@ -13,7 +13,7 @@ fn answer(counted: io::Result<usize>) -> Answer {
 }
 
 // What the second call answers.
-const WRITER_ANSWERS: [(Trouble, Answer); 4] = [
+static WRITER_ANSWERS: [(Trouble, Answer); 4] = [
     (Trouble::Calm, Ok(2)),
     (Trouble::Fails, Err(ErrorKind::StorageFull)),
     (Trouble::Interrupted, Err(ErrorKind::Interrupted)),
@@ -22,7 +22,7 @@ const WRITER_ANSWERS: [(Trouble, Answer); 4] = [
 
 #[test]
 fn a_writer_has_its_trouble_at_one_call(rt: HostRuntime) {
-    for (trouble, want) in WRITER_ANSWERS {
+    for &(trouble, want) in &WRITER_ANSWERS {
         let weakness = Weakness {
             step: 2,
             at: 2,
@@ -42,7 +42,7 @@ fn a_writer_has_its_trouble_at_one_call(rt: HostRuntime) {
     }
 }
 
-const READER_ANSWERS: [(Trouble, Answer); 4] = [
+static READER_ANSWERS: [(Trouble, Answer); 4] = [
     (Trouble::Calm, Ok(2)),
     (Trouble::Fails, Err(ErrorKind::Other)),
     (Trouble::Interrupted, Err(ErrorKind::Interrupted)),
@@ -51,7 +51,7 @@ const READER_ANSWERS: [(Trouble, Answer); 4] = [
 
 #[test]
 fn a_reader_has_its_trouble_at_one_call(rt: HostRuntime) {
-    for (trouble, want) in READER_ANSWERS {
+    for &(trouble, want) in &READER_ANSWERS {
         let weakness = Weakness {
             step: 2,
             at: 2,
