@@ -1,4 +1,3 @@
-pub mod Capped
 mod CommonNames
 mod Halving
 pub mod ClassWords

@@ -1,7 +1,7 @@
 //! Character references, as a reader takes them: six names, and numbers.
 ghost use Rattle.std.specs.Prelude.{◌≡◌, ◌≤◌, ◌<◌, ◌+◌, ◌*◌, Option, if◌then◌else◌, Some, None};
 ghost use Rattle.std.specs.Str.Parse.{digits_value};
-ghost use Rattle.hesc_core.specs.Numbers.{base_of, capped};
+ghost use Rattle.hesc_specs.specs.References.Numbers.{base_of, capped};
 ghost use Rattle.hesc_grammars.specs.References.{
   are_digits,
   body_character,

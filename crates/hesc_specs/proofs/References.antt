@@ -1,4 +1,5 @@
 pub mod Applied
+pub mod Capped
 pub mod Decoded
 pub mod Next
 pub mod Undone

@@ -3,7 +3,7 @@ ghost use Rattle.std.specs.Prelude.{◌≡◌, ◌≤◌, ◌<◌, ◌+◌, ◌*
 ghost use Rattle.std.specs.Option.{option_map};
 ghost use Rattle.hesc_specs.specs.References.Rows.{value_of};
 ghost use Rattle.hesc_specs.specs.References.Decoding.{body_value, is_kept_control, number_of, numbered_value, numeral};
-ghost use Rattle.hesc_core.specs.Numbers.{base_of, capped};
+ghost use Rattle.hesc_specs.specs.References.Numbers.{base_of, capped};
 ghost use Rattle.hesc_core.specs.Table.{common_character as common_character_of, rows_of};
 ghost use Rattle.hesc_engine.specs.Text.{replacement_bytes};
 

@@ -2,8 +2,8 @@ use Rattle.std.proofs.Common.{take, arith}
 use Rattle.std.proofs.lemmas.Grind.{common_steps}
 use Rattle.std.proofs.lemmas.Int.Digits.{digits_value_more}
 use Rattle.std.specs.Str.Parse.{digits_value}
-use Rattle.hesc_core.specs.Numbers.{base_of}
-use Rattle.hesc_core.proofs.Capped.{capped-digit}
+use Rattle.hesc_specs.specs.References.Numbers.{base_of}
+use Rattle.hesc_specs.proofs.References.Capped.{capped-digit}
 use Rattle.hesc_core.proofs.rules.references.values.numeral.Goals as goal
 
 pub loop-digit-preserved : goal.loop-digit-preserved

@@ -2,7 +2,7 @@ use Rattle.std.proofs.Common.{◌≡◌, true, take}
 use Rattle.std.specs.Char.{is_digit}
 use Rattle.std.specs.List.{list_all}
 use Rattle.std.specs.Str.Parse.{digits_value}
-use Rattle.hesc_core.specs.Numbers.{base_of, capped}
+use Rattle.hesc_specs.specs.References.Numbers.{base_of, capped}
 use Rattle.hesc_core.proofs.rules.references.values.numeral.Given as goal
 
 -- so far there were digits alone, and the number is theirs

@@ -1,7 +1,7 @@
 -- A number of digits that is held capped.
 use Rattle.std.proofs.Common.{◌≡◌, ℕ, ◌+◌, ◌*◌, Bool, true, false, arith}
 use Rattle.std.proofs.lemmas.Bool.Decides.{nat_tests}
-use Rattle.hesc_core.specs.Numbers.{base_of, capped}
+use Rattle.hesc_specs.specs.References.Numbers.{base_of, capped}
 
 -- one more digit of a capped number
 pub capped-digit : (is_hex : Bool) (n d : ℕ) → capped (capped n * base_of is_hex + d) ≡ capped (n * base_of is_hex + d)
