@@ -3,35 +3,36 @@ use crate::{BindFault, NamedTemplate, SourceFault};
 use html_template::{FillFault, TemplateFault};
 use std::test::Fail;
 
+static SOURCES: [(&str, Option<SourceFault>); 12] = [
+    ("", None),
+    ("{ } }} <p title=\"{{a_1}}\">{{B}}{{a_1}}</p>", None),
+    ("<p>{{a", Some(SourceFault::Unclosed(3))),
+    ("{{a}}{{b}", Some(SourceFault::Unclosed(5))),
+    ("{{}}", Some(SourceFault::BadName(0))),
+    ("<p>{{a b}}", Some(SourceFault::BadName(3))),
+    ("{{{a}}", Some(SourceFault::BadName(0))),
+    ("{{é}}", Some(SourceFault::BadName(0))),
+    (
+        "<p {{a}}>",
+        Some(SourceFault::NoTemplate(TemplateFault::NoPlace(1))),
+    ),
+    (
+        "<p>{{a}}<a href='{{b}}'>",
+        Some(SourceFault::NoTemplate(TemplateFault::Forbidden(3))),
+    ),
+    (
+        "{{a}}<svg>",
+        Some(SourceFault::NoTemplate(TemplateFault::Malformed(2))),
+    ),
+    (
+        "<title>{{a}}",
+        Some(SourceFault::NoTemplate(TemplateFault::Unfinished)),
+    ),
+];
+
 #[test]
 fn sources(rt: HostRuntime) {
-    let rows = [
-        ("", None),
-        ("{ } }} <p title=\"{{a_1}}\">{{B}}{{a_1}}</p>", None),
-        ("<p>{{a", Some(SourceFault::Unclosed(3))),
-        ("{{a}}{{b}", Some(SourceFault::Unclosed(5))),
-        ("{{}}", Some(SourceFault::BadName(0))),
-        ("<p>{{a b}}", Some(SourceFault::BadName(3))),
-        ("{{{a}}", Some(SourceFault::BadName(0))),
-        ("{{é}}", Some(SourceFault::BadName(0))),
-        (
-            "<p {{a}}>",
-            Some(SourceFault::NoTemplate(TemplateFault::NoPlace(1))),
-        ),
-        (
-            "<p>{{a}}<a href='{{b}}'>",
-            Some(SourceFault::NoTemplate(TemplateFault::Forbidden(3))),
-        ),
-        (
-            "{{a}}<svg>",
-            Some(SourceFault::NoTemplate(TemplateFault::Malformed(2))),
-        ),
-        (
-            "<title>{{a}}",
-            Some(SourceFault::NoTemplate(TemplateFault::Unfinished)),
-        ),
-    ];
-    for (source, wanted) in rows {
+    for &(source, wanted) in &SOURCES {
         let found = match NamedTemplate::parse(rt.alloc(), source) {
             Ok(_) => None,
             Err(fault) => Some(fault),
