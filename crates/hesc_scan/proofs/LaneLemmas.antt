@@ -1,5 +1,5 @@
 -- From comparisons of whole vectors to a test of each of their bytes.
-use Rattle.std.proofs.Common.{◌≡◌, ℕ, ◌%◌, ◌^◌, ◌<◌, Bool, true, false, ◌||◌, cond, bit_or, refl, List, [], ◌∷◌, map, length, sym, ap, ◌∙◌, arith}
+use Rattle.std.proofs.Common.{◌≡◌, ℕ, ◌%◌, ◌^◌, ◌≤◌, ◌<◌, Bool, true, false, ◌||◌, cond, bit_or, refl, List, [], ◌∷◌, map, length, sym, ap, ◌∙◌, arith}
 use Rattle.std.proofs.lemmas.Bool.{agree_below, agree_below_at}
 use Rattle.std.proofs.lemmas.List.{length-map}
 use Rattle.std.proofs.lemmas.Simd.{map-map, mask_l-mod}
@@ -20,9 +20,9 @@ mask_of class named f v compared same long below each all =
     ∙ ap (λ k. mask_l (map (in_class k) v)) (sym same)
 
 -- the mask of comparisons that agree with a test at each byte
-pub mask_by : (test : ℕ → Bool) (f : ℕ → ℕ) (v compared : List ℕ) → length v ≡ 32 → compared ≡ map f v → ((b : ℕ) → top 7 (f b) ≡ test b)
+pub mask_by : (test : ℕ → Bool) (f : ℕ → ℕ) (v compared : List ℕ) → length v ≤ 64 → compared ≡ map f v → ((b : ℕ) → top 7 (f b) ≡ test b)
     → mask_l (map (top 7) compared) % 2 ^ 64 ≡ mask_l (map test v)
-mask_by test f v compared long each agrees =
+mask_by test f v compared few each agrees =
     ap (λ l. mask_l l % 2 ^ 64) (ap (map (top 7)) each ∙ map-map (top 7) f v ∙ (λ i. map (λ b. agrees b i) v))
     ∙ mask_l-mod (map test v) 64 (omega (arith, length-map v test))
 

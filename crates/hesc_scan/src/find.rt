@@ -5,7 +5,9 @@ ghost use Rattle.memchr.specs.Find.{is_byte, is_byte2};
 ghost use Rattle.hesc_specs.specs.Text.FirstPlace.{IsFirstPlace};
 
 use crate::block::Block;
-use crate::lanes::{block_hits_of_one, block_hits_of_two, hits_of_one, hits_of_two};
+use crate::lanes::{
+    block_hits_of_one, block_hits_of_two, half_hits_of_one, hits_of_one, hits_of_two,
+};
 use memchr::{memchr, memchr2};
 use std::simd::prelude::*;
 
@@ -29,18 +31,43 @@ pub fn first_byte(byte: u8, bytes: &[u8], from: usize) -> usize
     if mask != 0 {
         return from + mask.trailing_zeros() as usize;
     }
+    if bytes.len() - from <= 64 {
+        return first_byte_near(byte, bytes, from + 32);
+    }
     first_byte_far(byte, bytes, from)
 }
 
-// Where fewer than 32 bytes are left, they are looked at as one block.
+// Where 32 bytes or fewer are left, they are looked at as two halves that overlap, or as one block.
 #[inline(never)]
 fn first_byte_near(byte: u8, bytes: &[u8], from: usize) -> usize
     requires within { from ≤ length bytes.now }
-    requires few { length bytes.now < from + 32 }
+    requires few { length bytes.now ≤ from + 32 }
     ensures { IsFirstPlace (is_byte byte) bytes.now from result }
 {
+    if bytes.len() - from >= 16 {
+        return first_byte_of_halves(byte, bytes, from);
+    }
     let mask = block_hits_of_one(byte, &Block::rest(bytes, from));
     first_set(mask, bytes, from)
+}
+
+// No mask is put together of the halves' masks: most texts have none of the bytes.
+#[inline(always)]
+fn first_byte_of_halves(byte: u8, bytes: &[u8], from: usize) -> usize
+    requires one { from + 16 ≤ length bytes.now }
+    requires both { length bytes.now ≤ from + 32 }
+    ensures { IsFirstPlace (is_byte byte) bytes.now from result }
+{
+    let mask = half_hits_of_one(byte, bytes, from);
+    if mask != 0 {
+        return from + mask.trailing_zeros() as usize;
+    }
+    let last = bytes.len() - 16;
+    let mask = half_hits_of_one(byte, bytes, last);
+    if mask != 0 {
+        return last + mask.trailing_zeros() as usize;
+    }
+    bytes.len()
 }
 
 #[inline(never)]

@@ -1,5 +1,5 @@
 //! Which of 32 bytes are in a class, or one or two given bytes, for all of them at once.
-ghost use Rattle.std.specs.Prelude.{◌≡◌, ◌<◌, map};
+ghost use Rattle.std.specs.Prelude.{◌≡◌, ◌≤◌, ◌<◌, ◌+◌, drop, length, map, take};
 ghost use Rattle.std.specs.Simd.Lanes.{Each1, mask_l};
 ghost use Rattle.memchr.specs.Find.{is_byte, is_byte2};
 ghost use Rattle.hesc_specs.specs.Text.Classes.{in_class};
@@ -62,6 +62,16 @@ pub(crate) fn block_hits_of_one(byte: u8, block: &Block) -> u64
     ensures { result ≡ mask_l (map (is_byte byte) (block_bytes block.now)) }
 {
     block.mask_of(hits_of_one(byte, block.lanes()))
+}
+
+/// The same for 16 bytes from a place on.
+#[inline(always)]
+pub(crate) fn half_hits_of_one(byte: u8, bytes: &[u8], place: usize) -> u64
+    requires { place + 16 ≤ length bytes.now }
+    ensures { result ≡ mask_l (map (is_byte byte) (take 16 (drop place bytes.now))) }
+{
+    let half = u8x16::from_slice(&bytes[place..]);
+    half.simd_eq(u8x16::splat(byte)).to_bitmask()
 }
 
 /// Bit `k` of the answer is set exactly if byte `k` is one of the two.

@@ -16,5 +16,5 @@ returns c =
     let long = c.fits-v.0 in
     let table = c.args.table.now in
     let entries = looked_up table c.requires.twice (λ b. bit_and b 15) (λ b below. omega (arith, and_le_r b 15)) v _ long c.requires.below (zip2_splat bit_and v 32 15 long) in
-    mask_by _ _ v _ long (zip2_of_maps (λ a b. cond (a == b) 255 0) (λ b. b) _ v (sym (map-id v)) entries)
+    mask_by _ _ v _ (omega (arith, long)) (zip2_of_maps (λ a b. cond (a == b) 255 0) (λ b. b) _ v (sym (map-id v)) entries)
     (λ b. one_set (b == slice_index table (bit_and b 15)))
