@@ -1,6 +1,6 @@
 -- How far a sink has come with a text: what it took since it began, and the rest that is still to come.
-use Rattle.std.proofs.Common.{◌≡◌, ℕ, List, ◌++◌, sym, ◌∙◌, ap, append_assoc}
-use Rattle.std.specs.Prelude.{Result, Ok, Err, OnErr}
+use Rattle.std.proofs.Common.{◌≡◌, ◌≢◌, ◌≤◌, ℕ, List, [], ◌++◌, length, sym, ◌∙◌, ap, append_assoc, arith}
+use Rattle.std.specs.Prelude.{Result, Ok, Err, IsOk, OnErr, OnOk}
 use Rattle.hesc_specs.specs.Text.Beginning.{TookBeginning}
 
 pub record Progress (old now rest text : List ℕ) : Type 0 where
@@ -35,3 +35,12 @@ TookBeginning-following old now new first later whole took =
 pub then_on_err : {T E P Q : Type 0} (result : Result T E) → (P → Q) → OnErr result P → OnErr result Q
 then_on_err (Ok v) f p = tt
 then_on_err (Err e) f p = f p
+
+pub then_on_ok : {T E P Q : Type 0} (result : Result T E) → (P → Q) → OnOk result P → OnOk result Q
+then_on_ok (Ok v) f p = f p
+then_on_ok (Err e) f p = tt
+
+-- where nothing always fits, what failed was something
+pub on_err-some : {T E : Type 0} (result : Result T E) (made : List ℕ) (room : ℕ) → (length made ≤ room → IsOk result) → OnErr result (made ≢ [])
+on_err-some (Ok v) made room fits = tt
+on_err-some (Err e) made room fits = λ none. let ok = fits (omega (arith, ap length none)) in cc

@@ -16,3 +16,7 @@ joined-parts start (b ∷ bytes) new later =
 
 pub joined-segment : (segment : Segment) (later : List Part) → joined (stretch_of segment ++ (renewed (replacement_bytes segment.new) ++ later)) ≡ segment_bytes segment ++ joined later
 joined-segment segment later = joined-parts segment.start segment.kept.now (replacement_bytes segment.new) later
+
+-- what was made begins with the bytes of the first segment
+pub made-segment : (segment : Segment) (all later : List Part) (made : List ℕ) → joined all ≡ made → all ≡ stretch_of segment ++ (renewed (replacement_bytes segment.new) ++ later) → made ≡ segment_bytes segment ++ joined later
+made-segment segment all later made is splits = sym is ∙ ap joined splits ∙ joined-segment segment later

@@ -1,7 +1,9 @@
 -- The parts that pieces stand for, and those that are still to come.
-use Rattle.std.specs.Prelude.{◌≡◌, ℕ, ◌+◌, ◌-◌, List, [], ◌∷◌, ◌++◌, Option, Some, None, length, if◌then◌else◌}
+use Rattle.std.specs.Prelude.{◌≡◌, ℕ, ◌+◌, ◌-◌, List, [], ◌∷◌, ◌++◌, Option, Some, None, false, length, if◌then◌else◌}
 use Rattle.hesc_specs.specs.Text.Parts.{Part, kept, fresh, parts}
 use Rattle.hesc_engine.specs.Text.{replacement_bytes}
+use Rattle.hesc_engine.specs.Next.{IsNext}
+use Rattle.hesc_engine.specs.declared.found.Found.{Found}
 use Rattle.hesc_engine.specs.declared.found.Replacement.{Replacement}
 use Rattle.hesc_engine.specs.declared.pieces.Piece.{Piece}
 use Rattle.hesc_engine.specs.declared.pieces.Piece.TheVariants.{Kept, New}
@@ -29,6 +31,11 @@ parts_left {rules = rules} pieces =
 -- nothing is left of the segment that was handed out last
 abbrev pub IsAtSegment : {R : Type 0} {rules : Ghosts R} → Pieces R rules → Type 0
 IsAtSegment pieces = pieces.pending ≡ None
+
+-- and the next segment ends with this change
+abbrev pub IsFoundNext : {R : Type 0} {rules : Ghosts R} → Pieces R rules → Found → Type 0
+IsFoundNext {rules = rules} pieces found =
+    (IsAtSegment pieces × (pieces.is_done ≡ false)) × IsNext pieces.text.now pieces.from (rules.changes_from pieces.rule.now pieces.text.now) found
 
 -- the stretch of a segment, unless it is empty
 abbrev pub stretch_of : Segment → List Part

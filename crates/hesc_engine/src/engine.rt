@@ -1,9 +1,10 @@
 //! The engine: each piece of a rule's text goes to a sink. Nothing else makes output.
 ghost use Rattle.std.specs.Prelude.{◌≡◌, ◌≢◌, ◌≤◌, ◌<◌, ◌+◌, [], ◌++◌, length, IsOk, OnOk, OnErr};
 ghost use Rattle.hesc_specs.specs.Text.Beginning.{TookBeginning};
-ghost use Rattle.hesc_engine.specs.Ahead.{IsAhead};
+ghost use Rattle.hesc_specs.specs.Text.Parts.{joined};
+ghost use Rattle.hesc_engine.specs.Pieces.{IsAtSegment, parts_left};
 
-use crate::ahead::Ahead;
+use crate::forms::made::Made;
 use crate::pieces::Pieces;
 use crate::rule::Rule;
 use crate::sink::Sink;
@@ -29,32 +30,47 @@ pub fn run<R: Rule, S: Sink>(rule: &R, text: &str, sink: &mut S) -> Result<(), S
     ensures same_reference { S.reference sink.new ≡ S.reference sink.old }
     ensures same_before { S.before sink.new ≡ S.before sink.old }
 {
-    run_knowing(rule, text, Ahead::nothing(text), sink)
+    put_left(&mut Pieces::new(rule, text), sink)
 }
 
-/// The same, where something is known of the first bytes.
+/// The same of a text whose first change was found.
 #[inline(always)]
-pub fn run_knowing<R: Rule, S: Sink>(
-    rule: &R,
-    text: &str,
-    ahead: Ahead,
-    sink: &mut S,
-) -> Result<(), S::Fault>
-    requires { IsAhead text.now ahead }
+pub fn run_made<R: Rule, S: Sink>(made: &Made<'_, R>, sink: &mut S) -> Result<(), S::Fault>
     ensures ok_taken { OnOk result
-        (S.taken sink.new ≡ S.taken sink.old ++ R.made rule.now text.now) }
+        (S.taken sink.new ≡ S.taken sink.old ++ R.made made.now.rule.now made.now.text.now) }
     ensures ok_failures { OnOk result (S.failures sink.new ≡ S.failures sink.old) }
-    ensures err_some { OnErr result (R.made rule.now text.now ≢ []) }
-    ensures err_taken { OnErr result
-        (TookBeginning (S.taken sink.old) (S.taken sink.new) (R.made rule.now text.now)) }
+    ensures err_some { OnErr result (R.made made.now.rule.now made.now.text.now ≢ []) }
+    ensures err_taken { OnErr result (TookBeginning (S.taken sink.old) (S.taken sink.new)
+        (R.made made.now.rule.now made.now.text.now)) }
     ensures err_failures { OnErr result (S.failures sink.old < S.failures sink.new) }
-    ensures fits { length (R.made rule.now text.now) ≤ S.room sink.old → IsOk result }
-    ensures room { OnOk result
-        (S.room sink.old ≤ S.room sink.new + length (R.made rule.now text.now)) }
+    ensures fits { length (R.made made.now.rule.now made.now.text.now) ≤ S.room sink.old
+        → IsOk result }
+    ensures room { OnOk result (S.room sink.old
+        ≤ S.room sink.new + length (R.made made.now.rule.now made.now.text.now)) }
     ensures same_reference { S.reference sink.new ≡ S.reference sink.old }
     ensures same_before { S.before sink.new ≡ S.before sink.old }
 {
-    let mut pieces = Pieces::knowing(rule, text, ahead);
+    let (segment, mut pieces) = Pieces::after_first(made.rule, made.text, made.first, made.ahead);
+    sink.put_segment(segment)?;
+    put_left(&mut pieces, sink)
+}
+
+// Hands all segments that are left to the sink.
+#[inline(always)]
+fn put_left<R: Rule, S: Sink>(pieces: &mut Pieces<'_, R>, sink: &mut S) -> Result<(), S::Fault>
+    requires { IsAtSegment pieces.old }
+    ensures ok_taken { OnOk result
+        (S.taken sink.new ≡ S.taken sink.old ++ joined (parts_left pieces.old)) }
+    ensures ok_failures { OnOk result (S.failures sink.new ≡ S.failures sink.old) }
+    ensures err_taken { OnErr result
+        (TookBeginning (S.taken sink.old) (S.taken sink.new) (joined (parts_left pieces.old))) }
+    ensures err_failures { OnErr result (S.failures sink.old < S.failures sink.new) }
+    ensures fits { length (joined (parts_left pieces.old)) ≤ S.room sink.old → IsOk result }
+    ensures room { OnOk result
+        (S.room sink.old ≤ S.room sink.new + length (joined (parts_left pieces.old))) }
+    ensures same_reference { S.reference sink.new ≡ S.reference sink.old }
+    ensures same_before { S.before sink.new ≡ S.before sink.old }
+{
     'putting: while let Some(segment) = pieces.segment() {
         sink.put_segment(segment)?;
     }

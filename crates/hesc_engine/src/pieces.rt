@@ -3,7 +3,7 @@ ghost use Rattle.std.specs.Str.{IsCharBoundary};
 ghost use Rattle.hesc_engine.specs.Ahead.{IsAhead};
 
 use crate::ahead::Ahead;
-use crate::found::Replacement;
+use crate::found::{Found, Replacement};
 use crate::rule::Rule;
 use crate::segment::Segment;
 
@@ -67,7 +67,15 @@ impl<'t, R: Rule> Pieces<'t, R> {
       None,
     };
     ghost use Rattle.hesc_specs.specs.Text.Parts.{joined, parts, renewed};
-    ghost use Rattle.hesc_engine.specs.Pieces.{IsAtSegment, parts_left, stretch_of, segments_left};
+    ghost use Rattle.hesc_engine.specs.Next.{IsNext};
+    ghost use Rattle.hesc_engine.specs.Pieces.{
+      IsAtSegment,
+      IsFoundNext,
+      parts_left,
+      segment_bytes,
+      stretch_of,
+      segments_left,
+    };
     ghost use Rattle.hesc_engine.specs.Text.{replacement_bytes};
 
     /// The pieces of what `rule` makes of `text`.
@@ -87,13 +95,15 @@ impl<'t, R: Rule> Pieces<'t, R> {
 
     /// The same, where something is known of the first bytes.
     #[inline(always)]
-    pub(crate) fn knowing(rule: &'t R, text: &'t str, ahead: Ahead) -> Pieces<'t, R>
+    fn knowing(rule: &'t R, text: &'t str, ahead: Ahead) -> Pieces<'t, R>
         requires { IsAhead text.now ahead }
         ensures pieces { parts_left result ≡ parts text.now 0 (R.changes_from rule.now text.now 0) }
         ensures joined { joined (parts text.now 0 (R.changes_from rule.now text.now 0))
             ≡ R.made rule.now text.now }
         ensures few { length (parts text.now 0 (R.changes_from rule.now text.now 0))
             ≤ 2 * length (R.changes_from rule.now text.now 0) + 1 }
+        ensures begins { (found : Found) → IsNext text.now 0 (R.changes_from rule.now text.now) found
+            → IsFoundNext result found }
         ensures at_segment { IsAtSegment result }
     {
         Pieces {
@@ -104,6 +114,25 @@ impl<'t, R: Rule> Pieces<'t, R> {
             is_done: false,
             ahead,
         }
+    }
+
+    /// The segment of the first change, which was found, and the pieces after it.
+    #[inline(always)]
+    pub(crate) fn after_first(
+        rule: &'t R,
+        text: &'t str,
+        first: Found<'t>,
+        ahead: Ahead,
+    ) -> (Segment<'t>, Pieces<'t, R>)
+        requires first { IsNext text.now 0 (R.changes_from rule.now text.now) first }
+        requires ahead { IsAhead text.now ahead }
+        ensures made { R.made rule.now text.now
+            ≡ segment_bytes result.0 ++ joined (parts_left result.1) }
+        ensures at_segment { IsAtSegment result.1 }
+    {
+        let mut pieces = Pieces::knowing(rule, text, ahead);
+        let segment = pieces.segment_before(first);
+        (segment, pieces)
     }
 
     /// The next change and the stretch before it, or at last the stretch after all changes. `None`
@@ -121,26 +150,36 @@ impl<'t, R: Rule> Pieces<'t, R> {
             return None;
         }
         let start = self.from;
-        let rest = &self.text.as_bytes()[start..];
         match self.rule.next_ahead(self.text, start, &mut self.ahead) {
-            Some(found) => {
-                self.from = found.end;
-                Some(Segment {
-                    start,
-                    rest,
-                    kept: &self.text[start..found.start],
-                    new: found.replacement,
-                })
-            }
+            Some(found) => Some(self.segment_before(found)),
             None => {
                 self.is_done = true;
                 Some(Segment {
                     start,
-                    rest,
+                    rest: &self.text.as_bytes()[start..],
                     kept: &self.text[start..],
                     new: Replacement::Borrowed(""),
                 })
             }
+        }
+    }
+
+    /// The next change, which was found, and the stretch before it.
+    #[inline(always)]
+    fn segment_before(&mut self, found: Found<'t>) -> Segment<'t>
+        requires { IsFoundNext self.old found }
+        ensures parts { parts_left self.old
+            ≡ stretch_of result ++ (renewed (replacement_bytes result.new) ++ parts_left self.new) }
+        ensures less { segments_left self.new < segments_left self.old }
+        ensures at_segment { IsAtSegment self.new }
+    {
+        let start = self.from;
+        self.from = found.end;
+        Segment {
+            start,
+            rest: &self.text.as_bytes()[start..],
+            kept: &self.text[start..found.start],
+            new: found.replacement,
         }
     }
 }

@@ -10,8 +10,8 @@ use crate::parts::Piece;
 use hesc_core::forms::{Parts, append_parts, append_to_string};
 use hesc_core::rules::{Escape, Unchanged};
 use hesc_core::{Class, CountOverflow, Rule, Sink};
-use hesc_engine::ahead::Ahead;
-use hesc_engine::engine::run_knowing;
+use hesc_engine::engine::run_made;
+use hesc_engine::forms::made::Made;
 use hesc_engine::sinks::stack::StackSink;
 use html_tokenizer::SlotPlace;
 use std::alloc::{AllocError, Allocator};
@@ -180,9 +180,8 @@ fn put_made<R: Rule, S: Sink>(rule: &R, text: &str, sink: &mut S) -> Result<(), 
     ensures same_before { S.before sink.new ≡ S.before sink.old }
 {
     // Most texts stay as they are.
-    let mut ahead = Ahead::nothing(text);
-    if rule.next_ahead(text, 0, &mut ahead).is_none() {
-        return sink.put(text);
+    match Made::of(rule, text) {
+        Some(made) => run_made(&made, sink),
+        None => sink.put(text),
     }
-    run_knowing(rule, text, ahead, sink)
 }

@@ -3,7 +3,6 @@ ghost use Rattle.std.specs.Prelude.{◌≡◌, IfOk};
 ghost use Rattle.std.specs.String.{string_bytes};
 ghost use Rattle.hesc_engine.specs.Forms.{AnswersText};
 
-use crate::ahead::Ahead;
 use crate::forms::made::Made;
 use crate::forms::parts::{Parts, append_parts_to_vec};
 use crate::rule::Rule;
@@ -22,12 +21,10 @@ pub fn to_cow<'t, R: Rule, A: Allocator>(
     ensures { AnswersText text.now (R.made rule.now text.now)
         (R.changes_from rule.now text.now 0) result }
 {
-    let mut ahead = Ahead::nothing(text);
-    if rule.next_ahead(text, 0, &mut ahead).is_none() {
-        return Ok(CowStr::Borrowed(text));
+    match Made::of(rule, text) {
+        Some(made) => Ok(CowStr::Owned(new_string(alloc, &made)?)),
+        None => Ok(CowStr::Borrowed(text)),
     }
-    let made = new_string(alloc, &Made { rule, text, ahead })?;
-    Ok(CowStr::Owned(made))
 }
 
 // A call of its own, so that a text that stays costs no more than its scan.

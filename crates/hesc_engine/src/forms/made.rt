@@ -1,21 +1,52 @@
 //! What a rule makes of a text, as parts.
 ghost use Rattle.hesc_engine.specs.Ahead.{IsAhead};
+ghost use Rattle.hesc_engine.specs.Next.{IsNext};
 
 use crate::ahead::Ahead;
-use crate::engine::run_knowing;
+use crate::engine::run_made;
 use crate::forms::measure::room_for;
 use crate::forms::parts::Parts;
+use crate::found::Found;
 use crate::rule::Rule;
 use crate::sink::Sink;
 use crate::sinks::counter::CountOverflow;
 
-/// What `rule` makes of `text`, and what is known of the first bytes.
+/// What `rule` makes of a `text` that does not stay as it is: its first change, which is searched for
+/// once, and what is known of the bytes after it.
 #[derive(Drop)]
 pub struct Made<'m, R: Rule> {
     pub rule: &'m R,
     pub text: &'m str,
-    pub ahead: Ahead,
-    pub ghost known: { IsAhead text.now ahead },
+    pub(crate) first: Found<'m>,
+    pub(crate) ahead: Ahead,
+    ghost is_first: { IsNext text.now 0 (R.changes_from rule.now text.now) first },
+    ghost known: { IsAhead text.now ahead },
+}
+
+impl<'m, R: Rule> Made<'m, R> {
+    ghost use Rattle.std.specs.Prelude.{◌≡◌, ◌≢◌, [], IfNone, IfSome};
+
+    /// What `rule` makes of `text`, or `None` where nothing changes.
+    ///
+    /// Of the encoder of text and `ab` it is `None`.
+    #[inline(always)]
+    pub fn of(rule: &'m R, text: &'m str) -> Option<Made<'m, R>>
+        ensures none { IfNone result (R.changes_from rule.now text.now 0 ≡ []) }
+        ensures rule { IfSome result (λ made. made.rule.now ≡ rule.now) }
+        ensures text { IfSome result (λ made. made.text.now ≡ text.now) }
+        ensures some { IfSome result (λ _. R.changes_from rule.now text.now 0 ≢ []) }
+    {
+        let mut ahead = Ahead::nothing(text);
+        match rule.next_ahead(text, 0, &mut ahead) {
+            Some(first) => Some(Made {
+                rule,
+                text,
+                first,
+                ahead,
+            }),
+            None => None,
+        }
+    }
 }
 
 impl<R: Rule> Parts for Made<'_, R> {
@@ -23,7 +54,7 @@ impl<R: Rule> Parts for Made<'_, R> {
 
     #[inline(always)]
     fn put_into<S: Sink>(&self, sink: &mut S) -> Result<(), S::Fault> {
-        run_knowing(self.rule, self.text, self.ahead, sink)
+        run_made(self, sink)
     }
 
     #[inline(always)]
@@ -31,9 +62,12 @@ impl<R: Rule> Parts for Made<'_, R> {
         room_for(self.rule, self.text, spare)
     }
 
-    // With six bytes for each byte it fits.
+    // No byte becomes more than six, but by a table's value.
     #[inline(always)]
-    fn is_short(&self) -> bool {
-        self.text.len() <= 64
+    fn short_bound(&self) -> Option<usize> {
+        if self.text.len() > 64 {
+            return None;
+        }
+        Some(6 * self.text.len())
     }
 }

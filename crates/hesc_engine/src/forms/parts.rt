@@ -13,7 +13,10 @@ use crate::sinks::stack::StackSink;
 use core::mem::replace_with;
 use std::alloc::{AllocError, Allocator};
 
-/// The most bytes that are made on the stack.
+/// The bytes of the two arrays on the stack that a text is made in: at most 96 or 384, and a block
+/// after them.
+const SMALL_STACK: usize = 128;
+
 const STACK: usize = 416;
 
 /// A text as the parts that are put into a sink, one after another.
@@ -55,10 +58,11 @@ pub trait Parts {
         false
     }
 
-    /// Whether the text is so short that it is made on the stack first.
+    /// At least as many bytes as the text has, where it is so short that it is made on the stack
+    /// first.
     #[inline(always)]
-    fn is_short(&self) -> bool {
-        false
+    fn short_bound(&self) -> Option<usize> {
+        None
     }
 }
 
@@ -109,20 +113,20 @@ pub fn append_parts_to_vec<P: Parts, A: Allocator>(
     if parts.may_fit(spare) && put_in_room(output, parts) {
         return Ok(());
     }
-    if parts.is_short() {
-        if let Some(outcome) = append_by_stack(output, parts) {
+    if let Some(bound) = parts.short_bound() {
+        if let Some(outcome) = append_short(output, parts, bound) {
             return outcome;
         }
     }
     append_measured(output, parts)
 }
 
-// Made on the stack and appended by one copy, or `None` where the stack does not suffice. The array
-// is set up in this function and no other.
-#[inline(never)]
-fn append_by_stack<P: Parts, A: Allocator>(
+// By the stack that suffices for so many bytes, where there is one.
+#[inline(always)]
+fn append_short<P: Parts, A: Allocator>(
     output: &mut Vec<u8, A>,
     parts: &P,
+    bound: usize,
 ) -> Option<Result<(), AllocError>>
     ensures none { IfNone result (output.new ≡ output.old) }
     ensures appended { IfSome result (λ outcome.
@@ -131,7 +135,29 @@ fn append_by_stack<P: Parts, A: Allocator>(
         → IfSome result (λ outcome. IsOk outcome) }
     ensures utf8 { IfSome result (λ outcome. OnOk outcome (IsUtf8 (P.text parts.now))) }
 {
-    let mut short = StackSink::<STACK>::new();
+    if bound <= 96 {
+        append_by_stack::<SMALL_STACK, P, A>(output, parts)
+    } else {
+        append_by_stack::<STACK, P, A>(output, parts)
+    }
+}
+
+// Made on the stack and appended by one copy, or `None` where the stack does not suffice. The array
+// is set up in this function and no other.
+#[inline(never)]
+fn append_by_stack<const N: usize, P: Parts, A: Allocator>(
+    output: &mut Vec<u8, A>,
+    parts: &P,
+) -> Option<Result<(), AllocError>>
+    requires { N ≤ 416 }
+    ensures none { IfNone result (output.new ≡ output.old) }
+    ensures appended { IfSome result (λ outcome.
+        Appended output.old.items output.new.items (P.text parts.now) outcome) }
+    ensures fits { length (P.text parts.now) ≤ vec_room output.old
+        → IfSome result (λ outcome. IsOk outcome) }
+    ensures utf8 { IfSome result (λ outcome. OnOk outcome (IsUtf8 (P.text parts.now))) }
+{
+    let mut short = StackSink::<N>::new();
     if parts.put_into(&mut short).is_err() {
         return None;
     }

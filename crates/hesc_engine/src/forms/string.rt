@@ -5,7 +5,6 @@ ghost use Rattle.std.specs.Str.{IsCharBoundary};
 ghost use Rattle.std.specs.String.{string_bytes};
 ghost use Rattle.hesc_engine.specs.Forms.{AnswersPart, Appended, StringAppended, string_room};
 
-use crate::ahead::Ahead;
 use crate::forms::kept::append_kept;
 use crate::forms::made::Made;
 use crate::forms::parts::{Parts, append_parts};
@@ -26,11 +25,10 @@ pub fn append_to_string<R: Rule, A: Allocator>(
     ensures fits { length (R.made rule.now text.now) ≤ string_room output.old → IsOk result }
 {
     // Most texts stay as they are, and that is found out once.
-    let mut ahead = Ahead::nothing(text);
-    if rule.next_ahead(text, 0, &mut ahead).is_none() {
-        return append_kept(output, text);
+    match Made::of(rule, text) {
+        Some(made) => append_made(output, &made),
+        None => append_kept(output, text),
     }
-    append_made(output, &Made { rule, text, ahead })
 }
 
 // A call of its own, so that a text that stays costs little more than its scan and its copy.

@@ -4,7 +4,6 @@ ghost use Rattle.std.specs.Borrow.{sem};
 ghost use Rattle.std.specs.Str.{IsUtf8};
 ghost use Rattle.hesc_engine.specs.Forms.{AnswersPart, Appended, VecAppended, vec_room};
 
-use crate::ahead::Ahead;
 use crate::forms::kept::append_kept_to_vec;
 use crate::forms::made::Made;
 use crate::forms::parts::{Parts, append_parts_to_vec};
@@ -26,11 +25,10 @@ pub fn append_to_vec<R: Rule, A: Allocator>(
     ensures utf8 { OnOk result (IsUtf8 (R.made rule.now text.now)) }
 {
     // Most texts stay as they are, and that is found out once.
-    let mut ahead = Ahead::nothing(text);
-    if rule.next_ahead(text, 0, &mut ahead).is_none() {
-        return append_kept_to_vec(output, text);
+    match Made::of(rule, text) {
+        Some(made) => append_made(output, &made),
+        None => append_kept_to_vec(output, text),
     }
-    append_made(output, &Made { rule, text, ahead })
 }
 
 // A call of its own, so that a text that stays costs little more than its scan and its copy.

@@ -112,10 +112,9 @@ fn a_form_writes_as_it_is_said_to(rt: HostRuntime) -> Result<(), Fail> {
 #[test]
 fn parts_are_put_as_they_are_said_to_be(rt: HostRuntime) -> Result<(), Fail> {
     let encoder = Escape(Class::Text);
-    let made = Made {
-        rule: &encoder,
-        text: "a<b",
-        ahead: Ahead::nothing("a<b"),
+    assert!(rt; Made::of(&encoder, "ab").is_none());
+    let Some(made) = Made::of(&encoder, "a<b") else {
+        panic!(rt; "it changes");
     };
     assert!(rt; made.room_for(0) == Ok(6));
     let mut counter = Counter::new();

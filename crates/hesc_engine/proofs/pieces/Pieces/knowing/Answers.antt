@@ -1,4 +1,4 @@
-use Rattle.std.proofs.Common.{◌∙◌}
+use Rattle.std.proofs.Common.{◌∙◌, refl}
 use Rattle.std.proofs.lemmas.Str.{IsCharBoundary-start}
 use Rattle.hesc_specs.proofs.Text.Parts.{parts-joined, parts-few}
 use Rattle.hesc_engine.proofs.pieces.Pieces.knowing.Goals as goal
@@ -11,3 +11,6 @@ returns-clause-joined g c = parts-joined c.args.text.now 0 (g.R.Rule.changes_fro
 
 pub returns-clause-few : goal.returns-clause-few
 returns-clause-few g c = parts-few c.args.text.now 0 (g.R.Rule.changes_from c.args.rule.now c.args.text.now 0)
+
+pub returns-clause-pieces : goal.returns-clause-pieces
+returns-clause-pieces g c = refl
