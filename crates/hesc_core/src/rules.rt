@@ -10,6 +10,9 @@ pub use crate::rules::bodies::{
     DecodeScript, DecodeStyle, EncodeScript, EncodeStyle, next_body_escape, next_body_unescape,
 };
 pub use crate::rules::escape::{Escape, next_escape};
+pub use crate::rules::html::escape::HtmlEscape;
 pub use crate::rules::references::{References, next_references};
+pub use crate::rules::strings::classes::string_class;
+pub use crate::rules::strings::escape::StringEscape;
 pub use crate::rules::strings::unescape::{Unescape, next_string_unescape, next_unescape};
 pub use hesc_engine::Unchanged;

@@ -1,14 +1,31 @@
-//! What the encoder of a class, or of a body, makes of a text, appended with the output first: the order
-//! in which the checker follows a loan by itself. The functions of the ported order hand on to these.
+//! What the encoder of a class, or of a body, makes of a text, borrowed, or appended with the output
+//! first: the order in which the checker follows a loan by itself. The functions of the ported order
+//! hand on to these. An encoder that is known where this is compiled pays for no other.
 ghost use Rattle.std.specs.Borrow.{sem};
 ghost use Rattle.hesc_specs.specs.Bodies.Encoding.{body_encoding};
-ghost use Rattle.hesc_specs.specs.Text.Escaped.{escaped};
-ghost use Rattle.hesc_engine.specs.Forms.{AnswersPart, StringAppended, VecAppended, string_room, vec_room};
+ghost use Rattle.hesc_specs.specs.Text.Escaped.{escape_changes, escaped};
+ghost use Rattle.hesc_engine.specs.Forms.{AnswersPart, AnswersText, StringAppended, VecAppended, string_room, vec_room};
 
-use hesc_core::forms::{onto_string, onto_vec};
-use hesc_core::rules::{EncodeScript, EncodeStyle, Escape};
+use hesc_core::forms::{onto_string, onto_vec, to_cow};
+use hesc_core::rules::{EncodeScript, EncodeStyle, HtmlEscape, StringEscape, string_class};
 use hesc_core::{Class, Element};
 use std::alloc::{AllocError, Allocator};
+use std::borrow::CowStr;
+
+#[inline(always)]
+pub(crate) fn encode_to_cow<'t, A: Allocator>(
+    alloc: A,
+    class: Class,
+    text: &'t str,
+) -> Result<CowStr<'t, A>, AllocError>
+    ensures { AnswersText text.now (escaped class text.now)
+        (escape_changes class text.now 0) result }
+{
+    match string_class(class) {
+        Some((element, _)) => to_cow(alloc, &StringEscape { class, element }, text),
+        None => to_cow(alloc, &HtmlEscape { class }, text),
+    }
+}
 
 #[inline(always)]
 pub(crate) fn encode_onto_string<'o, A: Allocator>(
@@ -20,7 +37,10 @@ pub(crate) fn encode_onto_string<'o, A: Allocator>(
     ensures* appended { sem 𝓛 (StringAppended A.row A.Allocator output.entry
         (escaped class text.now) result) }
 {
-    onto_string(output, &Escape(class), text)
+    match string_class(class) {
+        Some((element, _)) => onto_string(output, &StringEscape { class, element }, text),
+        None => onto_string(output, &HtmlEscape { class }, text),
+    }
 }
 
 #[inline(always)]
@@ -33,7 +53,10 @@ pub(crate) fn encode_onto_vec<'o, A: Allocator>(
     ensures* appended { sem 𝓛 (VecAppended A.row A.Allocator output.entry
         (escaped class text.now) result) }
 {
-    onto_vec(output, &Escape(class), text)
+    match string_class(class) {
+        Some((element, _)) => onto_vec(output, &StringEscape { class, element }, text),
+        None => onto_vec(output, &HtmlEscape { class }, text),
+    }
 }
 
 #[inline(always)]

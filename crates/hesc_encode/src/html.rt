@@ -4,9 +4,9 @@ ghost use Rattle.hesc_specs.specs.Text.Changes.{html_changes};
 ghost use Rattle.hesc_specs.specs.Html.{encoding};
 ghost use Rattle.hesc_engine.specs.Forms.{AnswersPart, AnswersText, StringAppended, VecAppended, WritesText, string_room, vec_room};
 
-use crate::appends::{encode_onto_string, encode_onto_vec};
+use crate::appends::{encode_onto_string, encode_onto_vec, encode_to_cow};
 use hesc_core::Class;
-use hesc_core::forms::{to_cow, to_writer};
+use hesc_core::forms::to_writer;
 use hesc_core::rules::Escape;
 use std::alloc::{AllocError, Allocator};
 use std::borrow::CowStr;
@@ -25,7 +25,7 @@ pub fn encode_text_minimal<'t, A: Allocator>(
     ensures { AnswersText text.now (encoding Class.TextMinimal text.now)
         (html_changes Class.TextMinimal text.now 0) result }
 {
-    to_cow(alloc, &Escape(Class::TextMinimal), text)
+    encode_to_cow(alloc, Class::TextMinimal, text)
 }
 
 /// Appends the encoding of `text` to `output`, and answers the part that was added. On a refusal
@@ -82,7 +82,7 @@ pub fn encode_text<'t, A: Allocator>(alloc: A, text: &'t str) -> Result<CowStr<'
     ensures { AnswersText text.now (encoding Class.Text text.now)
         (html_changes Class.Text text.now 0) result }
 {
-    to_cow(alloc, &Escape(Class::Text), text)
+    encode_to_cow(alloc, Class::Text, text)
 }
 
 /// Appends the encoding of `text` to `output`, and answers the part that was added. On a refusal
@@ -142,7 +142,7 @@ pub fn encode_double_quoted_attribute<'t, A: Allocator>(
     ensures { AnswersText text.now (encoding Class.DoubleQuotedAttribute text.now)
         (html_changes Class.DoubleQuotedAttribute text.now 0) result }
 {
-    to_cow(alloc, &Escape(Class::DoubleQuotedAttribute), text)
+    encode_to_cow(alloc, Class::DoubleQuotedAttribute, text)
 }
 
 /// Appends the encoding of `text` to `output`, and answers the part that was added. On a refusal
@@ -207,7 +207,7 @@ pub fn encode_single_quoted_attribute<'t, A: Allocator>(
     ensures { AnswersText text.now (encoding Class.SingleQuotedAttribute text.now)
         (html_changes Class.SingleQuotedAttribute text.now 0) result }
 {
-    to_cow(alloc, &Escape(Class::SingleQuotedAttribute), text)
+    encode_to_cow(alloc, Class::SingleQuotedAttribute, text)
 }
 
 /// Appends the encoding of `text` to `output`, and answers the part that was added. On a refusal
@@ -272,7 +272,7 @@ pub fn encode_quoted_attribute<'t, A: Allocator>(
     ensures { AnswersText text.now (encoding Class.QuotedAttribute text.now)
         (html_changes Class.QuotedAttribute text.now 0) result }
 {
-    to_cow(alloc, &Escape(Class::QuotedAttribute), text)
+    encode_to_cow(alloc, Class::QuotedAttribute, text)
 }
 
 /// Appends the encoding of `text` to `output`, and answers the part that was added. On a refusal
@@ -334,7 +334,7 @@ pub fn encode_safe<'t, A: Allocator>(alloc: A, text: &'t str) -> Result<CowStr<'
     ensures { AnswersText text.now (encoding Class.Safe text.now)
         (html_changes Class.Safe text.now 0) result }
 {
-    to_cow(alloc, &Escape(Class::Safe), text)
+    encode_to_cow(alloc, Class::Safe, text)
 }
 
 /// Appends the encoding of `text` to `output`, and answers the part that was added. On a refusal
@@ -395,7 +395,7 @@ pub fn encode_unquoted_attribute<'t, A: Allocator>(
     ensures { AnswersText text.now (encoding Class.UnquotedAttribute text.now)
         (html_changes Class.UnquotedAttribute text.now 0) result }
 {
-    to_cow(alloc, &Escape(Class::UnquotedAttribute), text)
+    encode_to_cow(alloc, Class::UnquotedAttribute, text)
 }
 
 /// Appends the encoding of `text` to `output`, and answers the part that was added. On a refusal

@@ -6,9 +6,9 @@ ghost use Rattle.hesc_specs.specs.declared.elements.Element.TheVariants.{Script,
 ghost use Rattle.hesc_specs.specs.declared.quotes.Quotes.TheVariants.{Single, Double, Both};
 ghost use Rattle.hesc_engine.specs.Forms.{AnswersPart, AnswersText, StringAppended, VecAppended, WritesText, string_room, vec_room};
 
-use crate::appends::{encode_onto_string, encode_onto_vec};
+use crate::appends::{encode_onto_string, encode_onto_vec, encode_to_cow};
 use hesc_core::Class;
-use hesc_core::forms::{to_cow, to_writer};
+use hesc_core::forms::to_writer;
 use hesc_core::rules::Escape;
 use std::alloc::{AllocError, Allocator};
 use std::borrow::CowStr;
@@ -28,7 +28,7 @@ pub fn encode_script_single_quoted_text<'t, A: Allocator>(
     ensures { AnswersText text.now (string_encoding Script Single text.now)
         (string_encoding_changes Script Single text.now 0) result }
 {
-    to_cow(alloc, &Escape(Class::ScriptSingleQuoted), text)
+    encode_to_cow(alloc, Class::ScriptSingleQuoted, text)
 }
 
 /// Appends the encoding of `text` to `output`, and answers the part that was added. On a refusal
@@ -93,7 +93,7 @@ pub fn encode_script_double_quoted_text<'t, A: Allocator>(
     ensures { AnswersText text.now (string_encoding Script Double text.now)
         (string_encoding_changes Script Double text.now 0) result }
 {
-    to_cow(alloc, &Escape(Class::ScriptDoubleQuoted), text)
+    encode_to_cow(alloc, Class::ScriptDoubleQuoted, text)
 }
 
 /// Appends the encoding of `text` to `output`, and answers the part that was added. On a refusal
@@ -158,7 +158,7 @@ pub fn encode_script_quoted_text<'t, A: Allocator>(
     ensures { AnswersText text.now (string_encoding Script Both text.now)
         (string_encoding_changes Script Both text.now 0) result }
 {
-    to_cow(alloc, &Escape(Class::ScriptQuoted), text)
+    encode_to_cow(alloc, Class::ScriptQuoted, text)
 }
 
 /// Appends the encoding of `text` to `output`, and answers the part that was added. On a refusal
@@ -222,7 +222,7 @@ pub fn encode_style_single_quoted_text<'t, A: Allocator>(
     ensures { AnswersText text.now (string_encoding Style Single text.now)
         (string_encoding_changes Style Single text.now 0) result }
 {
-    to_cow(alloc, &Escape(Class::StyleSingleQuoted), text)
+    encode_to_cow(alloc, Class::StyleSingleQuoted, text)
 }
 
 /// Appends the encoding of `text` to `output`, and answers the part that was added. On a refusal
@@ -287,7 +287,7 @@ pub fn encode_style_double_quoted_text<'t, A: Allocator>(
     ensures { AnswersText text.now (string_encoding Style Double text.now)
         (string_encoding_changes Style Double text.now 0) result }
 {
-    to_cow(alloc, &Escape(Class::StyleDoubleQuoted), text)
+    encode_to_cow(alloc, Class::StyleDoubleQuoted, text)
 }
 
 /// Appends the encoding of `text` to `output`, and answers the part that was added. On a refusal
@@ -352,7 +352,7 @@ pub fn encode_style_quoted_text<'t, A: Allocator>(
     ensures { AnswersText text.now (string_encoding Style Both text.now)
         (string_encoding_changes Style Both text.now 0) result }
 {
-    to_cow(alloc, &Escape(Class::StyleQuoted), text)
+    encode_to_cow(alloc, Class::StyleQuoted, text)
 }
 
 /// Appends the encoding of `text` to `output`, and answers the part that was added. On a refusal

@@ -3,7 +3,9 @@ ghost use Rattle.std.specs.Prelude.{◌≡◌, [], IfNone, IfSome};
 ghost use Rattle.std.specs.Str.{IsCharBoundary};
 ghost use Rattle.hesc_specs.specs.Text.Changes.{html_changes};
 ghost use Rattle.hesc_specs.specs.Text.Classes.{IsHtml, in_class};
+ghost use Rattle.hesc_specs.specs.Text.Escaped.{escape_changes, escaped};
 ghost use Rattle.hesc_specs.specs.Text.FirstPlace.{IsFirstPlace};
+ghost use Rattle.hesc_specs.proofs.Text.EscapeChanges.{applied-escape_changes};
 ghost use Rattle.hesc_engine.specs.Ahead.{IsAhead};
 ghost use Rattle.hesc_engine.specs.Next.{IsNext};
 
@@ -11,8 +13,54 @@ use crate::rules::ahead::next_hit;
 use crate::rules::html::references::reference;
 use hesc_engine::ahead::Ahead;
 use hesc_engine::found::{Found, Replacement};
+use hesc_engine::rule::Rule;
+use hesc_scan::length::{encoded_length, longest_escaped};
 use hesc_scan::scan::first_in;
 use hesc_specs::Class;
+
+/// The encoder of an HTML class. Where it is known that a class is one, a change takes no branch
+/// over the kinds of classes.
+///
+/// Of `Class::Text` it changes the byte 1 of `a<b` to `&lt;`.
+#[derive(Clone, Copy)]
+pub struct HtmlEscape {
+    pub class: Class,
+    pub ghost html: { IsHtml class },
+}
+
+impl Rule for HtmlEscape {
+    ghost changes_from = { λ rule. escape_changes rule.class };
+
+    ghost made = { λ rule. escaped rule.class };
+
+    #[inline(always)]
+    fn next(&self, text: &str, from: usize) -> Option<Found<'_>> {
+        next_html_escape(self.class, text, from)
+    }
+
+    #[inline(always)]
+    fn next_ahead(&self, text: &str, from: usize, ahead: &mut Ahead) -> Option<Found<'_>> {
+        next_html_escape_ahead(self.class, text, from, ahead)
+    }
+
+    // It needs no search.
+    #[inline(always)]
+    fn total(&self, text: &str) -> Option<usize> {
+        encoded_length(self.class, text.as_bytes())
+    }
+
+    #[inline(always)]
+    fn bound(&self, text: &str) -> Option<usize> {
+        encoded_length(self.class, text.as_bytes())
+    }
+
+    #[inline(always)]
+    fn longest(&self, text: &str) -> Option<usize> {
+        longest_escaped(self.class, text)
+    }
+
+    ghost makes = { λ rule source text. applied-escape_changes rule.class source text };
+}
 
 /// The first byte of the class at or after `from`, a character boundary, and its reference.
 ///

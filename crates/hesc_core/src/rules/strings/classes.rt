@@ -5,6 +5,8 @@ ghost use Rattle.hesc_specs.specs.Text.Classes.{string_class as string_class_of}
 use hesc_specs::{Class, Element, Quotes};
 
 /// The element and the quote marks of a string encoder's class, or `None` for an HTML encoder's.
+///
+/// Of `Class::ScriptQuoted` they are the script and both marks.
 #[inline(always)]
 pub fn string_class(class: Class) -> Option<(Element, Quotes)>
     ensures { result ≡ string_class_of class }

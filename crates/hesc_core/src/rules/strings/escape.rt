@@ -1,12 +1,13 @@
 //! Escaping by a string encoder's class: each character that the encoder replaces becomes its
 //! escape.
-ghost use Rattle.std.specs.Prelude.{◌≡◌, ◌≤◌, ◌<◌, ◌==◌, [], IfNone, IfSome, if◌then◌else◌, length, take};
+ghost use Rattle.std.specs.Prelude.{◌≡◌, ◌≤◌, ◌<◌, ◌==◌, [], IfNone, IfSome, Some, if◌then◌else◌, length, take};
 ghost use Rattle.std.specs.Str.{IsAscii, IsCharBoundary};
 ghost use Rattle.hesc_specs.specs.Text.Classes.{element_of};
 ghost use Rattle.hesc_specs.specs.Text.EscapedPlaces.{escapes_at};
 ghost use Rattle.hesc_specs.specs.Text.FirstPlace.{IsFirstAt};
 ghost use Rattle.hesc_engine.specs.Ahead.{IsAhead};
-ghost use Rattle.hesc_specs.specs.Text.Escaped.{escape_changes};
+ghost use Rattle.hesc_specs.specs.Text.Escaped.{escape_changes, escaped};
+ghost use Rattle.hesc_specs.proofs.Text.EscapeChanges.{applied-escape_changes};
 ghost use Rattle.hesc_specs.specs.Strings.Encoding.{
   is_mark as is_mark_of,
   line_separator,
@@ -21,9 +22,49 @@ use crate::rules::ahead::next_hit;
 use crate::rules::strings::hex_digits::upper_hex_digit;
 use hesc_engine::ahead::Ahead;
 use hesc_engine::found::{Found, Replacement};
+use hesc_engine::rule::Rule;
 use hesc_engine::small_text::SmallText;
+use hesc_scan::length::{longest_escaped, string_bound};
 use hesc_scan::scan::{completes_separator, first_escaped};
 use hesc_specs::{Class, Element};
+
+/// The encoder of a string encoder's class, and its element, where it is known that the class is one.
+///
+/// Of `Class::ScriptQuoted` it changes the byte 2 of `it's` to `\'`.
+#[derive(Clone, Copy)]
+pub struct StringEscape {
+    pub class: Class,
+    pub element: Element,
+    pub ghost its: { element_of class ≡ Some element },
+}
+
+impl Rule for StringEscape {
+    ghost changes_from = { λ rule. escape_changes rule.class };
+
+    ghost made = { λ rule. escaped rule.class };
+
+    #[inline(always)]
+    fn next(&self, text: &str, from: usize) -> Option<Found<'_>> {
+        next_string_escape(self.class, self.element, text, from)
+    }
+
+    #[inline(always)]
+    fn next_ahead(&self, text: &str, from: usize, ahead: &mut Ahead) -> Option<Found<'_>> {
+        next_string_escape_ahead(self.class, self.element, text, from, ahead)
+    }
+
+    #[inline(always)]
+    fn bound(&self, text: &str) -> Option<usize> {
+        string_bound(self.class, text)
+    }
+
+    #[inline(always)]
+    fn longest(&self, text: &str) -> Option<usize> {
+        longest_escaped(self.class, text)
+    }
+
+    ghost makes = { λ rule source text. applied-escape_changes rule.class source text };
+}
 
 /// The first character at or after `from`, a character boundary, that the encoder of the class
 /// replaces, and its escape.

@@ -3,9 +3,12 @@ use crate::tests::examples::is_change;
 use hesc_core::rules::escape::next_escape_ahead;
 use hesc_core::rules::html::escape::next_html_escape;
 use hesc_core::rules::strings::escape::next_string_escape;
-use hesc_core::rules::{next_body_escape, next_body_unescape, next_string_unescape, next_unescape};
+use hesc_core::rules::{
+    HtmlEscape, StringEscape, next_body_escape, next_body_unescape, next_string_unescape,
+    next_unescape, string_class,
+};
 use hesc_core::table::entities::entities_agree;
-use hesc_core::{Class, Element, Quotes};
+use hesc_core::{Class, Element, Quotes, Rule};
 use hesc_engine::Ahead;
 use html_escape::decoder::next_decoded;
 use html_escape::encoder::next_encoded;
@@ -23,6 +26,14 @@ fn encoders_change_what_they_are_said_to(rt: HostRuntime) {
     assert!(rt; is_change(found, 1, 2, "&lt;"));
     let found = next_string_escape(Class::ScriptQuoted, Element::Script, "it's", 0);
     assert!(rt; is_change(found, 2, 3, "\\'"));
+    let html = HtmlEscape { class: Class::Text };
+    assert!(rt; is_change(html.next("a<b", 0), 1, 2, "&lt;"));
+    let string = StringEscape {
+        class: Class::ScriptQuoted,
+        element: Element::Script,
+    };
+    assert!(rt; is_change(string.next("it's", 0), 2, 3, "\\'"));
+    assert!(rt; matches!(string_class(Class::ScriptQuoted), Some((Element::Script, Quotes::Both))));
     let found = next_encoded(Encoder::Text, "a<b", 0);
     assert!(rt; is_change(found, 1, 2, "&lt;"));
 }
