@@ -16,6 +16,14 @@ Progress-stop {old = old} progress piece later new first took =
     let is_left : (progress.done ++ a) ++ (c ++ later) ≡ progress.done ++ (piece ++ later) = append_assoc progress.done a (c ++ later) ∙ ap (λ bytes. progress.done ++ bytes) (sym (append_assoc a c later) ∙ ap (λ bytes. bytes ++ later) took.1.1.1) in
     (progress.done ++ a, (is_taken, (c ++ later, is_left ∙ ap (λ bytes. progress.done ++ bytes) (sym first) ∙ progress.left)))
 
+-- and after the next piece, taken whole, it has come so much further
+pub Progress-more : {old now rest text : List ℕ} → Progress old now rest text → (piece later new : List ℕ) → rest ≡ piece ++ later → new ≡ now ++ piece → Progress old new later text
+Progress-more {old = old} progress piece later new first took = record {
+  done = progress.done ++ piece;
+  taken = took ∙ rw progress.taken (append_assoc old progress.done piece);
+  left = append_assoc progress.done piece later ∙ ap (λ bytes. progress.done ++ bytes) (sym first) ∙ progress.left;
+}
+
 pub on_err : {T E P : Type 0} (result : Result T E) → P → OnErr result P
 on_err (Ok v) p = tt
 on_err (Err e) p = p
