@@ -33,7 +33,12 @@ fn encoders_change_what_they_are_said_to(rt: HostRuntime) {
         element: Element::Script,
     };
     assert!(rt; is_change(string.next("it's", 0), 2, 3, "\\'"));
-    assert!(rt; matches!(string_class(Class::ScriptQuoted), Some((Element::Script, Quotes::Both))));
+    assert!(rt;
+        matches!(
+            string_class(Class::ScriptQuoted),
+            Some((Element::Script, Quotes::Both))
+        )
+    );
     let found = next_encoded(Encoder::Text, "a<b", 0);
     assert!(rt; is_change(found, 1, 2, "&lt;"));
 }
