@@ -1,6 +1,6 @@
 //! What the encoder of a class, or of a body, makes of a text, borrowed, or appended with the output
 //! first: the order in which the checker follows a loan by itself. The functions of the ported order
-//! hand on to these. An encoder that is known where this is compiled pays for no other.
+//! hand on to these. The class is a constant in each call, so the branch by its kind is compiled away.
 ghost use Rattle.std.specs.Borrow.{sem};
 ghost use Rattle.hesc_specs.specs.Bodies.Encoding.{body_encoding};
 ghost use Rattle.hesc_specs.specs.Text.Escaped.{escape_changes, escaped};

@@ -18,8 +18,7 @@ use hesc_scan::length::{encoded_length, longest_escaped};
 use hesc_scan::scan::first_in;
 use hesc_specs::Class;
 
-/// The encoder of an HTML class. Where it is known that a class is one, a change takes no branch
-/// over the kinds of classes.
+/// The encoder of an HTML class. `Escape` takes any class, and asks at each change which kind it is.
 ///
 /// Of `Class::Text` it changes the byte 1 of `a<b` to `&lt;`.
 #[derive(Clone, Copy)]
