@@ -5,7 +5,7 @@ use Rattle.std.proofs.lemmas.Slice.Eq.{bytes_eq-Decides}
 use Rattle.hesc_specs.specs.References.Rows.{Row, common_rows, row_at, value_of}
 use Rattle.hesc_specs.specs.References.TableFaults.{is_table}
 use Rattle.hesc_specs.proofs.References.Tables.{common_value}
-use Rattle.hesc_core.specs.Table.{common_character}
+use Rattle.hesc_table.specs.Table.{common_character}
 
 module _ (rows : List Row) (good : IsTrue (is_table rows)) (name : List ℕ) (c : ℕ) where
   value_of_word : (k : ℕ) (word value : List ℕ) → k < length common_rows → (row_at common_rows k).0 ≡ word → value_of common_rows word ≡ Some value

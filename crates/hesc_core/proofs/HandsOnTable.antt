@@ -42,7 +42,7 @@ use mir.MapTy.{inst_fn}
 use denote.Param.{param}
 use denote.Ref.{shr_vals, shr_Tells}
 use denote.Signature.{shr_ref_to, named_lft}
-use Rattle.hesc_core.specs.contracts.table.EntityTable as table
+use Rattle.hesc_table.specs.contracts.EntityTable as table
 use Rattle.std.specs.declared.alloc.Allocator.{Ghosts}
 use Rattle.hesc_engine.specs.Forms.{string_row, vec_row}
 use Rattle.hesc_engine.proofs.HandsOn.{over, text_answer, bytes_answer, bytes_laws}

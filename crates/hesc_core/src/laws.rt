@@ -19,10 +19,10 @@ ghost use Rattle.hesc_specs.specs.Strings.Encoding.{IsPlain, string_encoding, st
 ghost use Rattle.hesc_specs.specs.Strings.Tokens.{knows, string_decoding};
 ghost use Rattle.hesc_specs.specs.declared.elements.Element.TheVariants.{Style};
 ghost use Rattle.hesc_specs.specs.declared.quotes.Quotes.TheVariants.{Both};
-ghost use Rattle.hesc_core.specs.Table.{rows_of};
+ghost use Rattle.hesc_table.specs.Table.{rows_of};
 
-use crate::table::EntityTable;
 use hesc_specs::{Class, Element, Quotes};
+use hesc_table::EntityTable;
 
 /// The encoding of joined texts is their encodings, joined.
 ///

@@ -3,8 +3,8 @@ ghost use Rattle.std.specs.Borrow.{sem};
 ghost use Rattle.hesc_specs.specs.References.Changes.{reference_changes};
 ghost use Rattle.hesc_specs.specs.References.Decoding.{decoded};
 ghost use Rattle.hesc_engine.specs.Forms.{AnswersPart, AnswersText, StringAppended, VecAppended, WritesText, string_room, vec_room};
-ghost use Rattle.hesc_core.specs.NamedRows.{named_rows};
-ghost use Rattle.hesc_core.specs.Table.{rows_of};
+ghost use Rattle.hesc_table.specs.NamedRows.{named_rows};
+ghost use Rattle.hesc_table.specs.Table.{rows_of};
 
 use hesc_core::EntityTable;
 use hesc_core::forms::{onto_string, onto_vec, to_cow, to_writer};

@@ -5,8 +5,8 @@ use Rattle.std.proofs.lemmas.Slice.Eq.{bytes_eq-Decides}
 use Rattle.std.specs.Str.{bytes_eq}
 use Rattle.hesc_specs.specs.References.Rows.{Row, value_of}
 use Rattle.hesc_specs.specs.References.TableFaults.{is_table}
-use Rattle.hesc_core.specs.NamedRows.{named_rows}
-use Rattle.hesc_core.specs.Rows.{are_near}
+use Rattle.hesc_table.specs.NamedRows.{named_rows}
+use Rattle.hesc_table.specs.Rows.{are_near}
 use Rattle.html_entities.specs.NamedReferences.{named_references}
 use Rattle.html_entities.proofs.GoodRows.{good_rows}
 

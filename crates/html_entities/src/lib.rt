@@ -6,8 +6,8 @@
 
 ghost use Rattle.std.specs.Prelude.{◌≡◌, Some, List, ℕ, map};
 ghost use Rattle.hesc_specs.specs.References.Rows.{value_of};
-ghost use Rattle.hesc_core.specs.NamedRows.{named_rows};
-ghost use Rattle.hesc_core.specs.Table.{rows_of};
+ghost use Rattle.hesc_table.specs.NamedRows.{named_rows};
+ghost use Rattle.hesc_table.specs.Table.{rows_of};
 ghost use Rattle.html_entities.specs.NamedReferences.{named_references};
 
 mod rows;

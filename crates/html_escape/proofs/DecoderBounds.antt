@@ -5,8 +5,8 @@ use Rattle.hesc_specs.specs.declared.quotes.Quotes.TheVariants as quotes
 use Rattle.hesc_specs.proofs.Bodies.Decoded.{body_decoding-empty, body_decoding-shorter}
 use Rattle.hesc_specs.proofs.References.Decoded.{decoded-empty, decoded-shorter}
 use Rattle.hesc_specs.proofs.Strings.Decoded.{string_decoding-empty, string_decoding-shorter}
-use Rattle.hesc_core.specs.NamedRows.{named_rows}
-use Rattle.hesc_core.proofs.NamedTable.{short-named_rows}
+use Rattle.hesc_table.specs.NamedRows.{named_rows}
+use Rattle.hesc_table.proofs.NamedTable.{short-named_rows}
 use Rattle.html_escape.specs.Decoders.{decoder_text}
 use Rattle.html_escape.specs.declared.decoder.Decoder.{Decoder}
 use Rattle.html_escape.specs.declared.decoder.Decoder.TheVariants.{HtmlEntities, Script, Style, ScriptSingleQuoted, ScriptDoubleQuoted, ScriptQuoted, StyleSingleQuoted, StyleDoubleQuoted, StyleQuoted}

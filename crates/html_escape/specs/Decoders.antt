@@ -12,7 +12,7 @@ use Rattle.hesc_specs.specs.declared.quotes.Quotes.TheVariants as quotes
 use Rattle.hesc_specs.proofs.References.Applied.{applied-reference_changes}
 use Rattle.hesc_specs.proofs.Bodies.DecodingChanges.{applied-body_decoding_changes}
 use Rattle.hesc_specs.proofs.Strings.DecodingChanges.{applied-string_decoding_changes}
-use Rattle.hesc_core.specs.NamedRows.{named_rows}
+use Rattle.hesc_table.specs.NamedRows.{named_rows}
 use Rattle.html_escape.specs.declared.decoder.Decoder.{Decoder}
 use Rattle.html_escape.specs.declared.decoder.Decoder.TheVariants.{HtmlEntities, Script, Style, ScriptSingleQuoted, ScriptDoubleQuoted, ScriptQuoted, StyleSingleQuoted, StyleDoubleQuoted, StyleQuoted}
 

@@ -4,7 +4,7 @@
 
 ghost use Rattle.std.specs.Prelude.{◌≡◌, IfOk};
 ghost use Rattle.std.specs.Cow.{cow_str_bytes};
-ghost use Rattle.hesc_core.specs.Table.{rows_of};
+ghost use Rattle.hesc_table.specs.Table.{rows_of};
 ghost use Rattle.hesc_specs.specs.References.Decoding.{decoded};
 ghost use Rattle.use_table.specs.OwnRows.{own_rows};
 

@@ -5,17 +5,17 @@ ghost use Rattle.hesc_specs.specs.References.Changes.{reference_changes};
 ghost use Rattle.hesc_specs.specs.References.Decoding.{decoded};
 ghost use Rattle.hesc_specs.proofs.References.Applied.{applied-reference_changes};
 ghost use Rattle.hesc_engine.specs.Next.{IsNext};
-ghost use Rattle.hesc_core.specs.Table.{rows_of};
+ghost use Rattle.hesc_table.specs.Table.{rows_of};
 
 mod values;
 
 use crate::rules::references::values::value_of_body;
-use crate::table::EntityTable;
-use crate::table::growth::Growth;
 use hesc_engine::ahead::Ahead;
 use hesc_engine::found::Found;
 use hesc_engine::rule::Rule;
 use hesc_scan::find::{first_byte, first_of_two};
+use hesc_table::EntityTable;
+use hesc_table::growth::Growth;
 
 /// The decoder of the references of a table.
 #[derive(Clone, Copy)]

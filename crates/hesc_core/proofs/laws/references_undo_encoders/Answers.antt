@@ -1,5 +1,5 @@
 use Rattle.hesc_specs.proofs.References.Undone.{decoded-encoding}
-use Rattle.hesc_core.specs.Table.{rows_of}
+use Rattle.hesc_table.specs.Table.{rows_of}
 use Rattle.hesc_core.proofs.laws.references_undo_encoders.Goals as goal
 
 pub returns : goal.returns

@@ -4,12 +4,12 @@ ghost use Rattle.std.specs.Option.{option_map};
 ghost use Rattle.hesc_specs.specs.References.Rows.{value_of};
 ghost use Rattle.hesc_specs.specs.References.Decoding.{body_value, is_kept_control, number_of, numbered_value, numeral};
 ghost use Rattle.hesc_specs.specs.References.Numbers.{base_of, capped};
-ghost use Rattle.hesc_core.specs.Table.{common_character as common_character_of, rows_of};
+ghost use Rattle.hesc_table.specs.Table.{common_character as common_character_of, rows_of};
 ghost use Rattle.hesc_engine.specs.Text.{replacement_bytes};
 
-use crate::table::EntityTable;
 use hesc_engine::found::Replacement;
 use hesc_engine::small_text::SmallText;
+use hesc_table::EntityTable;
 
 /// The number right after that of the last character, for which any greater one stands.
 const PAST_CHARACTERS: u32 = 0x110000;

@@ -3,7 +3,7 @@ use Rattle.std.proofs.lemmas.Bool.Decides.{nat_tests}
 use Rattle.std.proofs.lemmas.Str.{IsCharBoundary-before_ascii, IsCharBoundary-after_ascii}
 use Rattle.hesc_specs.specs.Text.FirstPlace.{IsFirstPlace}
 use Rattle.hesc_specs.proofs.References.Next.{is_start, is_stop, reached, unended, cut, unknown, replaced}
-use Rattle.hesc_core.specs.Table.{rows_of}
+use Rattle.hesc_table.specs.Table.{rows_of}
 use Rattle.hesc_engine.specs.Text.{replacement_bytes}
 use Rattle.hesc_core.proofs.rules.references.next_references.Goals as goal
 

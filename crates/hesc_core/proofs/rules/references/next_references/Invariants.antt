@@ -1,7 +1,7 @@
 use Rattle.std.proofs.Common.{◌≡◌, ◌≤◌, ◌<◌, ◌-◌, true, length, slice_index}
 use Rattle.hesc_specs.specs.References.Changes.{reference_changes}
 use Rattle.hesc_specs.proofs.References.Next.{is_start}
-use Rattle.hesc_core.specs.Table.{rows_of}
+use Rattle.hesc_table.specs.Table.{rows_of}
 use Rattle.hesc_core.proofs.rules.references.next_references.Given as goal
 
 -- the changes are those from the next `&` on, or there is none

@@ -1,7 +1,7 @@
 use Rattle.std.proofs.Common.{◌≡◌, ◌≤◌, ◌+◌, ◌*◌, ◌/◌, ℕ, Option, Some, None, IfSome, SomeIff, ap, length, arith}
 use Rattle.hesc_specs.proofs.References.Decoded.{decoded-empty, decoded-shorter}
-use Rattle.hesc_core.specs.Table.{rows_of}
-use Rattle.hesc_core.proofs.NearRows.{decoded-nearly}
+use Rattle.hesc_table.specs.Table.{rows_of}
+use Rattle.hesc_table.proofs.NearRows.{decoded-nearly}
 use Rattle.hesc_core.proofs.rules.references.ReferencesRule.bound.Goals as goal
 
 -- what holds of a sum holds of it where it can be had

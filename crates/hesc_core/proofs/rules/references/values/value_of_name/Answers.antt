@@ -1,6 +1,6 @@
 use Rattle.std.proofs.Common.{◌∙◌, ap, sym}
 use Rattle.std.specs.Prelude.{Some}
-use Rattle.hesc_core.specs.Table.{rows_of}
+use Rattle.hesc_table.specs.Table.{rows_of}
 use Rattle.hesc_core.proofs.CommonNames.{common_character-value}
 use Rattle.hesc_core.proofs.rules.references.values.value_of_name.Goals as goal
 

@@ -1,0 +1,3 @@
+mod Halving
+pub mod NamedTable
+pub mod NearRows

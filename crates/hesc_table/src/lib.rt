@@ -1,0 +1,142 @@
+//! Tables of entities: which rows make one, and the value of a name.
+#![tactic(auto)]
+
+ghost use Rattle.std.specs.Prelude.{◌≡◌, IsTrue};
+ghost use Rattle.std.specs.Option.{option_map};
+ghost use Rattle.hesc_specs.specs.References.Rows.{value_of};
+ghost use Rattle.hesc_specs.specs.References.TableFaults.{is_table};
+ghost use Rattle.hesc_table.specs.Growth.{grow_by};
+ghost use Rattle.hesc_table.specs.Rows.{are_near, rows_in};
+
+pub mod entities;
+pub mod growth;
+mod row_faults;
+
+use crate::entities::NAMED_ENTITIES;
+use crate::growth::{Growth, growth_of};
+use crate::row_faults::{COMMON_ENTITIES, fault_of_row, first_value};
+use hesc_specs::TableFault;
+use std::cmp::Ordering;
+
+/// A table of entities: rows of a name and its value, by strictly rising names of ASCII letters and
+/// digits, that have the six common names with their values.
+#[derive(Clone, Copy)]
+pub struct EntityTable<'a> {
+    rows: &'a [(&'a [u8], &'a str)],
+    growth: Growth,
+    ghost good: { IsTrue (is_table (rows_in rows.now)) },
+    ghost grows: { IsTrue (grow_by growth (rows_in rows.now)) },
+}
+
+impl EntityTable<'static> {
+    ghost use Rattle.hesc_table.specs.NamedRows.{named_rows};
+    ghost use Rattle.hesc_table.specs.Table.{rows_of};
+
+    /// The table of [`NAMED_ENTITIES`].
+    ///
+    /// `built_in().get(b"AElig")` is `Some("\u{C6}")`.
+    pub fn built_in() -> EntityTable<'static>
+        ensures { rows_of result ≡ named_rows }
+    {
+        EntityTable {
+            rows: &NAMED_ENTITIES,
+            growth: Growth::Never,
+        }
+    }
+}
+
+impl<'a> EntityTable<'a> {
+    ghost use Rattle.std.specs.Prelude.{IfOk};
+    ghost use Rattle.std.specs.Result.{result_err};
+    ghost use Rattle.hesc_specs.specs.References.TableFaults.{first_fault};
+    ghost use Rattle.hesc_table.specs.Table.{rows_of};
+
+    /// The table of these rows, or their first fault: the rows are checked in order, at each row
+    /// the faults in the order of `TableFault`, and at last whether a common name is missing.
+    ///
+    /// Of the one row `(b"amp", "&")` the fault is `MissingCommon(1)`.
+    pub fn new(rows: &'a [(&'a [u8], &'a str)]) -> Result<EntityTable<'a>, TableFault>
+        ensures made { IfOk result (λ table. rows_of table ≡ rows_in rows.now) }
+        ensures fault { result_err result ≡ first_fault (rows_in rows.now) }
+    {
+        for i in 0..rows.len() {
+            if let Some(fault) = fault_of_row(rows, i) {
+                return Err(fault);
+            }
+        }
+        for k in 0..COMMON_ENTITIES.len() {
+            if first_value(rows, COMMON_ENTITIES[k].0).is_none() {
+                return Err(TableFault::MissingCommon(k));
+            }
+        }
+        let growth = growth_of(rows);
+        Ok(EntityTable { rows, growth })
+    }
+
+    /// The table of rows that are shown to have no fault: nothing is checked when this is called.
+    ///
+    /// A crate `use_table` has a caller: with the row `(b"hearts", "\u{2665}")` among the common ones,
+    /// `I &hearts; &lt;b&gt;` is decoded to `I \u{2665} <b>`.
+    pub fn of(rows: &'a [(&'a [u8], &'a str)]) -> EntityTable<'a>
+        requires { IsTrue (is_table (rows_in rows.now)) }
+        ensures { rows_of result ≡ rows_in rows.now }
+    {
+        EntityTable {
+            rows,
+            growth: Growth::Unknown,
+        }
+    }
+
+    /// The same of rows whose values are also shown to be at most a fifth longer than their
+    /// references, as all of HTML's are: decoding then asks for its room without counting first.
+    ///
+    /// `html_entities()` of the crate `html_entities` is made so: its `get(b"hearts")` is
+    /// `Some("\u{2665}")`.
+    pub fn of_near(rows: &'a [(&'a [u8], &'a str)]) -> EntityTable<'a>
+        requires table { IsTrue (is_table (rows_in rows.now)) }
+        requires near { IsTrue (are_near (rows_in rows.now)) }
+        ensures { rows_of result ≡ rows_in rows.now }
+    {
+        EntityTable {
+            rows,
+            growth: Growth::AtMostAFifth,
+        }
+    }
+
+    /// The value of exactly this name, found by halving the rows.
+    ///
+    /// Of the built-in table, `get(b"amp")` is `Some("&")`, and `get(b"copy")` is `None`.
+    pub fn get(&self, name: &[u8]) -> Option<&'a str>
+        ensures { option_map (λ value. value.now) result ≡ value_of (rows_of self.now) name.now }
+    {
+        let mut low = 0;
+        let mut high = self.rows.len();
+        'halving: while low < high {
+            let middle = low + (high - low) / 2;
+            match self.rows[middle].0.cmp(name) {
+                Ordering::Less => low = middle + 1,
+                Ordering::Greater => high = middle,
+                Ordering::Equal => return Some(self.rows[middle].1),
+            }
+        }
+        None
+    }
+
+    /// How much longer than its source a decoded text may be.
+    ///
+    /// Of the built-in table it is `Growth::Never`.
+    pub fn growth(&self) -> Growth
+        ensures { IsTrue (grow_by result (rows_of self.now)) }
+    {
+        self.growth
+    }
+
+    /// The rows that the table was made of, in order.
+    ///
+    /// Of the built-in table they are 77, of which the first is `(b"AElig", "\u{C6}")`.
+    pub fn rows(&self) -> &'a [(&'a [u8], &'a str)]
+        ensures { rows_in result.now ≡ rows_of self.now }
+    {
+        self.rows
+    }
+}
