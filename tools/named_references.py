@@ -50,7 +50,7 @@ def definition(named):
         f"-- HTML Standard, 13.5 Named character references, the names that end in `;`. {BY}",
         "use Rattle.std.specs.Prelude.{ℕ, List, [], ◌∷◌, ◌++◌, codes, encode_utf8}",
         "use Rattle.hesc_specs.specs.References.Rows.{Row}",
-        "use Rattle.hesc_core.specs.NamedRows.{named}",
+        "use Rattle.hesc_table.specs.NamedRows.{named}",
         "",
         "-- the row of a name and two code points",
         "abbrev pub named_pair : List ℕ → ℕ → ℕ → Row",

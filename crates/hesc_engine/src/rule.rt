@@ -74,7 +74,7 @@ pub trait Rule {
     /// An upper bound of the length of the rule's text, computed without scanning for changes, and 0
     /// where the text is empty; `None` where the rule knows none.
     ///
-    /// Of the encoder of a script's strings and `it's` it is 7, where the rule's text has 5 bytes.
+    /// Of the encoder of a script's strings and `\u{20AC}` it is 6, where the rule's text has 3 bytes.
     #[inline(always)]
     fn bound(&self, text: &str) -> Option<usize>
         ensures enough { IfSome result (λ bound. length (made self.now text.now) ≤ bound) }

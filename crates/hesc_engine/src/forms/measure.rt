@@ -23,8 +23,8 @@ pub fn measure<R: Rule>(rule: &R, text: &str) -> Result<usize, CountOverflow>
 /// the rule gives an upper bound, the text is not scanned for changes, unless the bound asks for
 /// memory that the length itself may not need.
 ///
-/// Of the encoder of a script's strings and `it's` it is 7, an upper bound, where nothing is spare,
-/// and 5 where 5 bytes are.
+/// Of the encoder of a script's strings and `\u{20AC}` it is 6, an upper bound, where nothing is spare,
+/// and 3 where 3 bytes are.
 #[inline(always)]
 pub fn room_for<R: Rule>(rule: &R, text: &str, spare: usize) -> Result<usize, CountOverflow>
     ensures enough { IfOk result (λ room. length (R.made rule.now text.now) ≤ room) }

@@ -1,5 +1,5 @@
 -- How long an encoding is at most, by the length of its text.
-use Rattle.std.proofs.Common.{◌≡◌, ℕ, ◌*◌, ◌≤◌, ◌<◌, List, [], Option, Some, None, length, IfSome, IsUtf8, refl, ap, arith}
+use Rattle.std.proofs.Common.{◌≡◌, ℕ, ◌*◌, ◌≤◌, ◌<◌, List, [], Option, Some, None, length, IfSome, IsUtf8, refl, sym, ap, ◌∙◌, arith}
 use Rattle.std.specs.Prelude.{SomeIff}
 use Rattle.std.proofs.lemmas.List.Sums.{count_by-le-length}
 use Rattle.std.specs.Simd.Lanes.{Each1}
@@ -12,7 +12,7 @@ use Rattle.hesc_specs.specs.declared.elements.Element.{Element}
 use Rattle.hesc_specs.specs.declared.quotes.Quotes.{Quotes}
 use Rattle.hesc_specs.proofs.Strings.Bound.{empty-string_encoding, length-string_encoding}
 use Rattle.hesc_scan.proofs.Lengths.HtmlSums.{adds_up-all, length-encoding}
-use Rattle.hesc_scan.proofs.Lengths.StringSums.{adds_up}
+use Rattle.hesc_scan.proofs.Lengths.StringSums.{adds_up-all as string-adds_up}
 
 -- a product that was checked
 pub product : (r : Option ℕ) (P : Type 0) (n : ℕ) → SomeIff r P n → IfSome r (λ count. count ≡ n)
@@ -23,15 +23,15 @@ longest_html : (class : Class) → string_class class ≡ None → (text : List 
 longest_html class html text below =
     omega (arith, length-encoding class text, adds_up-all class html text below, count_by-le-length (in_class class) text)
 
-longest_string : (class : Class) (element : Element) (quotes : Quotes) → string_class class ≡ Some (element, quotes) → (text : List ℕ) → IsUtf8 text
+longest_string : (class : Class) (element : Element) (quotes : Quotes) → string_class class ≡ Some (element, quotes) → (text : List ℕ) → IsUtf8 text → Each1 (λ b. b < 256) text
     → length (string_encoding element quotes text) ≤ length text * 6
-longest_string class element quotes is text utf8 =
-    omega (arith, length-string_encoding class element quotes is text utf8, adds_up class text, count_by-le-length (in_class class) text)
+longest_string class element quotes is text utf8 below =
+    omega (arith, length-string_encoding class element quotes is text utf8, string-adds_up class (λ none. cc (sym is ∙ none)) text below, count_by-le-length (in_class class) text)
 
 longest_by : (class : Class) (string : Option (Element × Quotes)) → string_class class ≡ string → (text : List ℕ) → IsUtf8 text → Each1 (λ b. b < 256) text
     → length (by_class string (encoding class) string_encoding text) ≤ length text * 6
 longest_by class None is text utf8 below = longest_html class is text below
-longest_by class (Some s) is text utf8 below = longest_string class s.0 s.1 is text utf8
+longest_by class (Some s) is text utf8 below = longest_string class s.0 s.1 is text utf8 below
 
 pub longest : (class : Class) (text : List ℕ) → IsUtf8 text → Each1 (λ b. b < 256) text → length (escaped class text) ≤ length text * 6
 longest class text utf8 below = longest_by class (string_class class) refl text utf8 below

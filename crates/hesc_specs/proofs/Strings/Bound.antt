@@ -18,16 +18,16 @@ use Rattle.hesc_specs.specs.declared.quotes.Quotes.{Quotes}
 use Rattle.hesc_specs.proofs.Strings.CharacterBytes.{begins_escaped-character, encode-line_separator, encode-paragraph_separator, encode-replacement_character, is_escaped-cases}
 use Rattle.hesc_specs.proofs.Text.SomeImages.{some-string_image}
 
--- an ASCII character becomes four bytes at most, and a separator, which has three, six
+-- a mark becomes two bytes, any other ASCII character four at most, and a separator, which has three, six
 abbrev pub added_length : Class → ℕ → ℕ
-added_length class b = if in_class class b then 3 else 0
+added_length class b = if in_class class b then (if is_mark b then 1 else 3) else 0
 
 -- the escape of an ASCII character
-mark_or_number : (mark : Bool) (c : ℕ) (number : List ℕ) → length number ≡ 4 → length (if mark then backslash ∷ c ∷ [] else number) ≤ 4
+mark_or_number : (mark : Bool) (c : ℕ) (number : List ℕ) → length number ≡ 4 → length (if mark then backslash ∷ c ∷ [] else number) ≤ 1 + (if mark then 1 else 3)
 mark_or_number true c number long = omega arith
 mark_or_number false c number long = omega arith
 
-length-string_escape : (element : Element) (c : ℕ) → c < 128 → length (string_escape element c) ≤ 4
+length-string_escape : (element : Element) (c : ℕ) → c < 128 → length (string_escape element c) ≤ 1 + (if is_mark c then 1 else 3)
 length-string_escape Script c small =
     rw (ne_eqb c line_separator (λ is. omega arith), ne_eqb c paragraph_separator (λ is. omega arith))
     (mark_or_number (is_mark c) c (backslash ∷ lower_x ∷ hex_digit (c / 16) ∷ hex_digit (c % 16) ∷ []) refl)

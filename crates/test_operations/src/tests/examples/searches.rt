@@ -32,5 +32,5 @@ fn openings_are_found_as_they_are_said_to_be(rt: HostRuntime) {
 fn lengths_are_as_they_are_said_to_be(rt: HostRuntime) {
     assert!(rt; body_bound(b"</script>") == Some(10));
     assert!(rt; encoded_length(Class::Text, b"a<b") == Some(6));
-    assert!(rt; string_bound(Class::ScriptQuoted, "it's") == Some(7));
+    assert!(rt; string_bound(Class::ScriptQuoted, "it's") == Some(5));
 }

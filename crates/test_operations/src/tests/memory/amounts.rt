@@ -9,9 +9,9 @@ use test_support::Refusing;
 use test_support::amounts::{SMALL, TEXTS, text_of};
 use test_support::operations::OPERATIONS;
 
-// How much a form reserves for what it makes of the text. The length is measured of what the HTML
-// encoders make. The other encoders reserve a bound of it, at most twice the length. A decoder
-// reserves the length of the source.
+// How much a form reserves for what it makes of the text: the length of what an encoder of HTML or of
+// strings makes, and of strings three bytes more at most for each byte E2 and one for each NUL; a bound
+// of a body's, at most twice the length. A decoder reserves the length of the source.
 fn reserved(of: Call<'_>, text: &str, made: &str) -> usize {
     match of {
         Call::Of(Operation::Encode(encoder)) => match encoder {
@@ -22,11 +22,22 @@ fn reserved(of: Call<'_>, text: &str, made: &str) -> usize {
             | Encoder::QuotedAttribute
             | Encoder::Safe
             | Encoder::UnquotedAttribute => made.len(),
-            _ => made.len().saturating_mul(2),
+            Encoder::Script | Encoder::Style => made.len().saturating_mul(2),
+            _ => made.len().saturating_add(over_counted(text)),
         },
         Call::Of(Operation::Decode(_)) | Call::By(_) => text.len().max(made.len()),
         Call::Planted(_) => made.len(),
     }
+}
+
+fn over_counted(text: &str) -> usize {
+    let mut count: usize = 0;
+    for &byte in text.as_bytes() {
+        if byte == 0xE2 || byte == 0 {
+            count = count.saturating_add(3);
+        }
+    }
+    count
 }
 
 #[test]
