@@ -65,22 +65,25 @@ module _ (test : ℕ → Bool) (bytes found : List ℕ) (from place n mask : ℕ
   is : mask ≡ mask_l (map test (chunk place n bytes))
   is = masks ∙ ap (λ l. mask_l (map test l)) there
 
+  counted : 0 < mask → count_trailing_zeros 64 mask ≡ prefix_len (λ x. not (test x)) (chunk place n bytes)
+  counted some = ap (count_trailing_zeros 64) is ∙ trailing_mask_l test 64 (chunk place n bytes) (omega (arith, length-chunk place n bytes room)) (omega (arith, is, some))
+
+  short : 0 < mask → count_trailing_zeros 64 mask < n
+  short some = omega (arith, counted some, length-chunk place n bytes room, stops test (chunk place n bytes) (omega (arith, is, some)))
+
+  pub inside_by_mask_of : 0 < mask → place + count_trailing_zeros 64 mask < length bytes
+  inside_by_mask_of some = omega (arith, room, short some)
+
   pub first_by_mask_of : 0 < mask → IsFirstPlace test bytes from (place + count_trailing_zeros 64 mask)
-  first_by_mask_of some =
-      let long = length-chunk place n bytes room in
-      let set : 0 < mask_l (map test (chunk place n bytes)) = omega (arith, is) in
-      let counted : count_trailing_zeros 64 mask ≡ prefix_len (λ x. not (test x)) (chunk place n bytes) =
-      ap (count_trailing_zeros 64) is ∙ trailing_mask_l test 64 (chunk place n bytes) (omega (arith, long)) set in
-      let short : count_trailing_zeros 64 mask < n = omega (arith, counted, long, stops test (chunk place n bytes) set) in
-      record {
-        ordered = omega arith;
-        in_range = omega (arith, room);
-        before = λ k from_k below. elim (cases_lt k place) [
-          | inl earlier ↦ none k from_k earlier
-          | inr later ↦ run_in_chunk_fails test bytes place n _ 0 room counted k later below
-        ];
-        found = λ _. run_in_chunk_stops test bytes place n _ 0 room counted short;
-      }
+  first_by_mask_of some = record {
+    ordered = omega arith;
+    in_range = omega (arith, inside_by_mask_of some);
+    before = λ k from_k below. elim (cases_lt k place) [
+      | inl earlier ↦ none k from_k earlier
+      | inr later ↦ run_in_chunk_fails test bytes place n _ 0 room (counted some) k later below
+    ];
+    found = λ _. run_in_chunk_stops test bytes place n _ 0 room (counted some) (short some);
+  }
 
   pub none_by_mask_of : mask ≡ 0 → (k : ℕ) → from ≤ k → k < place + n → test (get_or bytes k 0) ≡ false
   none_by_mask_of empty k from_k below = elim (cases_lt k place) [
@@ -111,6 +114,9 @@ module _ (test : ℕ → Bool) (bytes : List ℕ) (from place n mask : ℕ) (few
   pub first_by_part : 0 < mask → IsFirstPlace test bytes from (place + count_trailing_zeros 64 mask)
   first_by_part = first_by_mask_of test bytes (take n (drop place bytes)) from place there mask (omega arith) (omega arith) same after none masks
 
+  pub inside_by_part : 0 < mask → place + count_trailing_zeros 64 mask < length bytes
+  inside_by_part = inside_by_mask_of test bytes (take n (drop place bytes)) from place there mask (omega arith) (omega arith) same after none masks
+
   pub none_by_part : mask ≡ 0 → (k : ℕ) → from ≤ k → k < length bytes → k < place + n → test (get_or bytes k 0) ≡ false
   none_by_part empty k from_k inside below = none_by_mask_of test bytes (take n (drop place bytes)) from place there mask (omega arith) (omega arith) same after none masks empty k from_k (omega arith)
 
@@ -128,6 +134,9 @@ first_of_block test bytes from reached place mask later none first some =
       | inl earlier ↦ none k from_k earlier
       | inr following ↦ first.before k following below
     ]) first.is_mask some
+
+pub inside_of_block : (test : ℕ → Bool) (bytes : List ℕ) (from place mask : ℕ) → IsFirstBlock test bytes from place mask → 0 < mask → place + count_trailing_zeros 64 mask < length bytes
+inside_of_block test bytes from place mask first some = inside_by_part test bytes from place 32 mask (omega arith) first.within first.ordered first.before first.is_mask some
 
 pub none_in_blocks : (test : ℕ → Bool) (bytes : List ℕ) (from reached place mask : ℕ) → from ≤ reached → ((k : ℕ) → from ≤ k → k < reached → test (get_or bytes k 0) ≡ false)
     → IsFirstBlock test bytes reached place mask → mask ≡ 0 → IsFirstPlace test bytes from place

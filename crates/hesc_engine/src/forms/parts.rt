@@ -164,8 +164,9 @@ fn append_by_stack<const N: usize, P: Parts, A: Allocator>(
     Some(append_kept_to_vec(output, short.as_str()))
 }
 
-// By one request for as much room as is found out first.
-#[inline(always)]
+// By one request for as much room as is found out first. A call of its own, so that a short text takes
+// no more registers than it needs.
+#[inline(never)]
 fn append_measured<P: Parts, A: Allocator>(
     output: &mut Vec<u8, A>,
     parts: &P,

@@ -1,5 +1,5 @@
 //! Escaping by an HTML class: each byte of the class becomes its reference.
-ghost use Rattle.std.specs.Prelude.{◌≡◌, [], IfNone, IfSome};
+ghost use Rattle.std.specs.Prelude.{◌≡◌, ◌<◌, [], length, IfNone, IfSome};
 ghost use Rattle.std.specs.Str.{IsCharBoundary};
 ghost use Rattle.hesc_specs.specs.Text.Changes.{html_changes};
 ghost use Rattle.hesc_specs.specs.Text.Classes.{IsHtml, in_class};
@@ -72,7 +72,10 @@ pub fn next_html_escape(class: Class, text: &str, from: usize) -> Option<Found<'
     ensures found { IfSome result (IsNext text.now from (html_changes class text.now)) }
 {
     let start = first_in(class, text.as_bytes(), from);
-    html_escape_at(class, text, from, start)
+    if start == text.len() {
+        return None;
+    }
+    Some(html_escape_at(class, text, from, start))
 }
 
 /// The same, by what is known of the bytes ahead.
@@ -90,25 +93,23 @@ pub(crate) fn next_html_escape_ahead(
     ensures found { IfSome result (IsNext text.now from (html_changes class text.now)) }
     ensures ahead { IsAhead text.now ahead.new }
 {
-    let start = next_hit(class, text, from, ahead);
-    html_escape_at(class, text, from, start)
+    match next_hit(class, text, from, ahead) {
+        Some(start) => Some(html_escape_at(class, text, from, start)),
+        None => None,
+    }
 }
 
 // The change at the first byte of the class.
 #[inline(always)]
-fn html_escape_at(class: Class, text: &str, from: usize, start: usize) -> Option<Found<'static>>
+fn html_escape_at(class: Class, text: &str, from: usize, start: usize) -> Found<'static>
     requires html { IsHtml class }
     requires first { IsFirstPlace (in_class class) text.now from start }
-    ensures none { IfNone result (html_changes class text.now from ≡ []) }
-    ensures found { IfSome result (IsNext text.now from (html_changes class text.now)) }
+    requires inside { start < length text.now }
+    ensures { IsNext text.now from (html_changes class text.now) result }
 {
-    let bytes = text.as_bytes();
-    if start == bytes.len() {
-        return None;
-    }
-    Some(Found {
+    Found {
         start,
         end: start + 1,
-        replacement: Replacement::Small(reference(bytes[start])),
-    })
+        replacement: Replacement::Small(reference(text.as_bytes()[start])),
+    }
 }
