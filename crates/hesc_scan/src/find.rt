@@ -19,12 +19,13 @@ pub fn first_byte(byte: u8, bytes: &[u8], from: usize) -> usize
     requires { from ≤ length bytes.now }
     ensures { IsFirstPlace (is_byte byte) bytes.now from result }
 {
-    // Where there are many, the next is often right here, or else near, and no call is made for it.
-    if from < bytes.len() && bytes[from] == byte {
-        return from;
-    }
+    // Where there are many, the next is often near, and no call is made for it. The first byte is not
+    // looked at by itself where there are 32: their load would be made of pieces.
     let (chunks, _) = bytes[from..].as_chunks::<32>();
     if chunks.is_empty() {
+        if from < bytes.len() && bytes[from] == byte {
+            return from;
+        }
         return first_byte_near(byte, bytes, from);
     }
     let mask = hits_of_one(byte, u8x32::from_array(chunks[0]));

@@ -68,6 +68,6 @@ impl<R: Rule> Parts for Made<'_, R> {
         if self.text.len() > 64 {
             return None;
         }
-        Some(6 * self.text.len())
+        self.rule.longest(self.text).or(Some(6 * self.text.len()))
     }
 }
