@@ -1,11 +1,12 @@
 //! A rule's text as a text that is borrowed where nothing changes.
-ghost use Rattle.std.specs.Prelude.{◌≡◌, IfOk};
+ghost use Rattle.std.specs.Prelude.{◌≡◌, ◌≤◌, IfOk};
 ghost use Rattle.std.specs.String.{string_bytes};
 ghost use Rattle.hesc_engine.specs.Forms.{AnswersText};
 
 use crate::forms::made::Made;
-use crate::forms::parts::{Parts, append_parts_to_vec};
+use crate::forms::parts::{Parts, SMALL_BOUND, SMALL_STACK, STACK, append_measured};
 use crate::rule::Rule;
+use crate::sinks::stack::StackSink;
 use std::alloc::{AllocError, Allocator};
 use std::borrow::CowStr;
 
@@ -32,8 +33,35 @@ pub fn to_cow<'t, R: Rule, A: Allocator>(
 fn new_string<P: Parts, A: Allocator>(alloc: A, parts: &P) -> Result<String<A>, AllocError>
     ensures { IfOk result (λ string. string_bytes string ≡ P.text parts.now) }
 {
+    match parts.short_bound() {
+        Some(bound) if bound <= SMALL_BOUND => new_by_stack::<SMALL_STACK, P, A>(alloc, parts),
+        Some(_) => new_by_stack::<STACK, P, A>(alloc, parts),
+        None => new_measured(alloc, parts),
+    }
+}
+
+// Made on the stack, so that its length is known before memory is asked for.
+#[inline(never)]
+fn new_by_stack<const N: usize, P: Parts, A: Allocator>(
+    alloc: A,
+    parts: &P,
+) -> Result<String<A>, AllocError>
+    requires { N ≤ 416 }
+    ensures { IfOk result (λ string. string_bytes string ≡ P.text parts.now) }
+{
+    let mut short = StackSink::<N>::new();
+    if parts.put_into(&mut short).is_ok() {
+        return String::from_str(alloc, short.as_str());
+    }
+    new_measured(alloc, parts)
+}
+
+#[inline(never)]
+fn new_measured<P: Parts, A: Allocator>(alloc: A, parts: &P) -> Result<String<A>, AllocError>
+    ensures { IfOk result (λ string. string_bytes string ≡ P.text parts.now) }
+{
     let mut bytes = Vec::new(alloc);
-    append_parts_to_vec(&mut bytes, parts)?;
+    append_measured(&mut bytes, parts)?;
     // What is made of a text is a text.
     Ok(unsafe { String::from_utf8_unchecked(bytes) })
 }

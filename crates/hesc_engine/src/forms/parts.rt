@@ -15,9 +15,12 @@ use std::alloc::{AllocError, Allocator};
 
 /// The bytes of the two arrays on the stack that a text is made in: at most 96 or 384, and a block
 /// after them.
-const SMALL_STACK: usize = 128;
+pub(crate) const SMALL_STACK: usize = 128;
 
-const STACK: usize = 416;
+pub(crate) const STACK: usize = 416;
+
+/// The longest text that is made in the smaller one.
+pub(crate) const SMALL_BOUND: usize = 96;
 
 /// A text as the parts that are put into a sink, one after another.
 pub trait Parts {
@@ -135,7 +138,7 @@ fn append_short<P: Parts, A: Allocator>(
         → IfSome result (λ outcome. IsOk outcome) }
     ensures utf8 { IfSome result (λ outcome. OnOk outcome (IsUtf8 (P.text parts.now))) }
 {
-    if bound <= 96 {
+    if bound <= SMALL_BOUND {
         append_by_stack::<SMALL_STACK, P, A>(output, parts)
     } else {
         append_by_stack::<STACK, P, A>(output, parts)
@@ -167,7 +170,7 @@ fn append_by_stack<const N: usize, P: Parts, A: Allocator>(
 // By one request for as much room as is found out first. A call of its own, so that a short text takes
 // no more registers than it needs.
 #[inline(never)]
-fn append_measured<P: Parts, A: Allocator>(
+pub(crate) fn append_measured<P: Parts, A: Allocator>(
     output: &mut Vec<u8, A>,
     parts: &P,
 ) -> Result<(), AllocError>
