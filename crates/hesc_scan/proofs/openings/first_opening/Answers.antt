@@ -2,7 +2,7 @@ use Rattle.std.proofs.Common.{◌≡◌, ◌+◌, false, ◌∷◌, drop, sym, a
 use Rattle.std.proofs.lemmas.List.{take_rest}
 use Rattle.hesc_specs.specs.Text.Ascii.{less_than}
 use Rattle.hesc_specs.specs.Bodies.Openings.{is_opening}
-use Rattle.hesc_scan.proofs.OpeningSearch.{Nowhere, further, past, is_opening-needs}
+use Rattle.hesc_scan.proofs.OpeningSearch.{Nowhere, at_less_than, further, past, is_opening-needs}
 use Rattle.hesc_scan.proofs.openings.first_opening.Goals as goal
 
 pub seeking-init : goal.seeking-init
@@ -27,4 +27,16 @@ seeking-preserved c =
       within = first.in_range;
       none = further (is_opening c.args.element) (is_opening-needs c.args.element) c.args.bytes.now c.args.from (c.seeking.place + 1) c.first_byte-place-in-seeking.result tried first;
       begins = first.found;
+    }
+
+pub returns-then-completes_opening : goal.returns-then-completes_opening
+returns-then-completes_opening c =
+    let bytes = c.args.bytes.now in
+    let place = c.seeking.place in
+    let before = c.seeking.invariant in
+    record {
+      ordered = before.ordered;
+      in_range = before.within;
+      before = before.none;
+      found = λ inside. rw (at_less_than bytes place inside (before.begins inside)) (rw (take_rest bytes (place + 1)) at (sym c.if-completes_opening.ensures));
     }

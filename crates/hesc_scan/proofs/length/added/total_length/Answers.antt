@@ -1,4 +1,4 @@
-use Rattle.std.proofs.Common.{◌≡◌, ℕ, ◌+◌, ◌*◌, ◌/◌, ◌<◌, ◌^◌, List, length, take, drop, rules, refl, sym, ap, ◌∙◌, arith}
+use Rattle.std.proofs.Common.{◌≡◌, ℕ, ◌+◌, ◌-◌, ◌*◌, ◌/◌, ◌<◌, ◌^◌, List, length, take, drop, rules, refl, sym, ap, ◌∙◌, arith}
 use Rattle.std.proofs.lemmas.List.Sums.{sum_by-append, sum_by-take-drop, sum_by-take-le}
 use Rattle.std.proofs.Math.Seq.{take-add}
 use Rattle.std.specs.List.{sum_by}
@@ -53,7 +53,8 @@ all_counted g c =
     let f = g.L.AddedLength.of_byte c.args.added.now in
     let chunks = c.as_chunks.ensures in
     let whole = sum_whole f c.args.bytes.now _ c.loop-chunk.chunk-index (omega arith) chunks.back in
-    let rest = c.rest.ensures ∙ ap (λ n. drop n c.args.bytes.now) (omega (arith, chunks.back_len)) ∙ sym chunks.back in
+    let place : length c.args.bytes.now - length c.as_chunks.result.1.now ≡ length c.args.bytes.now / 32 * 32 = omega (arith, chunks.back_len) in
+    let rest = c.rest.ensures ∙ ap (λ n. drop n c.args.bytes.now) place ∙ sym chunks.back in
     omega (arith, whole, c.loop-chunk.invariant, c.of_block-2.ensures, ap (sum_by f) rest)
 
 pub returns-clause-count : goal.returns-clause-count
