@@ -1,4 +1,6 @@
-use Rattle.std.proofs.Common.{ap, arith, length, length-append, ℕ}
+use Rattle.std.proofs.Common.{◌∙◌, ap, append_assoc, arith, length, length-append, ℕ}
+use Rattle.hesc_specs.specs.Text.Parts.{joined}
+use Rattle.hesc_engine.specs.Pieces.{parts_left, segment_bytes}
 use Rattle.hesc_engine.proofs.Progress.{TookBeginning-front, TookBeginning-following, on_err, on_err-some, then_on_err, then_on_ok}
 use Rattle.hesc_engine.proofs.engine.run_made.Goals as goal
 
@@ -28,3 +30,7 @@ returns-clause-room g c =
 
 pub returns-clause-err_some : goal.returns-clause-err_some
 returns-clause-err_some g c = on_err-some c.put_left.result _ _ (returns-clause-fits g c)
+
+pub returns-clause-ok_taken : goal.returns-clause-ok_taken
+returns-clause-ok_taken g c =
+    then_on_ok c.put_left.result (λ taken. taken ∙ rw (c.in_ok-put_segment.ensures.ok_taken, c.after_first.ensures.made) (append_assoc (g.S.Sink.taken c.args.sink.now) (segment_bytes c.after_first.result.0) (joined (parts_left c.after_first.result.1)))) c.put_left.ensures.ok_taken

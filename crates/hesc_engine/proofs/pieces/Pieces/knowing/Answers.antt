@@ -14,3 +14,6 @@ returns-clause-few g c = parts-few c.args.text.now 0 (g.R.Rule.changes_from c.ar
 
 pub returns-clause-pieces : goal.returns-clause-pieces
 returns-clause-pieces g c = refl
+
+pub returns-clause-begins : goal.returns-clause-begins
+returns-clause-begins g c = λ found next. ((refl, refl), next)
