@@ -5,7 +5,7 @@ ghost use Rattle.hesc_engine.specs.Next.{IsNext};
 use crate::ahead::Ahead;
 use crate::engine::run_made;
 use crate::forms::measure::room_for;
-use crate::forms::parts::Parts;
+use crate::forms::parts::{Parts, STACK_BOUND};
 use crate::found::Found;
 use crate::rule::Rule;
 use crate::sink::Sink;
@@ -62,12 +62,12 @@ impl<R: Rule> Parts for Made<'_, R> {
         room_for(self.rule, self.text, spare)
     }
 
-    // No byte becomes more than six, but by a table's value.
+    // A decoded text is no longer than its source, so it is short more often than an encoded one.
     #[inline(always)]
     fn short_bound(&self) -> Option<usize> {
-        if self.text.len() > 64 {
-            return None;
+        match self.rule.longest(self.text) {
+            Some(longest) if longest <= STACK_BOUND => Some(longest),
+            _ => None,
         }
-        self.rule.longest(self.text).or(Some(6 * self.text.len()))
     }
 }

@@ -13,14 +13,15 @@ use crate::sinks::stack::StackSink;
 use core::mem::replace_with;
 use std::alloc::{AllocError, Allocator};
 
-/// The bytes of the two arrays on the stack that a text is made in: at most 96 or 384, and a block
-/// after them.
+/// The bytes of the two arrays on the stack that a text is made in, and the longest text that is made in
+/// each: a block more fits after it.
 pub(crate) const SMALL_STACK: usize = 128;
+
+pub(crate) const SMALL_BOUND: usize = 96;
 
 pub(crate) const STACK: usize = 416;
 
-/// The longest text that is made in the smaller one.
-pub(crate) const SMALL_BOUND: usize = 96;
+pub(crate) const STACK_BOUND: usize = 384;
 
 /// A text as the parts that are put into a sink, one after another.
 pub trait Parts {
