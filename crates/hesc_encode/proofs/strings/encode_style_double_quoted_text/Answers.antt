@@ -1,0 +1,4 @@
+use Rattle.hesc_encode.proofs.strings.encode_style_double_quoted_text.Goals as goal
+
+pub returns : goal.returns
+returns g c = c.encode_to_cow.ensures
