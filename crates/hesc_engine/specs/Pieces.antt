@@ -1,5 +1,5 @@
 -- The parts that pieces stand for, and those that are still to come.
-use Rattle.std.specs.Prelude.{◌≡◌, ℕ, ◌+◌, ◌-◌, List, [], ◌∷◌, ◌++◌, Option, Some, None, false, length, if◌then◌else◌}
+use Rattle.std.specs.Prelude.{◌≡◌, ℕ, ◌+◌, ◌-◌, List, [], ◌∷◌, ◌++◌, Option, Some, None, drop, false, length, if◌then◌else◌}
 use Rattle.hesc_specs.specs.Text.Parts.{Part, kept, fresh, parts}
 use Rattle.hesc_engine.specs.Text.{replacement_bytes}
 use Rattle.hesc_engine.specs.Next.{IsNext}
@@ -32,10 +32,18 @@ parts_left {rules = rules} pieces =
 abbrev pub IsAtSegment : {R : Type 0} {rules : Ghosts R} → Pieces R rules → Type 0
 IsAtSegment pieces = pieces.pending ≡ None
 
+-- and the stretch after all changes is still to come
+abbrev pub IsBeforeRest : {R : Type 0} {rules : Ghosts R} → Pieces R rules → Type 0
+IsBeforeRest pieces = IsAtSegment pieces × (pieces.is_done ≡ false)
+
+-- the source from where the pieces have come to
+abbrev pub rest_bytes : {R : Type 0} {rules : Ghosts R} → Pieces R rules → List ℕ
+rest_bytes pieces = drop pieces.from pieces.text.now
+
 -- and the next segment ends with this change
 abbrev pub IsFoundNext : {R : Type 0} {rules : Ghosts R} → Pieces R rules → Found → Type 0
 IsFoundNext {rules = rules} pieces found =
-    (IsAtSegment pieces × (pieces.is_done ≡ false)) × IsNext pieces.text.now pieces.from (rules.changes_from pieces.rule.now pieces.text.now) found
+    IsBeforeRest pieces × IsNext pieces.text.now pieces.from (rules.changes_from pieces.rule.now pieces.text.now) found
 
 -- the stretch of a segment, unless it is empty
 abbrev pub stretch_of : Segment → List Part

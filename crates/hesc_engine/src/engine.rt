@@ -2,7 +2,7 @@
 ghost use Rattle.std.specs.Prelude.{◌≡◌, ◌≢◌, ◌≤◌, ◌<◌, ◌+◌, [], ◌++◌, length, IsOk, OnOk, OnErr};
 ghost use Rattle.hesc_specs.specs.Text.Beginning.{TookBeginning};
 ghost use Rattle.hesc_specs.specs.Text.Parts.{joined};
-ghost use Rattle.hesc_engine.specs.Pieces.{IsAtSegment, parts_left};
+ghost use Rattle.hesc_engine.specs.Pieces.{IsBeforeRest, parts_left};
 
 use crate::forms::made::Made;
 use crate::pieces::Pieces;
@@ -58,7 +58,7 @@ pub fn run_made<R: Rule, S: Sink>(made: &Made<'_, R>, sink: &mut S) -> Result<()
 // Hands all segments that are left to the sink.
 #[inline(always)]
 fn put_left<R: Rule, S: Sink>(pieces: &mut Pieces<'_, R>, sink: &mut S) -> Result<(), S::Fault>
-    requires { IsAtSegment pieces.old }
+    requires { IsBeforeRest pieces.old }
     ensures ok_taken { OnOk result
         (S.taken sink.new ≡ S.taken sink.old ++ joined (parts_left pieces.old)) }
     ensures ok_failures { OnOk result (S.failures sink.new ≡ S.failures sink.old) }
@@ -71,8 +71,8 @@ fn put_left<R: Rule, S: Sink>(pieces: &mut Pieces<'_, R>, sink: &mut S) -> Resul
     ensures same_reference { S.reference sink.new ≡ S.reference sink.old }
     ensures same_before { S.before sink.new ≡ S.before sink.old }
 {
-    'putting: while let Some(segment) = pieces.segment() {
+    'putting: while let Some(segment) = pieces.change() {
         sink.put_segment(segment)?;
     }
-    Ok(())
+    sink.put_some(pieces.rest())
 }

@@ -70,8 +70,10 @@ impl<'t, R: Rule> Pieces<'t, R> {
     ghost use Rattle.hesc_engine.specs.Next.{IsNext};
     ghost use Rattle.hesc_engine.specs.Pieces.{
       IsAtSegment,
+      IsBeforeRest,
       IsFoundNext,
       parts_left,
+      rest_bytes,
       segment_bytes,
       stretch_of,
       segments_left,
@@ -89,6 +91,7 @@ impl<'t, R: Rule> Pieces<'t, R> {
         ensures few { length (parts text.now 0 (R.changes_from rule.now text.now 0))
             ≤ 2 * length (R.changes_from rule.now text.now 0) + 1 }
         ensures at_segment { IsAtSegment result }
+        ensures before_rest { IsBeforeRest result }
     {
         Pieces::knowing(rule, text, Ahead::nothing(text))
     }
@@ -105,6 +108,7 @@ impl<'t, R: Rule> Pieces<'t, R> {
         ensures begins { (found : Found) → IsNext text.now 0 (R.changes_from rule.now text.now) found
             → IsFoundNext result found }
         ensures at_segment { IsAtSegment result }
+        ensures before_rest { IsBeforeRest result }
     {
         Pieces {
             rule,
@@ -128,7 +132,7 @@ impl<'t, R: Rule> Pieces<'t, R> {
         requires ahead { IsAhead text.now ahead }
         ensures made { R.made rule.now text.now
             ≡ segment_bytes result.0 ++ joined (parts_left result.1) }
-        ensures at_segment { IsAtSegment result.1 }
+        ensures before_rest { IsBeforeRest result.1 }
     {
         let mut pieces = Pieces::knowing(rule, text, ahead);
         let segment = pieces.segment_before(first);
@@ -164,6 +168,30 @@ impl<'t, R: Rule> Pieces<'t, R> {
         }
     }
 
+    /// The next change and the stretch before it, or `None` where no change is left.
+    #[inline(always)]
+    pub(crate) fn change(&mut self) -> Option<Segment<'t>>
+        requires { IsBeforeRest self.old }
+        ensures none { IfNone result (joined (parts_left self.old) ≡ rest_bytes self.new) }
+        ensures some { IfSome result (λ segment. parts_left self.old
+            ≡ stretch_of segment ++ (renewed (replacement_bytes segment.new) ++ parts_left self.new)) }
+        ensures less { IfSome result (λ segment. segments_left self.new < segments_left self.old) }
+        ensures before_rest { IsBeforeRest self.new }
+    {
+        match self.rule.next_ahead(self.text, self.from, &mut self.ahead) {
+            Some(found) => Some(self.segment_before(found)),
+            None => None,
+        }
+    }
+
+    /// The stretch after all changes.
+    #[inline(always)]
+    pub(crate) fn rest(&self) -> &'t str
+        ensures { result.now ≡ rest_bytes self.now }
+    {
+        &self.text[self.from..]
+    }
+
     /// The next change, which was found, and the stretch before it.
     #[inline(always)]
     fn segment_before(&mut self, found: Found<'t>) -> Segment<'t>
@@ -171,7 +199,7 @@ impl<'t, R: Rule> Pieces<'t, R> {
         ensures parts { parts_left self.old
             ≡ stretch_of result ++ (renewed (replacement_bytes result.new) ++ parts_left self.new) }
         ensures less { segments_left self.new < segments_left self.old }
-        ensures at_segment { IsAtSegment self.new }
+        ensures before_rest { IsBeforeRest self.new }
     {
         let start = self.from;
         self.from = found.end;

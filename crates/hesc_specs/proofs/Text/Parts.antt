@@ -14,10 +14,10 @@ stretch_if-joined false start bytes empty = sym (empty refl)
 no_stretch : (source : List ℕ) (start end : ℕ) → nat_lt start end ≡ false → slice_range source start end ≡ []
 no_stretch source start end is = let none : end - start ≡ 0 = grind (arith, nat_tests, is) in rw none refl
 
-stretch-joined : (source : List ℕ) (start end : ℕ) → joined (stretch source start end) ≡ slice_range source start end
+pub stretch-joined : (source : List ℕ) (start end : ℕ) → joined (stretch source start end) ≡ slice_range source start end
 stretch-joined source start end = stretch_if-joined (nat_lt start end) start (slice_range source start end) (no_stretch source start end)
 
-rest-joined : (source : List ℕ) (from : ℕ) → slice_range source from (length source) ≡ drop from source
+pub rest-joined : (source : List ℕ) (from : ℕ) → slice_range source from (length source) ≡ drop from source
 rest-joined source from = take_all _ (drop from source) (omega (arith, length-drop from source))
 
 renewed-joined : (bytes : List ℕ) → joined (renewed bytes) ≡ bytes

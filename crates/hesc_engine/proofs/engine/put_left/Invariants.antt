@@ -1,6 +1,6 @@
 use Rattle.std.proofs.Common.{◌≡◌, ◌≤◌, ◌+◌, length}
 use Rattle.hesc_specs.specs.Text.Parts.{joined}
-use Rattle.hesc_engine.specs.Pieces.{IsAtSegment, parts_left, segments_left}
+use Rattle.hesc_engine.specs.Pieces.{IsBeforeRest, parts_left, segments_left}
 use Rattle.hesc_engine.proofs.Progress.{Progress}
 use Rattle.hesc_engine.proofs.engine.put_left.Given as goal
 
@@ -11,7 +11,7 @@ invariant-putting g l = record {
   failures : g.S.Sink.failures l.sink ≡ g.S.Sink.failures l.initial.sink;
   reference : g.S.Sink.reference l.sink ≡ g.S.Sink.reference l.initial.sink;
   before : g.S.Sink.before l.sink ≡ g.S.Sink.before l.initial.sink;
-  at_segment : IsAtSegment l.pieces;
+  before_rest : IsBeforeRest l.pieces;
 }
 
 abbrev pub decreases-putting : goal.decreases-putting
