@@ -1,5 +1,20 @@
-use Rattle.hesc_table.proofs.NamedTable.{constant-named_rows}
+use Rattle.std.proofs.Common.{◌≡◌, true, refl, sym, subst}
+use Rattle.std.specs.Prelude.{IsTrue}
+use Rattle.hesc_specs.specs.References.Rows.{are_short}
+use Rattle.hesc_specs.specs.References.TableFaults.{is_table}
+use Rattle.hesc_table.specs.NamedRows.{named_rows}
+use Rattle.hesc_table.proofs.NamedTable.{constant-named_rows, short-named_rows}
 use Rattle.hesc_table.proofs.EntityTable.built_in.Goals as goal
+
+good-named_rows : is_table named_rows ≡ true
+unfolding lib.Utf8.encode
+good-named_rows = refl
+
+pub invariant_of-result : goal.invariant_of-result
+invariant_of-result c = record {
+  good = subst (λ rows. IsTrue (is_table rows)) (sym constant-named_rows) good-named_rows;
+  grows = subst (λ rows. IsTrue (are_short rows)) (sym constant-named_rows) short-named_rows;
+}
 
 pub returns : goal.returns
 returns c = constant-named_rows

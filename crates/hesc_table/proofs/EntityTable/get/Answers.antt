@@ -1,4 +1,4 @@
-use Rattle.std.proofs.Common.{◌≡◌, ◌+◌, ◌-◌, ◌/◌, ◌<◌, ◌≤◌, ℕ, List, Bor, Less, Equal, Greater, Ordering, length, sym, ap, ◌∙◌, arith}
+use Rattle.std.proofs.Common.{◌≡◌, ◌+◌, ◌-◌, ◌/◌, ◌<◌, ◌≤◌, ℕ, List, Bor, Less, Equal, Greater, Ordering, length, sym, ap, ◌∙◌, arith, le_refl}
 use Rattle.std.specs.Cmp.Lexicographic.{slice_cmp}
 use Rattle.std.specs.Ordering.{nat_cmp}
 use Rattle.std.specs.Prelude.{Some}
@@ -15,6 +15,13 @@ within_rows rows low high some within = rw (length-map rows) (omega arith)
 compared : (rows : List (Bor (List ℕ) × Bor (List ℕ))) (i : ℕ) (name : List ℕ) (order : Ordering) → i < length (rows_in rows) → order ≡ slice_cmp nat_cmp (stored rows i).0.now name
     → slice_cmp nat_cmp (row_at (rows_in rows) i).0 name ≡ order
 compared rows i name order within is = rw (stored_name rows i (rw (length-map rows) at within)) (sym is)
+
+pub halving-init : goal.halving-init
+halving-init c = record {
+  within = le_refl _;
+  below = λ k lower. absurd (omega (arith, lower));
+  above = λ k from within. absurd (omega (arith, from, rw (length-map c.args.self.now.rows.now) at within));
+}
 
 pub halving-preserved-in-Less : goal.halving-preserved-in-Less
 halving-preserved-in-Less c =

@@ -1,4 +1,4 @@
-use Rattle.std.proofs.Common.{take, arith}
+use Rattle.std.proofs.Common.{take, refl, arith}
 use Rattle.std.proofs.lemmas.Grind.{common_steps}
 use Rattle.std.proofs.lemmas.Int.Digits.{digits_value_more}
 use Rattle.std.specs.Str.Parse.{digits_value}
@@ -15,3 +15,6 @@ loop-digit-preserved c =
       number = cc (held, more, c.with_digit-number.ensures, c.loop-digit.invariant.number, c.in_ok-value.ensures.value.1);
       digits = grind (arith, common_steps);
     }
+
+pub loop-digit-init : goal.loop-digit-init
+loop-digit-init c = record { number = refl; digits = refl }
