@@ -17,7 +17,7 @@ pub returns-in_err-append_parts-clause-appended : goal.returns-in_err-append_par
 returns-in_err-append_parts-clause-appended g c = search rules
 
 pub returns-clause-appended : goal.returns-clause-appended
-returns-clause-appended g c = search rules
+returns-clause-appended g c = c.in_ok-append_parts.ensures.appended
 
 pub returns-clause-faults : goal.returns-clause-faults
 returns-clause-faults g c = search rules

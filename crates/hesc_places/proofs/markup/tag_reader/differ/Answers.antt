@@ -1,7 +1,8 @@
 use native.Mathlib.Numerals.{unary_clauses}
-use Rattle.std.proofs.Common.{suc, ◌∷◌, ap, drop, sym, ◌∙◌}
+use Rattle.std.proofs.Common.{suc, ◌∷◌, ap, drop, sym, ◌∙◌, arith}
+use Rattle.std.proofs.lemmas.Grind.{common_steps}
 use Rattle.std.proofs.Math.Seq.{drop-cons}
-use Rattle.hesc_places.proofs.Pages.StoodNames.{new_first}
+use Rattle.hesc_places.proofs.Pages.StoodNames.{new_first, old_first}
 use Rattle.hesc_places.proofs.markup.tag_reader.differ.Goals as goal
 
 pub loop-name-preserved : goal.loop-name-preserved
@@ -13,3 +14,6 @@ loop-name-preserved g c =
     (rw c.as_slice.ensures.value at (sym c.if-branch.false ∙ c.in_ok-add_name.ensures.stood))
     (rw c.as_slice.ensures.value at c.in_ok-add_name.ensures.added)
     (rw cut at c.loop-name.invariant))
+
+pub returns-then-branch : goal.returns-then-branch
+returns-then-branch g c = grind (arith, common_steps, old_first)

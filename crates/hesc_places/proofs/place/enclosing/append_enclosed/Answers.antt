@@ -1,6 +1,7 @@
-use Rattle.std.proofs.Common.{ap, length}
+use Rattle.std.proofs.Common.{arith, ap, length}
 use Rattle.std.specs.String.{string_bytes}
 use Rattle.std.proofs.lemmas.Str.{IsUtf8-string_bytes}
+use Rattle.std.proofs.lemmas.Grind.{common_steps}
 use Rattle.hesc_engine.proofs.Seam.{seam}
 use Rattle.hesc_places.proofs.place.enclosing.append_enclosed.Goals as goal
 
@@ -9,3 +10,6 @@ range_from-requires g c some =
     rw c.as_str.ensures.value
     (seam (string_bytes c.args.output.now) (string_bytes c.add_enclosed.new.output) _ (length c.as_str-start.result.now)
     (IsUtf8-string_bytes c.args.output.now) (IsUtf8-string_bytes c.add_enclosed.new.output) c.in_ok-add_enclosed.ensures.appended (ap length c.as_str-start.ensures.value))
+
+pub returns : goal.returns
+returns g c = grind (arith, common_steps)
