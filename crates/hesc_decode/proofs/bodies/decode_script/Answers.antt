@@ -1,0 +1,4 @@
+use Rattle.hesc_decode.proofs.bodies.decode_script.Goals as goal
+
+pub returns : goal.returns
+returns g c = c.to_cow.ensures
