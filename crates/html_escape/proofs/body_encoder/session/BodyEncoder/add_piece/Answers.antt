@@ -1,4 +1,4 @@
-use Rattle.std.proofs.Common.{◌≡◌, List, ℕ, true, ◌++◌, length, take, drop, refl, sym, ap, ◌∙◌}
+use Rattle.std.proofs.Common.{rules, ◌≡◌, List, ℕ, true, ◌++◌, length, take, drop, refl, sym, ap, ◌∙◌}
 use Rattle.std.proofs.lemmas.List.{append-nil, take_rest}
 use Rattle.hesc_specs.specs.Text.FirstPlace.{IsFirstAt}
 use Rattle.hesc_specs.specs.Bodies.Sessions.{is_partial}
@@ -80,3 +80,6 @@ returns-then-is_partial-clause-goes_on g c element given added = pushed_more _ _
 
 pub returns-clause-goes_on : goal.returns-clause-goes_on
 returns-clause-goes_on g c element given added = pushed_more _ _ element given added _ _ refl (returns-clause-step g c)
+
+pub returns-then-is_partial-clause-kind : goal.returns-then-is_partial-clause-kind
+returns-then-is_partial-clause-kind g c = search rules
