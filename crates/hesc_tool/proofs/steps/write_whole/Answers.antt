@@ -1,6 +1,7 @@
 use Rattle.std.proofs.Common.{rules, arith}
 use Rattle.std.proofs.KnownBytes.{Appends-kept}
 use Rattle.std.proofs.lemmas.Grind.{common_steps}
+use Rattle.std.proofs.lemmas.List.{take_all}
 use Rattle.hesc_tool.proofs.Written.{Appends-next, AppendsBeginning-take}
 use Rattle.hesc_tool.proofs.steps.write_whole.Goals as goal
 
@@ -20,3 +21,6 @@ writing-preserved g c = record {
   within = search rules;
   written = Appends-next _ _ _ _ _ _ c.writing.invariant.written (grind (arith, common_steps, c.in-Ok.ensures.bytes));
 }
+
+pub returns-clause-all : goal.returns-clause-all
+returns-clause-all g c = rw (take_all c.writing.at c.args.bytes.now c.writing-test.false) at c.writing.invariant.written
