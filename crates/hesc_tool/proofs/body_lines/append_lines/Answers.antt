@@ -1,5 +1,4 @@
 use Rattle.std.proofs.Common.{◌≡◌, ◌≤◌, ℕ, List, ◌++◌, drop, refl, sym, ap, ◌∙◌, append_assoc, arith}
-use Rattle.std.proofs.lemmas.Grind.{common_steps}
 use Rattle.std.proofs.lemmas.List.Folds.{drop_split}
 use Rattle.std.proofs.lemmas.Str.{IsCharBoundary-start}
 use Rattle.std.specs.Prelude.{slice_range}
@@ -40,6 +39,3 @@ pushing-preserved g c =
           (decided_encoding c.args.kind (held_by c.pushing.session ++ c.range.result.now)) c.range.result.now c.args.text.now c.pushing.from c.end_of_line-end.result (omega (arith, c.end_of_line-end.ensures.after))
           c.range.ensures.value (rw before.kind at appended) (rw (pushing.part.part, before.kind) at pushing.step.0) before.added;
     }
-
-pub returns : goal.returns
-returns g c = grind (arith, common_steps)
