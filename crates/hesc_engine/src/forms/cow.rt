@@ -28,8 +28,8 @@ pub fn to_cow<'t, R: Rule, A: Allocator>(
     }
 }
 
-// A call of its own, so that a text that stays costs no more than its scan.
-#[inline(never)]
+// Inlined, so that no result is handed on: its parts would be read at once, wider than they were written.
+#[inline(always)]
 fn new_string<P: Parts, A: Allocator>(alloc: A, parts: &P) -> Result<String<A>, AllocError>
     ensures { IfOk result (λ string. string_bytes string ≡ P.text parts.now) }
 {

@@ -1,7 +1,6 @@
-//! A text that stays as it is, appended.
-ghost use Rattle.std.specs.Prelude.{◌≤◌, IsOk, length};
-ghost use Rattle.std.specs.String.{string_bytes};
-ghost use Rattle.hesc_engine.specs.Forms.{Appended, string_room, vec_room};
+//! What a form appends to, and a text that is appended as it is.
+ghost use Rattle.std.specs.Prelude.{◌≤◌, ℕ, List, IsOk, length};
+ghost use Rattle.hesc_engine.specs.Forms.{Appended};
 
 use crate::engine::run;
 use crate::sinks::string::StringSink;
@@ -9,34 +8,49 @@ use crate::sinks::vec::VecSink;
 use crate::unchanged::Unchanged;
 use std::alloc::{AllocError, Allocator};
 
-/// Appends `text`, or leaves the output as it was.
-#[inline(always)]
-pub(crate) fn append_kept<A: Allocator>(
-    output: &mut String<A>,
-    text: &str,
-) -> Result<(), AllocError>
-    ensures appended { Appended (string_bytes output.old) (string_bytes output.new) text.now result }
-    ensures fits { length text.now ≤ string_room output.old → IsOk result }
-{
-    output.reserve(text.len())?;
-    let mut sink = StringSink::new(output);
-    let outcome = run(&Unchanged, text, &mut sink);
-    let _output = sink.into_output();
-    outcome
+/// A string, or a vector of bytes.
+pub(crate) trait Output {
+    ghost bytes: { Self → List ℕ };
+
+    ghost room: { Self → ℕ };
+
+    /// Appends `text` as it is, or leaves the output as it was.
+    fn append_kept(&mut self, text: &str) -> Result<(), AllocError>
+        ensures appended { Appended (bytes self.old) (bytes self.new) text.now result }
+        ensures fits { length text.now ≤ room self.old → IsOk result };
 }
 
-/// The same for a vector of bytes.
-#[inline(always)]
-pub(crate) fn append_kept_to_vec<A: Allocator>(
-    output: &mut Vec<u8, A>,
-    text: &str,
-) -> Result<(), AllocError>
-    ensures appended { Appended output.old.items output.new.items text.now result }
-    ensures fits { length text.now ≤ vec_room output.old → IsOk result }
-{
-    output.reserve(text.len())?;
-    let mut sink = VecSink::new(output);
-    let outcome = run(&Unchanged, text, &mut sink);
-    let _output = sink.into_output();
-    outcome
+impl<A: Allocator> Output for String<A> {
+    ghost use Rattle.std.specs.String.{string_bytes};
+    ghost use Rattle.hesc_engine.specs.Forms.{string_room};
+
+    ghost bytes = { string_bytes };
+
+    ghost room = { string_room };
+
+    #[inline(always)]
+    fn append_kept(&mut self, text: &str) -> Result<(), AllocError> {
+        self.reserve(text.len())?;
+        let mut sink = StringSink::new(self);
+        let outcome = run(&Unchanged, text, &mut sink);
+        let _output = sink.into_output();
+        outcome
+    }
+}
+
+impl<A: Allocator> Output for Vec<u8, A> {
+    ghost use Rattle.hesc_engine.specs.Forms.{vec_room};
+
+    ghost bytes = { λ output. output.items };
+
+    ghost room = { vec_room };
+
+    #[inline(always)]
+    fn append_kept(&mut self, text: &str) -> Result<(), AllocError> {
+        self.reserve(text.len())?;
+        let mut sink = VecSink::new(self);
+        let outcome = run(&Unchanged, text, &mut sink);
+        let _output = sink.into_output();
+        outcome
+    }
 }

@@ -5,7 +5,7 @@ ghost use Rattle.std.specs.Str.{IsUtf8};
 ghost use Rattle.std.specs.String.{string_bytes};
 ghost use Rattle.hesc_engine.specs.Forms.{Appended, string_room, vec_room};
 
-use crate::forms::kept::append_kept_to_vec;
+use crate::forms::kept::Output;
 use crate::sink::Sink;
 use crate::sinks::counter::{CountOverflow, Counter};
 use crate::sinks::filled::FilledSink;
@@ -117,47 +117,44 @@ pub fn append_parts_to_vec<P: Parts, A: Allocator>(
     if parts.may_fit(spare) && put_in_room(output, parts) {
         return Ok(());
     }
-    if let Some(bound) = parts.short_bound() {
-        if let Some(outcome) = append_short(output, parts, bound) {
-            return outcome;
-        }
+    match append_short(output, parts) {
+        Some(outcome) => outcome,
+        None => append_measured(output, parts),
     }
-    append_measured(output, parts)
 }
 
-// By the stack that suffices for so many bytes, where there is one.
+/// Appends a text that is made on the stack first, by the array that suffices for it, or answers
+/// `None` where it is too long for both.
 #[inline(always)]
-fn append_short<P: Parts, A: Allocator>(
-    output: &mut Vec<u8, A>,
+pub(crate) fn append_short<P: Parts, O: Output>(
+    output: &mut O,
     parts: &P,
-    bound: usize,
 ) -> Option<Result<(), AllocError>>
     ensures none { IfNone result (output.new ≡ output.old) }
     ensures appended { IfSome result (λ outcome.
-        Appended output.old.items output.new.items (P.text parts.now) outcome) }
-    ensures fits { length (P.text parts.now) ≤ vec_room output.old
+        Appended (O.bytes output.old) (O.bytes output.new) (P.text parts.now) outcome) }
+    ensures fits { length (P.text parts.now) ≤ O.room output.old
         → IfSome result (λ outcome. IsOk outcome) }
     ensures utf8 { IfSome result (λ outcome. OnOk outcome (IsUtf8 (P.text parts.now))) }
 {
-    if bound <= SMALL_BOUND {
-        append_by_stack::<SMALL_STACK, P, A>(output, parts)
-    } else {
-        append_by_stack::<STACK, P, A>(output, parts)
+    match parts.short_bound() {
+        Some(bound) if bound <= SMALL_BOUND => append_by_stack::<SMALL_STACK, P, O>(output, parts),
+        Some(_) => append_by_stack::<STACK, P, O>(output, parts),
+        None => None,
     }
 }
 
-// Made on the stack and appended by one copy, or `None` where the stack does not suffice. The array
-// is set up in this function and no other.
+// The array is set up in this function and no other.
 #[inline(never)]
-fn append_by_stack<const N: usize, P: Parts, A: Allocator>(
-    output: &mut Vec<u8, A>,
+fn append_by_stack<const N: usize, P: Parts, O: Output>(
+    output: &mut O,
     parts: &P,
 ) -> Option<Result<(), AllocError>>
     requires { N ≤ 416 }
     ensures none { IfNone result (output.new ≡ output.old) }
     ensures appended { IfSome result (λ outcome.
-        Appended output.old.items output.new.items (P.text parts.now) outcome) }
-    ensures fits { length (P.text parts.now) ≤ vec_room output.old
+        Appended (O.bytes output.old) (O.bytes output.new) (P.text parts.now) outcome) }
+    ensures fits { length (P.text parts.now) ≤ O.room output.old
         → IfSome result (λ outcome. IsOk outcome) }
     ensures utf8 { IfSome result (λ outcome. OnOk outcome (IsUtf8 (P.text parts.now))) }
 {
@@ -165,7 +162,7 @@ fn append_by_stack<const N: usize, P: Parts, A: Allocator>(
     if parts.put_into(&mut short).is_err() {
         return None;
     }
-    Some(append_kept_to_vec(output, short.as_str()))
+    Some(output.append_kept(short.as_str()))
 }
 
 // By one request for as much room as is found out first. A call of its own, so that a short text takes

@@ -5,9 +5,9 @@ ghost use Rattle.std.specs.Str.{IsCharBoundary};
 ghost use Rattle.std.specs.String.{string_bytes};
 ghost use Rattle.hesc_engine.specs.Forms.{AnswersPart, Appended, StringAppended, string_room};
 
-use crate::forms::kept::append_kept;
+use crate::forms::kept::Output;
 use crate::forms::made::Made;
-use crate::forms::parts::{Parts, append_parts};
+use crate::forms::parts::{Parts, append_parts, append_short};
 use crate::rule::Rule;
 use std::alloc::{AllocError, Allocator};
 
@@ -27,7 +27,7 @@ pub fn append_to_string<R: Rule, A: Allocator>(
     // Most texts stay as they are, and that is found out once.
     match Made::of(rule, text) {
         Some(made) => append_made(output, &made),
-        None => append_kept(output, text),
+        None => output.append_kept(text),
     }
 }
 
@@ -38,7 +38,11 @@ fn append_made<P: Parts, A: Allocator>(output: &mut String<A>, parts: &P) -> Res
         (P.text parts.now) result }
     ensures fits { length (P.text parts.now) ≤ string_room output.old → IsOk result }
 {
-    append_parts(output, parts)
+    // A short text goes to the string itself: its bytes are not taken out and put back for it.
+    match append_short(output, parts) {
+        Some(outcome) => outcome,
+        None => append_parts(output, parts),
+    }
 }
 
 /// Appends what `rule` makes of `text`, and answers the part that was added. On a refusal the

@@ -4,7 +4,7 @@ ghost use Rattle.std.specs.Borrow.{sem};
 ghost use Rattle.std.specs.Str.{IsUtf8};
 ghost use Rattle.hesc_engine.specs.Forms.{AnswersPart, Appended, VecAppended, vec_room};
 
-use crate::forms::kept::append_kept_to_vec;
+use crate::forms::kept::Output;
 use crate::forms::made::Made;
 use crate::forms::parts::{Parts, append_parts_to_vec};
 use crate::rule::Rule;
@@ -27,7 +27,7 @@ pub fn append_to_vec<R: Rule, A: Allocator>(
     // Most texts stay as they are, and that is found out once.
     match Made::of(rule, text) {
         Some(made) => append_made(output, &made),
-        None => append_kept_to_vec(output, text),
+        None => output.append_kept(text),
     }
 }
 
