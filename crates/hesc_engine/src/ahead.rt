@@ -1,17 +1,24 @@
-//! What is known of the bytes ahead: at which of them a rule that goes by a class may change
+//! What is known of the bytes ahead: at which of them a rule that looks for certain bytes may change
 //! something.
 ghost use Rattle.std.specs.Prelude.{◌≤◌, length};
 ghost use Rattle.hesc_engine.specs.Ahead.{IsAhead};
 
 use hesc_specs::Class;
 
+/// The bytes that a rule looks for: those of a class, or one byte.
+#[derive(Clone, Copy, PartialEq, Eq)]
+pub enum Sought {
+    InClass(Class),
+    Byte(u8),
+}
+
 /// The mask of the bytes from `start` on, 32 of them or as many as the text has: bit `k` of `hits`
-/// is set exactly if byte `start + k` is in the class.
+/// is set exactly if byte `start + k` is sought.
 ///
 /// A rule that finds the mask of some bytes keeps it here, and takes its bits one after another.
 #[derive(Clone, Copy)]
 pub struct Ahead {
-    pub class: Class,
+    pub sought: Sought,
     pub start: usize,
     pub hits: u64,
 }
@@ -25,7 +32,7 @@ impl Ahead {
         ensures { IsAhead text.now result }
     {
         Ahead {
-            class: Class::Text,
+            sought: Sought::InClass(Class::Text),
             start: text.len(),
             hits: 0,
         }

@@ -1,7 +1,7 @@
 -- The mask of a part of some lanes, from the mask of all of them.
-use Rattle.std.proofs.Common.{◌≡◌, ℕ, suc, ◌+◌, ◌*◌, ◌/◌, ◌%◌, ◌^◌, ◌≤◌, ◌<◌, Bool, List, [], ◌∷◌, ◌++◌, map, take, drop, length, ap, sym, ◌∙◌, arith, ◌-◌, bit_and, bit_or, get_or, inl, inr}
+use Rattle.std.proofs.Common.{◌≡◌, ℕ, suc, ◌+◌, ◌*◌, ◌/◌, ◌%◌, ◌^◌, ◌≤◌, ◌<◌, Bool, List, [], ◌∷◌, ◌++◌, map, take, drop, length, ap, sym, ◌∙◌, arith, ◌-◌, bit_and, bit_or, get_or, inl, inr, subst}
 use Rattle.std.proofs.lemmas.Bool.{cases_lt}
-use Rattle.std.proofs.lemmas.List.{drop-drop, drop-take, length-drop, length-take, length-map, length-take-le, map-append, take-append-drop}
+use Rattle.std.proofs.lemmas.List.{drop-drop, drop-take, length-drop, length-take, length-map, length-take-le, map-append, take-append-drop, take-take}
 use Rattle.std.proofs.lemmas.Nat.{and_mask, mod_low, one_shl, or_shifted, shl_whole, shr_high, shr_le}
 use Rattle.std.proofs.lemmas.Simd.{Each1-get_or, mask_l-lt}
 use Rattle.std.proofs.Math.ListN.{get_or-eq_default}
@@ -77,3 +77,24 @@ mask_from-later test bytes start from hits after near within masks =
     ∙ ap (λ n. mask_l (map test (drop skipped (take n (drop start bytes))))) (sym there)
     ∙ ap (λ l. mask_l (map test l)) (drop-take skipped (32 - skipped) (drop start bytes) ∙ ap (take (32 - skipped)) (drop-drop skipped start bytes))
     ∙ ap (λ n. mask_l (map test (take (32 - skipped) (drop n bytes)))) (omega arith)
+
+half_small : (test : ℕ → Bool) (xs : List ℕ) (skip : ℕ) → length xs ≡ skip + 16 → mask_l (map test (drop skip xs)) < 2 ^ 16
+half_small test xs skip sixteen =
+    let left : length (map test (drop skip xs)) ≡ 16 = omega (arith, sixteen, length-map (drop skip xs) test, length-drop skip xs) in
+    subst (λ n. mask_l (map test (drop skip xs)) < 2 ^ n) left (mask_l-lt (map test (drop skip xs)))
+
+-- the mask of lanes, from those of the first 16 and of the last 16
+pub halves_by_bits : (test : ℕ → Bool) (xs : List ℕ) (skip first last : ℕ) → skip ≤ 16 → length xs ≡ skip + 16 → first ≡ mask_l (map test (take 16 xs)) → last ≡ mask_l (map test (drop skip xs))
+    → bit_or (last * 2 ^ skip % 2 ^ 64) (bit_and first (1 * 2 ^ skip % 2 ^ 64 - 1)) ≡ mask_l (map test xs)
+halves_by_bits test xs skip first last few sixteen is_first is_last =
+    let small : last < 2 ^ 32 =
+    omega (arith, is_last, half_small test xs skip sixteen) in
+    let low : bit_and first (1 * 2 ^ skip % 2 ^ 64 - 1) ≡ first % 2 ^ skip = ap (λ n. bit_and first (n - 1)) (one_shl skip 64 (omega arith)) ∙ and_mask first skip in
+    let front : first % 2 ^ skip ≡ mask_l (map test (take skip xs)) =
+    ap (λ n. n % 2 ^ skip) is_first
+    ∙ mask_l-take test (take 16 xs) skip (omega (arith, sixteen, length-take 16 xs))
+    ∙ ap (λ l. mask_l (map test l)) (take-take skip 16 xs few) in
+    (λ i. bit_or (shl_whole last 32 skip 64 small (omega arith) i) (low i))
+    ∙ or_shifted last skip (first % 2 ^ skip) (omega (arith, rw (and_mask first skip) at (mask_lt first skip)))
+    ∙ (λ i. is_last i * 2 ^ skip + front i)
+    ∙ sym (split test xs skip (omega (arith, sixteen)))

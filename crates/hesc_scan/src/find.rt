@@ -72,7 +72,7 @@ fn first_byte_of_halves(byte: u8, bytes: &[u8], from: usize) -> usize
 }
 
 #[inline(never)]
-fn first_byte_far(byte: u8, bytes: &[u8], from: usize) -> usize
+pub(crate) fn first_byte_far(byte: u8, bytes: &[u8], from: usize) -> usize
     requires { from ≤ length bytes.now }
     ensures { IsFirstPlace (is_byte byte) bytes.now from result }
 {

@@ -6,6 +6,7 @@
 #![tactic(auto)]
 
 mod block;
+pub mod byte_block;
 mod entries;
 pub mod find;
 mod flags;

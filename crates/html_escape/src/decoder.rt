@@ -1,6 +1,7 @@
 //! The decoders by name.
 ghost use Rattle.std.specs.Prelude.{◌≡◌, [], IfNone, IfSome};
 ghost use Rattle.std.specs.Str.{IsCharBoundary};
+ghost use Rattle.hesc_engine.specs.Ahead.{IsAhead};
 ghost use Rattle.hesc_engine.specs.Next.{IsNext};
 ghost use Rattle.html_escape.specs.Decoders.{
   applied-decoder_changes,
@@ -8,8 +9,11 @@ ghost use Rattle.html_escape.specs.Decoders.{
   decoder_text,
 };
 
-use hesc_core::rules::{next_body_unescape, next_references, next_unescape};
+use hesc_core::rules::next_body_unescape;
+use hesc_core::rules::references::next_references_ahead;
+use hesc_core::rules::strings::unescape::next_unescape_ahead;
 use hesc_core::{Class, Element, EntityTable, Found, Rule};
+use hesc_engine::ahead::Ahead;
 
 /// A decoder by its name.
 #[derive(Clone, Copy, Debug, PartialEq, Eq)]
@@ -43,6 +47,10 @@ impl Rule for Decoder {
         next_decoded(*self, text, from)
     }
 
+    fn next_ahead(&self, text: &str, from: usize, ahead: &mut Ahead) -> Option<Found<'_>> {
+        next_decoded_ahead(*self, text, from, ahead)
+    }
+
     /// The source's length: no decoder lengthens a text.
     fn bound(&self, text: &str) -> Option<usize> {
         Some(text.len())
@@ -60,15 +68,52 @@ pub fn next_decoded(decoder: Decoder, text: &str, from: usize) -> Option<Found<'
     ensures none { IfNone result (decoder_changes decoder text.now from ≡ []) }
     ensures found { IfSome result (IsNext text.now from (decoder_changes decoder text.now)) }
 {
+    let mut ahead = Ahead::nothing(text);
+    next_decoded_ahead(decoder, text, from, &mut ahead)
+}
+
+/// The same, by what is known of the bytes ahead, which stays true.
+fn next_decoded_ahead(
+    decoder: Decoder,
+    text: &str,
+    from: usize,
+    ahead: &mut Ahead,
+) -> Option<Found<'static>>
+    requires boundary { IsCharBoundary text.now from }
+    requires ahead { IsAhead text.now ahead.old }
+    ensures none { IfNone result (decoder_changes decoder text.now from ≡ []) }
+    ensures found { IfSome result (IsNext text.now from (decoder_changes decoder text.now)) }
+    ensures ahead { IsAhead text.now ahead.new }
+{
     match decoder {
-        Decoder::HtmlEntities => next_references(&EntityTable::built_in(), text, from),
+        Decoder::HtmlEntities => next_references_ahead(&EntityTable::built_in(), text, from, ahead),
         Decoder::Script => next_body_unescape(Element::Script, text, from),
         Decoder::Style => next_body_unescape(Element::Style, text, from),
-        Decoder::ScriptSingleQuoted => next_unescape(Class::ScriptSingleQuoted, text, from),
-        Decoder::ScriptDoubleQuoted => next_unescape(Class::ScriptDoubleQuoted, text, from),
-        Decoder::ScriptQuoted => next_unescape(Class::ScriptQuoted, text, from),
-        Decoder::StyleSingleQuoted => next_unescape(Class::StyleSingleQuoted, text, from),
-        Decoder::StyleDoubleQuoted => next_unescape(Class::StyleDoubleQuoted, text, from),
-        Decoder::StyleQuoted => next_unescape(Class::StyleQuoted, text, from),
+        Decoder::ScriptSingleQuoted => next_unescape_ahead(
+            Class::ScriptSingleQuoted,
+            text,
+            from,
+            ahead,
+        ),
+        Decoder::ScriptDoubleQuoted => next_unescape_ahead(
+            Class::ScriptDoubleQuoted,
+            text,
+            from,
+            ahead,
+        ),
+        Decoder::ScriptQuoted => next_unescape_ahead(Class::ScriptQuoted, text, from, ahead),
+        Decoder::StyleSingleQuoted => next_unescape_ahead(
+            Class::StyleSingleQuoted,
+            text,
+            from,
+            ahead,
+        ),
+        Decoder::StyleDoubleQuoted => next_unescape_ahead(
+            Class::StyleDoubleQuoted,
+            text,
+            from,
+            ahead,
+        ),
+        Decoder::StyleQuoted => next_unescape_ahead(Class::StyleQuoted, text, from, ahead),
     }
 }

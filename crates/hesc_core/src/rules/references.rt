@@ -4,16 +4,18 @@ ghost use Rattle.std.specs.Str.{IsCharBoundary};
 ghost use Rattle.hesc_specs.specs.References.Changes.{reference_changes};
 ghost use Rattle.hesc_specs.specs.References.Decoding.{decoded};
 ghost use Rattle.hesc_specs.proofs.References.Applied.{applied-reference_changes};
+ghost use Rattle.hesc_engine.specs.Ahead.{IsAhead};
 ghost use Rattle.hesc_engine.specs.Next.{IsNext};
 ghost use Rattle.hesc_table.specs.Table.{rows_of};
 
 mod values;
 
+use crate::rules::ahead::next_hit_or_end;
 use crate::rules::references::values::value_of_body;
-use hesc_engine::ahead::Ahead;
+use hesc_engine::ahead::{Ahead, Sought};
 use hesc_engine::found::Found;
 use hesc_engine::rule::Rule;
-use hesc_scan::find::{first_byte, first_of_two};
+use hesc_scan::find::first_of_two;
 use hesc_table::EntityTable;
 use hesc_table::growth::Growth;
 
@@ -33,8 +35,7 @@ impl Rule for References<'_> {
 
     #[inline(always)]
     fn next_ahead(&self, text: &str, from: usize, ahead: &mut Ahead) -> Option<Found<'_>> {
-        let _known = *ahead;
-        self.next(text, from)
+        next_references_ahead(self.0, text, from, ahead)
     }
 
     /// The source's length, or a fifth more, where the table knows that its values are so short.
@@ -63,8 +64,29 @@ pub fn next_references<'a>(table: &EntityTable<'a>, text: &str, from: usize) -> 
     ensures found { IfSome result
         (IsNext text.now from (reference_changes (rows_of table.now) text.now)) }
 {
+    let mut ahead = Ahead::nothing(text);
+    next_references_ahead(table, text, from, &mut ahead)
+}
+
+/// The same, by what is known of the bytes ahead, which stays true.
+///
+/// In `a&lt;b` from 0 it is the bytes 1 to 5 again, and of `ahead` the `hits` are then `0b10`.
+#[inline(always)]
+pub fn next_references_ahead<'a>(
+    table: &EntityTable<'a>,
+    text: &str,
+    from: usize,
+    ahead: &mut Ahead,
+) -> Option<Found<'a>>
+    requires boundary { IsCharBoundary text.now from }
+    requires ahead { IsAhead text.now ahead.old }
+    ensures none { IfNone result (reference_changes (rows_of table.now) text.now from ≡ []) }
+    ensures found { IfSome result
+        (IsNext text.now from (reference_changes (rows_of table.now) text.now)) }
+    ensures ahead { IsAhead text.now ahead.new }
+{
     let bytes = text.as_bytes();
-    let mut start = first_byte(b'&', bytes, from);
+    let mut start = next_hit_or_end(Sought::Byte(b'&'), text, from, ahead);
     'seeking: while start < bytes.len() {
         let end = first_of_two(b'&', b';', bytes, start + 1);
         if end == bytes.len() {
@@ -80,7 +102,7 @@ pub fn next_references<'a>(table: &EntityTable<'a>, text: &str, from: usize) -> 
                     replacement,
                 });
             }
-            start = first_byte(b'&', bytes, end + 1);
+            start = next_hit_or_end(Sought::Byte(b'&'), text, end + 1, ahead);
         }
     }
     None

@@ -11,7 +11,7 @@ ghost use Rattle.hesc_engine.specs.Next.{IsNext};
 
 use crate::rules::ahead::next_hit;
 use crate::rules::html::references::reference;
-use hesc_engine::ahead::Ahead;
+use hesc_engine::ahead::{Ahead, Sought};
 use hesc_engine::found::{Found, Replacement};
 use hesc_engine::rule::Rule;
 use hesc_scan::length::{encoded_length, longest_escaped};
@@ -93,7 +93,7 @@ pub(crate) fn next_html_escape_ahead(
     ensures found { IfSome result (IsNext text.now from (html_changes class text.now)) }
     ensures ahead { IsAhead text.now ahead.new }
 {
-    match next_hit(class, text, from, ahead) {
+    match next_hit(Sought::InClass(class), text, from, ahead) {
         Some(start) => Some(html_escape_at(class, text, from, start)),
         None => None,
     }

@@ -20,7 +20,7 @@ ghost use Rattle.hesc_engine.specs.Text.{replacement_bytes};
 
 use crate::rules::ahead::next_hit_or_end;
 use crate::rules::strings::hex_digits::upper_hex_digit;
-use hesc_engine::ahead::Ahead;
+use hesc_engine::ahead::{Ahead, Sought};
 use hesc_engine::found::{Found, Replacement};
 use hesc_engine::rule::Rule;
 use hesc_engine::small_text::SmallText;
@@ -116,12 +116,12 @@ fn next_escaped(class: Class, text: &str, from: usize, ahead: &mut Ahead) -> usi
     ensures ahead { IsAhead text.now ahead.new }
 {
     let bytes = text.as_bytes();
-    let mut place = next_hit_or_end(class, text, from, ahead);
+    let mut place = next_hit_or_end(Sought::InClass(class), text, from, ahead);
     'seeking: while place < bytes.len() {
         if bytes[place] != 0xE2 || completes_separator(&bytes[place + 1..]) {
             return place;
         }
-        place = next_hit_or_end(class, text, place + 1, ahead);
+        place = next_hit_or_end(Sought::InClass(class), text, place + 1, ahead);
     }
     place
 }

@@ -5,16 +5,17 @@ ghost use Rattle.std.specs.Str.{IsCharBoundary};
 ghost use Rattle.hesc_specs.specs.Text.Escaped.{unescape_changes, unescaped};
 ghost use Rattle.hesc_specs.specs.Strings.Changes.{string_decoding_changes};
 ghost use Rattle.hesc_specs.proofs.Text.UnescapeChanges.{applied-unescape_changes};
+ghost use Rattle.hesc_engine.specs.Ahead.{IsAhead};
 ghost use Rattle.hesc_engine.specs.Next.{IsNext};
 ghost use Rattle.hesc_engine.specs.Text.{replacement_bytes};
 
+use crate::rules::ahead::next_hit_or_end;
 use crate::rules::strings::classes::string_class;
 use crate::rules::strings::tokens::{escape, is_after_less};
-use hesc_engine::ahead::Ahead;
+use hesc_engine::ahead::{Ahead, Sought};
 use hesc_engine::found::{Found, Replacement};
 use hesc_engine::rule::Rule;
 use hesc_engine::small_text::SmallText;
-use hesc_scan::find::first_byte;
 use hesc_specs::{Class, Element, Quotes};
 
 /// The decoder of a class. That of an HTML encoder's class changes nothing.
@@ -33,8 +34,7 @@ impl Rule for Unescape {
 
     #[inline(always)]
     fn next_ahead(&self, text: &str, from: usize, ahead: &mut Ahead) -> Option<Found<'_>> {
-        let _known = *ahead;
-        self.next(text, from)
+        next_unescape_ahead(self.0, text, from, ahead)
     }
 
     /// The source's length: no escape is shorter than its character.
@@ -56,8 +56,29 @@ pub fn next_unescape(class: Class, text: &str, from: usize) -> Option<Found<'sta
     ensures none { IfNone result (unescape_changes class text.now from ≡ []) }
     ensures found { IfSome result (IsNext text.now from (unescape_changes class text.now)) }
 {
+    let mut ahead = Ahead::nothing(text);
+    next_unescape_ahead(class, text, from, &mut ahead)
+}
+
+/// The same, by what is known of the bytes ahead, which stays true.
+///
+/// In `it\'s` from 0, of `Class::ScriptQuoted`, it is the bytes 2 to 4 again, and of `ahead` the
+/// `hits` are then `0b100`.
+#[inline(always)]
+pub fn next_unescape_ahead(
+    class: Class,
+    text: &str,
+    from: usize,
+    ahead: &mut Ahead,
+) -> Option<Found<'static>>
+    requires boundary { IsCharBoundary text.now from }
+    requires ahead { IsAhead text.now ahead.old }
+    ensures none { IfNone result (unescape_changes class text.now from ≡ []) }
+    ensures found { IfSome result (IsNext text.now from (unescape_changes class text.now)) }
+    ensures ahead { IsAhead text.now ahead.new }
+{
     match string_class(class) {
-        Some((element, quotes)) => next_string_unescape(element, quotes, text, from),
+        Some((element, quotes)) => next_string_unescape_ahead(element, quotes, text, from, ahead),
         None => None,
     }
 }
@@ -78,8 +99,28 @@ pub fn next_string_unescape(
     ensures found { IfSome result (IsNext text.now from
         (string_decoding_changes element quotes text.now)) }
 {
+    let mut ahead = Ahead::nothing(text);
+    next_string_unescape_ahead(element, quotes, text, from, &mut ahead)
+}
+
+/// The same, by what is known of the bytes ahead.
+#[inline(always)]
+fn next_string_unescape_ahead(
+    element: Element,
+    quotes: Quotes,
+    text: &str,
+    from: usize,
+    ahead: &mut Ahead,
+) -> Option<Found<'static>>
+    requires boundary { IsCharBoundary text.now from }
+    requires ahead { IsAhead text.now ahead.old }
+    ensures none { IfNone result (string_decoding_changes element quotes text.now from ≡ []) }
+    ensures found { IfSome result (IsNext text.now from
+        (string_decoding_changes element quotes text.now)) }
+    ensures ahead { IsAhead text.now ahead.new }
+{
     let bytes = text.as_bytes();
-    let mut start = first_byte(b'\\', bytes, from);
+    let mut start = next_hit_or_end(Sought::Byte(b'\\'), text, from, ahead);
     'seeking: while start < bytes.len() {
         let after_less = is_after_less(bytes, start);
         if let Some((more, character)) = escape(element, quotes, after_less, &bytes[start + 1..]) {
@@ -89,7 +130,7 @@ pub fn next_string_unescape(
                 replacement: replacement(character),
             });
         }
-        start = first_byte(b'\\', bytes, start + 1);
+        start = next_hit_or_end(Sought::Byte(b'\\'), text, start + 1, ahead);
     }
     None
 }

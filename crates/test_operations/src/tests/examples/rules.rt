@@ -2,7 +2,9 @@
 use crate::tests::examples::is_change;
 use hesc_core::rules::escape::next_escape_ahead;
 use hesc_core::rules::html::escape::next_html_escape;
+use hesc_core::rules::references::next_references_ahead;
 use hesc_core::rules::strings::escape::next_string_escape;
+use hesc_core::rules::strings::unescape::next_unescape_ahead;
 use hesc_core::rules::{
     HtmlEscape, StringEscape, next_body_escape, next_body_unescape, next_string_unescape,
     next_unescape, string_class,
@@ -12,7 +14,7 @@ use hesc_core::{Class, Element, Quotes, Rule};
 use hesc_engine::Ahead;
 use html_escape::decoder::next_decoded;
 use html_escape::encoder::next_encoded;
-use html_escape::{Decoder, Encoder, NAMED_ENTITIES};
+use html_escape::{Decoder, Encoder, EntityTable, NAMED_ENTITIES};
 
 #[test]
 fn encoders_change_what_they_are_said_to(rt: HostRuntime) {
@@ -49,6 +51,14 @@ fn decoders_change_what_they_are_said_to(rt: HostRuntime) {
     assert!(rt; is_change(found, 2, 3, ""));
     let found = next_unescape(Class::ScriptQuoted, "it\\'s", 0);
     assert!(rt; is_change(found, 2, 4, "'"));
+    let mut ahead = Ahead::nothing("it\\'s");
+    let found = next_unescape_ahead(Class::ScriptQuoted, "it\\'s", 0, &mut ahead);
+    assert!(rt; is_change(found, 2, 4, "'"));
+    assert!(rt; ahead.hits == 0b100);
+    let mut ahead = Ahead::nothing("a&lt;b");
+    let found = next_references_ahead(&EntityTable::built_in(), "a&lt;b", 0, &mut ahead);
+    assert!(rt; is_change(found, 1, 5, "<"));
+    assert!(rt; ahead.hits == 0b10);
     let found = next_string_unescape(Element::Style, Quotes::Both, "a\\3C b", 0);
     assert!(rt; is_change(found, 1, 5, "<"));
     let found = next_decoded(Decoder::HtmlEntities, "a&lt;b", 0);

@@ -10,18 +10,19 @@ use Rattle.hesc_specs.specs.Strings.Changes.{is_after_less}
 use Rattle.hesc_specs.specs.Strings.Tokens.{escape}
 use Rattle.hesc_specs.proofs.Strings.DecodingChanges.{reached-string_decoding_changes, passed-string_decoding_changes, next-string_decoding_changes}
 use Rattle.hesc_specs.proofs.Strings.EscapeEnds.{EndsWithin, escape-ends}
-use Rattle.hesc_core.proofs.rules.strings.unescape.next_string_unescape.Goals as goal
+use Rattle.hesc_core.proofs.rules.strings.unescape.next_string_unescape_ahead.Goals as goal
 
 pub seeking-init : goal.seeking-init
 seeking-init c =
     let text = c.args.text.now in
-    let start = c.first_byte-start.result in
-    let first : IsFirstPlace (is_byte backslash) text c.args.from start = rw c.as_bytes-bytes.ensures.value at c.first_byte-start.ensures in
+    let start = c.next_hit_or_end-start.result in
+    let first : IsFirstPlace (is_byte backslash) text c.args.from start = c.next_hit_or_end-start.ensures.first in
     record {
       ordered = first.ordered;
       within = first.in_range;
       same = reached-string_decoding_changes c.args.element c.args.quotes text c.args.from start first.ordered first.in_range first.before;
       begins = first.found;
+      ahead = c.next_hit_or_end-start.ensures.ahead;
     }
 
 pub overflow_add-result-in-Some : goal.overflow_add-result-in-Some
@@ -63,17 +64,18 @@ pub seeking-preserved : goal.seeking-preserved
 seeking-preserved c =
     let text = c.args.text.now in
     let start = c.seeking.start in
-    let next = c.first_byte-start-in-seeking.result in
+    let next = c.next_hit_or_end-start-in-seeking.result in
     let inside : start < length text = omega (arith, c.as_bytes-bytes.ensures.len, c.seeking-test.true) in
     let is : slice_index text start ≡ backslash = eqb-true (slice_index text start) backslash (c.seeking.invariant.begins inside) in
     let known : c.escape.result ≡ escape c.args.element c.args.quotes (is_after_less text start) (drop (start + 1) text) =
     rw (c.is_after_less-after_less.ensures, c.as_bytes-bytes.ensures.value, take_rest text (start + 1)) at c.escape.ensures in
     let plain : escape c.args.element c.args.quotes (is_after_less text start) (drop (start + 1) text) ≡ None = sym known ∙ c.in_default.is in
-    let first : IsFirstPlace (is_byte backslash) text (start + 1) next = rw c.as_bytes-bytes.ensures.value at c.first_byte-start-in-seeking.ensures in
+    let first : IsFirstPlace (is_byte backslash) text (start + 1) next = c.next_hit_or_end-start-in-seeking.ensures.first in
     record {
       ordered = omega (arith, first.ordered, c.seeking.invariant.ordered);
       within = first.in_range;
       same = c.seeking.invariant.same ∙ (passed-string_decoding_changes c.args.element c.args.quotes text start inside is plain
           ∙ reached-string_decoding_changes c.args.element c.args.quotes text (start + 1) next first.ordered first.in_range first.before);
       begins = first.found;
+      ahead = c.next_hit_or_end-start-in-seeking.ensures.ahead;
     }

@@ -1,5 +1,5 @@
 use Rattle.std.proofs.Common.{rules}
-use Rattle.html_escape.proofs.decoder.next_decoded.Goals as goal
+use Rattle.html_escape.proofs.decoder.next_decoded_ahead.Goals as goal
 
 pub returns-in-StyleDoubleQuoted-clause-none : goal.returns-in-StyleDoubleQuoted-clause-none
 returns-in-StyleDoubleQuoted-clause-none c = search rules

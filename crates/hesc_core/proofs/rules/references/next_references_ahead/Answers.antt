@@ -5,17 +5,18 @@ use Rattle.hesc_specs.specs.Text.FirstPlace.{IsFirstPlace}
 use Rattle.hesc_specs.proofs.References.Next.{is_start, is_stop, reached, unended, cut, unknown, replaced}
 use Rattle.hesc_table.specs.Table.{rows_of}
 use Rattle.hesc_engine.specs.Text.{replacement_bytes}
-use Rattle.hesc_core.proofs.rules.references.next_references.Goals as goal
+use Rattle.hesc_core.proofs.rules.references.next_references_ahead.Goals as goal
 
 pub seeking-init : goal.seeking-init
 seeking-init c =
-    let first : IsFirstPlace is_start c.args.text.now c.args.from c.first_byte-start.result = rw c.as_bytes-bytes.ensures.value at c.first_byte-start.ensures in
+    let first : IsFirstPlace is_start c.args.text.now c.args.from c.next_hit_or_end-start.result = c.next_hit_or_end-start.ensures.first in
     record {
       after = first.ordered;
       within = first.in_range;
       bytes = c.as_bytes-bytes.ensures.value;
       begins = first.found;
-      changes = reached (rows_of c.args.table.now) c.args.text.now c.args.from c.first_byte-start.result first;
+      changes = reached (rows_of c.args.table.now) c.args.text.now c.args.from c.next_hit_or_end-start.result first;
+      ahead = c.next_hit_or_end-start.ensures.ahead;
     }
 
 pub returns-then-end-bytes-clause-none : goal.returns-then-end-bytes-clause-none
@@ -38,6 +39,7 @@ seeking-preserved-then-bytes-end-eq38 c =
       begins = λ _. stop;
       changes = c.seeking.invariant.changes
           ∙ cut (rows_of c.args.table.now) c.args.text.now c.seeking.start c.first_of_two-end.result within (c.seeking.invariant.begins within) first inner stop;
+      ahead = c.seeking.invariant.ahead;
     }
 
 pub returns-in-Some-clause-found : goal.returns-in-Some-clause-found
@@ -70,8 +72,7 @@ seeking-preserved c =
     let inner : c.first_of_two-end.result < length text = omega (arith, first.in_range, c.if-end-bytes.false, c.as_bytes-bytes.ensures.len) in
     let other : slice_index text c.first_of_two-end.result ≢ 38 = rw c.as_bytes-bytes.ensures.value at c.if-bytes-end-eq38.false in
     let ends : is_start (slice_index text c.first_of_two-end.result) ≡ false = ne_eqb (slice_index text c.first_of_two-end.result) 38 other in
-    let next : IsFirstPlace is_start text (c.first_of_two-end.result + 1) c.first_byte-start-else-bytes-end-eq38.result =
-    rw c.as_bytes-bytes.ensures.value at c.first_byte-start-else-bytes-end-eq38.ensures in
+    let next : IsFirstPlace is_start text (c.first_of_two-end.result + 1) c.next_hit_or_end-start-else-bytes-end-eq38.result = c.next_hit_or_end-start-else-bytes-end-eq38.ensures.first in
     record {
       after = omega (arith, first.ordered, next.ordered, c.seeking.invariant.after);
       within = next.in_range;
@@ -80,5 +81,6 @@ seeking-preserved c =
       changes = c.seeking.invariant.changes
           ∙ (unknown (rows_of c.args.table.now) text c.seeking.start c.first_of_two-end.result within (c.seeking.invariant.begins within) first inner ends
           (sym (rw c.as_bytes-bytes.ensures.value at c.in_default.ensures))
-          ∙ reached (rows_of c.args.table.now) text (c.first_of_two-end.result + 1) c.first_byte-start-else-bytes-end-eq38.result next);
+          ∙ reached (rows_of c.args.table.now) text (c.first_of_two-end.result + 1) c.next_hit_or_end-start-else-bytes-end-eq38.result next);
+      ahead = c.next_hit_or_end-start-else-bytes-end-eq38.ensures.ahead;
     }

@@ -1,0 +1,97 @@
+//! The search for the next bytes of one value, as a mask of them.
+ghost use Rattle.std.specs.Prelude.{◌≡◌, ◌≤◌, ◌<◌, ◌+◌, length};
+ghost use Rattle.memchr.specs.Find.{is_byte};
+ghost use Rattle.hesc_scan.specs.Blocks.{IsFirstBlock, mask_from};
+
+use crate::block::Block;
+use crate::find::first_byte_far;
+use crate::lanes::{block_hits_of_one, half_hits_of_one, hits_of_one};
+use std::simd::prelude::*;
+
+/// The mask of the first bytes at or after `from` among which one is this byte, 32 of them or as
+/// many as there are, and the place where they begin. Where there is none, the length and an empty
+/// mask.
+///
+/// `first_byte_block(b'<', b"ab<c<", 1)` is `(1, 0b1010)`.
+#[inline(always)]
+pub fn first_byte_block(byte: u8, bytes: &[u8], from: usize) -> (usize, u64)
+    requires { from ≤ length bytes.now }
+    ensures { IsFirstBlock (is_byte byte) bytes.now from result.0 result.1 }
+{
+    let (chunks, _) = bytes[from..].as_chunks::<32>();
+    if chunks.is_empty() {
+        return last_byte_block(byte, bytes, from);
+    }
+    let mask = hits_of_one(byte, u8x32::from_array(chunks[0]));
+    if mask != 0 {
+        return (from, mask);
+    }
+    if bytes.len() - from <= 64 {
+        return last_byte_block(byte, bytes, from + 32);
+    }
+    far_byte_block(byte, bytes, from)
+}
+
+// Where 32 bytes or fewer are left.
+#[inline(never)]
+fn last_byte_block(byte: u8, bytes: &[u8], from: usize) -> (usize, u64)
+    requires within { from ≤ length bytes.now }
+    requires few { length bytes.now ≤ from + 32 }
+    ensures { IsFirstBlock (is_byte byte) bytes.now from result.0 result.1 }
+{
+    let mask = mask_of_rest(byte, bytes, from);
+    if mask == 0 {
+        return (bytes.len(), 0);
+    }
+    (from, mask)
+}
+
+#[inline(never)]
+fn far_byte_block(byte: u8, bytes: &[u8], from: usize) -> (usize, u64)
+    requires { from ≤ length bytes.now }
+    ensures { IsFirstBlock (is_byte byte) bytes.now from result.0 result.1 }
+{
+    let place = first_byte_far(byte, bytes, from);
+    if place == bytes.len() {
+        return (place, 0);
+    }
+    (place, mask_at(byte, bytes, place))
+}
+
+#[inline(always)]
+fn mask_at(byte: u8, bytes: &[u8], place: usize) -> u64
+    requires { place ≤ length bytes.now }
+    ensures { result ≡ mask_from (is_byte byte) bytes.now place }
+{
+    let (chunks, _) = bytes[place..].as_chunks::<32>();
+    if chunks.is_empty() {
+        return mask_of_rest(byte, bytes, place);
+    }
+    hits_of_one(byte, u8x32::from_array(chunks[0]))
+}
+
+// Of 32 bytes or fewer.
+#[inline(always)]
+fn mask_of_rest(byte: u8, bytes: &[u8], place: usize) -> u64
+    requires within { place ≤ length bytes.now }
+    requires few { length bytes.now ≤ place + 32 }
+    ensures { result ≡ mask_from (is_byte byte) bytes.now place }
+{
+    if bytes.len() - place >= 16 {
+        return mask_of_halves(byte, bytes, place);
+    }
+    block_hits_of_one(byte, &Block::rest(bytes, place))
+}
+
+// By two halves of 16 bytes, of which the second may begin within the first.
+#[inline(always)]
+fn mask_of_halves(byte: u8, bytes: &[u8], place: usize) -> u64
+    requires one { place + 16 ≤ length bytes.now }
+    requires both { length bytes.now ≤ place + 32 }
+    ensures { result ≡ mask_from (is_byte byte) bytes.now place }
+{
+    let last = bytes.len() - 16;
+    let skip = last - place;
+    let front = half_hits_of_one(byte, bytes, place) & ((1 << skip) - 1);
+    (half_hits_of_one(byte, bytes, last) << skip) | front
+}
