@@ -17,7 +17,7 @@ import html.entities
 import pathlib
 import sys
 
-CRATE = pathlib.Path(__file__).resolve().parent.parent / "crates" / "html_entities"
+CRATES = pathlib.Path(__file__).resolve().parent.parent / "crates"
 BY = "Written by tools/named_references.py; not edited by hand."
 
 
@@ -121,15 +121,15 @@ def by_character(text):
 
 
 def write(path, lines):
-    (CRATE / path).write_text("\n".join(lines) + "\n", encoding="utf-8")
+    (CRATES / path).write_text("\n".join(lines) + "\n", encoding="utf-8")
 
 
 if __name__ == "__main__":
     if sys.argv[1:] == ["--by-character"]:
-        write("src/tests/by_character.rt", by_character(sys.stdin.read()))
+        write("test_operations/src/tests/entities/by_character.rt", by_character(sys.stdin.read()))
     elif sys.argv[1:]:
         sys.exit("usage: named_references.py [--by-character]")
     else:
-        write("src/rows.rt", constant(rows()))
-        write("specs/NamedReferences.antt", definition(rows()))
-        write("proofs/RowPlaces.antt", places(rows()))
+        write("html_entities/src/rows.rt", constant(rows()))
+        write("html_entities/specs/NamedReferences.antt", definition(rows()))
+        write("html_entities/proofs/RowPlaces.antt", places(rows()))

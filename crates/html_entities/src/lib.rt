@@ -11,8 +11,6 @@ ghost use Rattle.hesc_table.specs.Table.{rows_of};
 ghost use Rattle.html_entities.specs.NamedReferences.{named_references};
 
 mod rows;
-#[cfg(test)]
-mod tests;
 
 pub use crate::rows::ROWS;
 use html_escape::EntityTable;

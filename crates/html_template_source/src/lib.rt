@@ -9,10 +9,6 @@ mod bindings;
 mod faults;
 mod named;
 mod source;
-#[cfg(test)]
-mod template_tests;
-#[cfg(test)]
-mod tests;
 
 pub use crate::faults::{BindFault, SourceFault};
 pub use crate::named::NamedTemplate;

@@ -12,3 +12,7 @@ mod memory;
 mod pages;
 #[cfg(test)]
 mod pairs;
+#[cfg(test)]
+mod sources;
+#[cfg(test)]
+mod templates;

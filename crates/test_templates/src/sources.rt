@@ -1,6 +1,6 @@
 //! Sources that are taken and refused, and pages of bound texts.
-use crate::{BindFault, NamedTemplate, SourceFault};
 use html_template::{FillFault, TemplateFault};
+use html_template_source::{BindFault, NamedTemplate, SourceFault};
 use std::test::Fail;
 
 static SOURCES: [(&str, Option<SourceFault>); 12] = [

@@ -1,5 +1,4 @@
-//! Templates that are taken and refused, and pages. They stand here, so that the larger crate is
-//! proved once. What is expected comes from the HTML Standard,
+//! Templates that are taken and refused, and pages. What is expected comes from the HTML Standard,
 //! ECMAScript and CSS, never from the code.
 use html_template::TemplateFault::{Forbidden, Malformed, NoPlace, Unfinished};
 use html_template::{FillFault, Part, Template, TemplateFault};

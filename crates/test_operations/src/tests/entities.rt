@@ -1,8 +1,8 @@
-//! What no contract says: that the rows are those of a second source, and that a text is decoded.
+//! The table of all names: that its rows are those of a second source, and that a text is decoded.
 mod by_character;
 
-use crate::tests::by_character::NAMES;
-use crate::{built_in_names_law, html_entities};
+use crate::tests::entities::by_character::NAMES;
+use html_entities::{built_in_names_law, html_entities};
 use html_escape::{EntityTable, decode_html_entities_with};
 use std::alloc::{AllocError, Global};
 use std::process::Abort;
