@@ -1,5 +1,6 @@
-//! Tests of templates: memory that is refused, and hostile texts in every place, read back by the
-//! grammars of places, which share no code with templates. The examples of the documents are here too.
+//! Tests of templates: which are taken and which refused, memory that is refused, and hostile texts in
+//! every place, read back by the grammars of places, which share no code with templates. The examples
+//! of the documents are here too.
 #![tactic(auto)]
 
 #[cfg(test)]
