@@ -16,7 +16,7 @@ use Rattle.hesc_specs.proofs.Text.EscapeChanges.{element_of-some}
 use Rattle.hesc_specs.proofs.Strings.EncodingChanges.{FirstEscaped, ascii_character, next-string_encoding_changes, no-string_encoding_changes, separator_character}
 use Rattle.hesc_engine.specs.Next.{IsNext}
 use Rattle.hesc_engine.specs.Text.{replacement_bytes}
-use Rattle.hesc_engine.specs.declared.found.Replacement.{Replacement}
+use Rattle.hesc_sinks.specs.declared.found.Replacement.{Replacement}
 
 -- what was found is the change of the first replaced character
 is_next : (class : Class) (element : Element) (quotes : Quotes) → string_class class ≡ Some (element, quotes)

@@ -1,9 +1,9 @@
 -- The parts that a segment stands for, one after another.
 use Rattle.std.proofs.Common.{◌≡◌, ℕ, List, [], ◌∷◌, ◌++◌, refl, sym, ◌∙◌, ap, append_assoc}
 use Rattle.hesc_specs.specs.Text.Parts.{Part, joined, renewed}
-use Rattle.hesc_engine.specs.Pieces.{kept_unless_empty, stretch_of, segment_bytes}
-use Rattle.hesc_engine.specs.Text.{replacement_bytes}
-use Rattle.hesc_engine.specs.declared.segment.Segment.{Segment}
+use Rattle.hesc_engine.specs.Pieces.{kept_unless_empty, stretch_of}
+use Rattle.hesc_sinks.specs.Text.{replacement_bytes, segment_bytes}
+use Rattle.hesc_sinks.specs.declared.segment.Segment.{Segment}
 
 joined-renewed : (new : List ℕ) (later : List Part) → joined (renewed new ++ later) ≡ new ++ joined later
 joined-renewed [] later = refl

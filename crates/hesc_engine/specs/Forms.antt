@@ -1,10 +1,8 @@
 -- What the forms of an operation answer, and what they leave.
-use Rattle.std.specs.Prelude.{◌≡◌, ◌≢◌, ◌≤◌, ◌-◌, ⊤, ℕ, List, [], ◌++◌, Option, Result, String, Vec, IfOk, IsOk, OnOk, OnErr, is_ok, if◌then◌else◌, length, string_bytes, vec_len}
+use Rattle.std.specs.Prelude.{◌≡◌, ◌≢◌, ◌≤◌, ⊤, ℕ, List, [], ◌++◌, Option, Result, String, Vec, IfOk, IsOk, OnOk, OnErr, is_ok, if◌then◌else◌, length, string_bytes}
 use Rattle.std.specs.Borrow.{Bor, Fml, MutBor, follows_so, u8}
 use Rattle.std.specs.Cow.{cow_str_bytes}
 use Rattle.std.specs.Io.KnownBytes.{Appends}
-use Rattle.std.specs.String.{string_capacity, string_len}
-use Rattle.std.specs.Vec.{vec_capacity}
 use Rattle.std.specs.contracts.string.String as text
 use Rattle.std.specs.contracts.vec.Vec as vec
 use Rattle.std.specs.declared.alloc.Allocator.{Ghosts}
@@ -14,6 +12,7 @@ use denote.RattleType.{RattleType}
 use mathlib.Core.Option.{none}
 use Rattle.hesc_specs.specs.Text.Beginning.{AppendsBeginning}
 use Rattle.hesc_specs.specs.Text.Changes.{Change}
+pub use Rattle.hesc_sinks.specs.Room.{string_room, vec_room}
 
 -- it borrows exactly where nothing changes, and then the source itself
 abbrev pub BorrowsUnchanged : {A : Type 0} → List ℕ → List Change → CowStr A → Type 0
@@ -25,13 +24,6 @@ pub record AnswersText {A E : Type 0} (source made : List ℕ) (changes : List C
   pub text : IfOk result (λ cow. cow_str_bytes cow ≡ made)
   pub borrows : IfOk result (BorrowsUnchanged source changes)
   pub unchanged : changes ≡ [] → IsOk result
-
--- how many more bytes an output takes without growing
-abbrev pub string_room : {A : Type 0} → String A → ℕ
-string_room output = string_capacity output - string_len output
-
-abbrev pub vec_room : {A : Type 0} → Vec ℕ A → ℕ
-vec_room output = vec_capacity output - vec_len output
 
 -- the bytes were appended, or the output is as it was
 abbrev pub Appended : {T E : Type 0} → List ℕ → List ℕ → List ℕ → Result T E → Type 0

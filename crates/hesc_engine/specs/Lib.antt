@@ -1,7 +1,6 @@
 pub mod Ahead
-pub mod Text
+pub mod Forms
 pub mod Next
 pub mod Pieces
-pub mod Sinks
-pub mod Forms
-pub mod Stores
+pub use Rattle.hesc_sinks.specs.Sinks
+pub use Rattle.hesc_sinks.specs.Text

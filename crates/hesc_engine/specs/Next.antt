@@ -2,8 +2,8 @@
 use Rattle.std.specs.Prelude.{◌≡◌, ℕ, ◌<◌, ◌≤◌, List, ◌∷◌, length}
 use Rattle.std.specs.Str.{IsCharBoundary}
 use Rattle.hesc_specs.specs.Text.Changes.{Change}
-use Rattle.hesc_engine.specs.Text.{replacement_bytes}
-use Rattle.hesc_engine.specs.declared.found.Found.{Found}
+use Rattle.hesc_sinks.specs.Text.{replacement_bytes}
+use Rattle.hesc_sinks.specs.declared.found.Found.{Found}
 
 abbrev pub change_of : Found → Change
 change_of found = record { start = found.start; end = found.end; bytes = replacement_bytes found.replacement }

@@ -1,14 +1,14 @@
 -- The parts that pieces stand for, and those that are still to come.
 use Rattle.std.specs.Prelude.{◌≡◌, ℕ, ◌+◌, ◌-◌, List, [], ◌∷◌, ◌++◌, Option, Some, None, drop, false, length, if◌then◌else◌}
 use Rattle.hesc_specs.specs.Text.Parts.{Part, kept, fresh, parts}
-use Rattle.hesc_engine.specs.Text.{replacement_bytes}
+use Rattle.hesc_sinks.specs.Text.{replacement_bytes}
 use Rattle.hesc_engine.specs.Next.{IsNext}
-use Rattle.hesc_engine.specs.declared.found.Found.{Found}
-use Rattle.hesc_engine.specs.declared.found.Replacement.{Replacement}
+use Rattle.hesc_sinks.specs.declared.found.Found.{Found}
+use Rattle.hesc_sinks.specs.declared.found.Replacement.{Replacement}
 use Rattle.hesc_engine.specs.declared.pieces.Piece.{Piece}
 use Rattle.hesc_engine.specs.declared.pieces.Piece.TheVariants.{Kept, New}
 use Rattle.hesc_engine.specs.declared.pieces.Pieces.{Pieces}
-use Rattle.hesc_engine.specs.declared.segment.Segment.{Segment}
+use Rattle.hesc_sinks.specs.declared.segment.Segment.{Segment}
 use Rattle.hesc_engine.specs.declared.rule.Rule.{Ghosts}
 
 -- a stretch with the place where it starts, unless it is empty
@@ -48,10 +48,6 @@ IsFoundNext {rules = rules} pieces found =
 -- the stretch of a segment, unless it is empty
 abbrev pub stretch_of : Segment → List Part
 stretch_of segment = kept_unless_empty segment.start segment.kept.now
-
--- the bytes of a segment
-abbrev pub segment_bytes : Segment → List ℕ
-segment_bytes segment = segment.kept.now ++ replacement_bytes segment.new
 
 -- more than the segments that pieces still have: a change ends after its place
 abbrev pub segments_left : {R : Type 0} {rules : Ghosts R} → Pieces R rules → ℕ

@@ -7,7 +7,7 @@ ghost use Rattle.hesc_engine.specs.Pieces.{IsBeforeRest, parts_left};
 use crate::forms::made::Made;
 use crate::pieces::Pieces;
 use crate::rule::Rule;
-use crate::sink::Sink;
+use hesc_sinks::sink::Sink;
 
 /// Hands what `rule` makes of `text` to the sink, piece by piece.
 ///

@@ -3,9 +3,9 @@ ghost use Rattle.std.specs.Str.{IsCharBoundary};
 ghost use Rattle.hesc_engine.specs.Ahead.{IsAhead};
 
 use crate::ahead::Ahead;
-use crate::found::{Found, Replacement};
 use crate::rule::Rule;
-use crate::segment::Segment;
+use hesc_sinks::found::{Found, Replacement};
+use hesc_sinks::segment::Segment;
 
 /// A piece of a rule's text.
 #[derive(Clone, Copy)]
@@ -74,11 +74,10 @@ impl<'t, R: Rule> Pieces<'t, R> {
       IsFoundNext,
       parts_left,
       rest_bytes,
-      segment_bytes,
       stretch_of,
       segments_left,
     };
-    ghost use Rattle.hesc_engine.specs.Text.{replacement_bytes};
+    ghost use Rattle.hesc_sinks.specs.Text.{replacement_bytes, segment_bytes};
 
     /// The pieces of what `rule` makes of `text`.
     ///

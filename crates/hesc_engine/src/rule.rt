@@ -6,7 +6,7 @@ ghost use Rattle.hesc_engine.specs.Ahead.{IsAhead};
 ghost use Rattle.hesc_engine.specs.Next.{IsNext};
 
 use crate::ahead::Ahead;
-use crate::found::Found;
+use hesc_sinks::found::Found;
 
 /// An operation on texts. It holds no state and takes no memory.
 ///

@@ -1,8 +1,8 @@
 //! The rule that changes nothing.
 ghost use Rattle.std.specs.Prelude.{[]};
 
-use crate::found::Found;
 use crate::rule::Rule;
+use hesc_sinks::found::Found;
 
 /// Leaves every text as it is.
 #[derive(Clone, Copy)]

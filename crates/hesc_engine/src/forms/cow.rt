@@ -6,7 +6,7 @@ ghost use Rattle.hesc_engine.specs.Forms.{AnswersText};
 use crate::forms::made::Made;
 use crate::forms::parts::{Parts, SMALL_BOUND, SMALL_STACK, STACK, append_measured};
 use crate::rule::Rule;
-use crate::sinks::stack::StackSink;
+use hesc_sinks::sinks::stack::StackSink;
 use std::alloc::{AllocError, Allocator};
 use std::borrow::CowStr;
 

@@ -3,9 +3,9 @@ ghost use Rattle.std.specs.Prelude.{◌≤◌, ℕ, List, IsOk, length};
 ghost use Rattle.hesc_engine.specs.Forms.{Appended};
 
 use crate::engine::run;
-use crate::sinks::string::StringSink;
-use crate::sinks::vec::VecSink;
 use crate::unchanged::Unchanged;
+use hesc_sinks::sinks::string::StringSink;
+use hesc_sinks::sinks::vec::VecSink;
 use std::alloc::{AllocError, Allocator};
 
 /// A string, or a vector of bytes.

@@ -6,10 +6,10 @@ use crate::ahead::Ahead;
 use crate::engine::run_made;
 use crate::forms::measure::room_for;
 use crate::forms::parts::{Parts, STACK_BOUND};
-use crate::found::Found;
 use crate::rule::Rule;
-use crate::sink::Sink;
-use crate::sinks::counter::CountOverflow;
+use hesc_sinks::found::Found;
+use hesc_sinks::sink::Sink;
+use hesc_sinks::sinks::counter::CountOverflow;
 
 /// What `rule` makes of a `text` that does not stay as it is: its first change, which is searched for
 /// once, and what is known of the bytes after it.

@@ -2,7 +2,7 @@
 ghost use Rattle.std.specs.Prelude.{◌≡◌, ◌<◌, ◌≤◌, ◌^◌, [], length, IfOk, IsOk};
 
 use crate::rule::Rule;
-use crate::sinks::counter::CountOverflow;
+use hesc_sinks::sinks::counter::CountOverflow;
 
 /// The length of what `rule` makes of `text`, in bytes.
 ///

@@ -6,11 +6,11 @@ ghost use Rattle.std.specs.String.{string_bytes};
 ghost use Rattle.hesc_engine.specs.Forms.{Appended, string_room, vec_room};
 
 use crate::forms::kept::Output;
-use crate::sink::Sink;
-use crate::sinks::counter::{CountOverflow, Counter};
-use crate::sinks::filled::FilledSink;
-use crate::sinks::stack::StackSink;
 use core::mem::replace_with;
+use hesc_sinks::sink::Sink;
+use hesc_sinks::sinks::counter::{CountOverflow, Counter};
+use hesc_sinks::sinks::filled::FilledSink;
+use hesc_sinks::sinks::stack::StackSink;
 use std::alloc::{AllocError, Allocator};
 
 /// The bytes of the two arrays on the stack that a text is made in, and the longest text that is made in

@@ -3,7 +3,7 @@ ghost use Rattle.hesc_engine.specs.Forms.{WritesText};
 
 use crate::engine::run;
 use crate::rule::Rule;
-use crate::sinks::writer::WriterSink;
+use hesc_sinks::sinks::writer::WriterSink;
 use std::io::{self, Write};
 
 /// Writes what `rule` makes of `text`, or a beginning of it and then the writer's fault. It takes

@@ -1,7 +1,8 @@
 use Rattle.std.proofs.Common.{[], ◌∙◌, ap, sym, append-nil}
 use Rattle.hesc_specs.specs.Text.Parts.{joined}
-use Rattle.hesc_engine.specs.Pieces.{parts_left, segment_bytes}
-use Rattle.hesc_engine.proofs.Progress.{Progress-stop, on_err, then_on_err}
+use Rattle.hesc_engine.specs.Pieces.{parts_left}
+use Rattle.hesc_sinks.specs.Text.{segment_bytes}
+use Rattle.hesc_sinks.proofs.Progress.{Progress-stop, on_err, then_on_err}
 use Rattle.hesc_engine.proofs.Segments.{joined-segment}
 use Rattle.hesc_engine.proofs.engine.put_left.Goals as goal
 

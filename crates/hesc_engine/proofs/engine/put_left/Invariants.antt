@@ -1,7 +1,7 @@
 use Rattle.std.proofs.Common.{◌≡◌, ◌≤◌, ◌+◌, length}
 use Rattle.hesc_specs.specs.Text.Parts.{joined}
 use Rattle.hesc_engine.specs.Pieces.{IsBeforeRest, parts_left, segments_left}
-use Rattle.hesc_engine.proofs.Progress.{Progress}
+use Rattle.hesc_sinks.proofs.Progress.{Progress}
 use Rattle.hesc_engine.proofs.engine.put_left.Given as goal
 
 abbrev pub invariant-putting : goal.invariant-putting

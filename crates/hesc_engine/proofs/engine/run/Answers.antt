@@ -1,6 +1,6 @@
 use Rattle.std.proofs.Common.{◌∙◌, ap}
 use Rattle.hesc_specs.specs.Text.Parts.{joined}
-use Rattle.hesc_engine.proofs.Progress.{on_err-some}
+use Rattle.hesc_sinks.proofs.Progress.{on_err-some}
 use Rattle.hesc_engine.proofs.engine.run.Goals as goal
 
 pub returns-clause-ok_taken : goal.returns-clause-ok_taken

@@ -1,7 +1,8 @@
 use Rattle.std.proofs.Common.{◌∙◌, ap, append_assoc, arith, length, length-append, ℕ}
 use Rattle.hesc_specs.specs.Text.Parts.{joined}
-use Rattle.hesc_engine.specs.Pieces.{parts_left, segment_bytes}
-use Rattle.hesc_engine.proofs.Progress.{TookBeginning-front, TookBeginning-following, on_err, on_err-some, then_on_err, then_on_ok}
+use Rattle.hesc_engine.specs.Pieces.{parts_left}
+use Rattle.hesc_sinks.specs.Text.{segment_bytes}
+use Rattle.hesc_sinks.proofs.Progress.{TookBeginning-front, TookBeginning-following, on_err, on_err-some, then_on_err, then_on_ok}
 use Rattle.hesc_engine.proofs.engine.run_made.Goals as goal
 
 pub returns-in_err-put_segment-clause-err_taken : goal.returns-in_err-put_segment-clause-err_taken

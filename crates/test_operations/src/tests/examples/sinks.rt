@@ -3,7 +3,9 @@ ghost use Rattle.std.specs.Prelude.{◌≡◌, codes};
 
 use hesc_core::rules::Escape;
 use hesc_core::{Class, Counter, Sink, StringSink, VecSink, WriterSink, run};
+use hesc_engine::sinks::filled::FilledSink;
 use hesc_engine::sinks::log::Log;
+use hesc_engine::sinks::stack::StackSink;
 use std::process::Abort;
 use std::test::Fail;
 use test_support::{Trouble, WeakWriter, Weakness};
@@ -21,6 +23,21 @@ fn outputs_get_what_they_are_said_to(rt: HostRuntime) -> Result<(), Fail> {
     let mut sink = VecSink::new(&mut vec);
     run(&Escape(Class::Text), "a<", &mut sink)?;
     assert!(rt; sink.into_output().as_slice() == b"xaba&lt;".as_slice());
+    Ok(())
+}
+
+#[test]
+fn room_gets_what_it_is_said_to(rt: HostRuntime) -> Result<(), Fail> {
+    let mut vec = Vec::with_capacity(rt.alloc(), 8)?;
+    vec.push(b'x')?;
+    let room = vec.capacity() - vec.len();
+    let mut sink = FilledSink::new(&mut vec, room);
+    sink.put("ab")?;
+    assert!(rt; sink.into_output().as_slice() == b"xab".as_slice());
+    let mut sink = StackSink::<16>::new();
+    assert!(rt; sink.as_str().is_empty());
+    assert!(rt; sink.put("ab").is_ok() && sink.as_str() == "ab");
+    assert!(rt; sink.put("more than is left").is_err());
     Ok(())
 }
 

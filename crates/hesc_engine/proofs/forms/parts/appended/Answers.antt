@@ -1,6 +1,6 @@
 use Rattle.std.specs.Str.{IsUtf8}
 use Rattle.std.proofs.lemmas.Str.{IsUtf8-string_bytes}
-use Rattle.hesc_engine.proofs.TakenText.{text_appended}
+use Rattle.hesc_engine.proofs.Seam.{text_appended}
 use Rattle.hesc_engine.proofs.forms.parts.appended.Goals as goal
 
 pub from_utf8_unchecked-requires : goal.from_utf8_unchecked-requires

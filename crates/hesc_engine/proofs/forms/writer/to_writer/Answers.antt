@@ -1,7 +1,7 @@
 use Rattle.std.proofs.Common.{◌≡◌, ap, sym, ◌∙◌, arith}
 use Rattle.std.proofs.lemmas.Result.{on_ok_weaker, on_err_weaker}
-use Rattle.hesc_engine.specs.Sinks.{writer_sink_output, writer_sink_start}
-use Rattle.hesc_engine.proofs.Told.{told-all}
+use Rattle.hesc_sinks.specs.Sinks.{writer_sink_output, writer_sink_start}
+use Rattle.hesc_sinks.proofs.Told.{told-all}
 use Rattle.hesc_engine.proofs.forms.writer.to_writer.Goals as goal
 
 first-told : (g : _) (c : goal.After-output-1 g) → g.W.Write.contents (writer_sink_start c.run-outcome.new.sink) ≡ g.W.Write.contents c.args.output.now

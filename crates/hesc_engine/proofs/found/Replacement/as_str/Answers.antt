@@ -1,8 +1,0 @@
-use Rattle.std.proofs.Common.{refl}
-use Rattle.hesc_engine.proofs.found.Replacement.as_str.Goals as goal
-
-pub returns-in-Small : goal.returns-in-Small
-returns-in-Small c = cc
-
-pub returns-in-Borrowed : goal.returns-in-Borrowed
-returns-in-Borrowed c = rw c.in-Borrowed.is refl

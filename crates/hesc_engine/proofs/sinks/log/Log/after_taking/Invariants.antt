@@ -1,5 +1,0 @@
-use Rattle.std.proofs.Common.{◌++◌}
-use Rattle.hesc_engine.proofs.sinks.log.Log.after_taking.Given as goal
-
-abbrev pub ghost-saying : goal.ghost-saying
-ghost-saying a = (a._before.now.taken ++ a._piece.now, a._before.now.failures)

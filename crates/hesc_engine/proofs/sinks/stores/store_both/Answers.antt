@@ -1,5 +1,0 @@
-use Rattle.hesc_engine.proofs.Stores.{stored_then}
-use Rattle.hesc_engine.proofs.sinks.stores.store_both.Goals as goal
-
-pub returns : goal.returns
-returns c = stored_then _ _ _ _ _ _ _ _ c.store_short-middle.ensures c.store_padded.ensures

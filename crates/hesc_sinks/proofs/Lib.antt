@@ -1,0 +1,4 @@
+pub mod Progress
+pub mod Stores
+pub mod TakenText
+pub mod Told

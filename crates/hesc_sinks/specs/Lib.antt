@@ -1,0 +1,4 @@
+pub mod Room
+pub mod Sinks
+pub mod Stores
+pub mod Text

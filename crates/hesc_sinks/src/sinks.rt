@@ -1,0 +1,15 @@
+//! The sinks: a count, an array on the stack, a string, a vector, a writer.
+pub mod counter;
+pub mod filled;
+pub mod log;
+pub mod stack;
+mod stores;
+pub mod string;
+pub mod vec;
+pub mod writer;
+
+pub use crate::sinks::counter::{CountOverflow, Counter};
+pub use crate::sinks::stack::{StackFull, StackSink};
+pub use crate::sinks::string::StringSink;
+pub use crate::sinks::vec::VecSink;
+pub use crate::sinks::writer::WriterSink;

@@ -1,0 +1,250 @@
+//! The sink that writes into the room of a vector.
+ghost use Rattle.std.specs.Prelude.{◌≡◌, ◌≤◌, ◌-◌, ◌++◌, Some, length, take};
+ghost use Rattle.std.specs.Str.{IsUtf8};
+ghost use Rattle.std.specs.Vec.{vec_capacity};
+
+use crate::found::Replacement;
+use crate::segment::Segment;
+use crate::sink::Sink;
+use crate::sinks::log::Log;
+use crate::sinks::stores::{store, store_both};
+use crate::small_text::SmallText;
+use std::alloc::{AllocError, Allocator};
+use std::snapshot::Snapshot;
+
+static ZEROS: [u8; 1024] = [0; 1024];
+
+/// Appends to a vector up to a limit, and never grows it.
+///
+/// Short pieces are stored over zeros that were appended before, which is a store or two: an append
+/// also writes the vector's length, and the next append has to wait for it. What was not written over
+/// is cut off at the end.
+#[derive(Drop)]
+pub struct FilledSink<'a, A: Allocator> {
+    output: &'a mut Vec<u8, A>,
+    start: Snapshot<Vec<u8, A>>,
+    // How far it has written, and how far it may.
+    end: usize,
+    limit: usize,
+    log: Log,
+    pub ghost written: { end ≤ length output.now.items },
+    pub ghost filled: { length output.now.items ≤ limit },
+    pub ghost room: { limit ≤ vec_capacity output.now },
+    pub ghost holds: { take end output.now.items ≡ start.value.items ++ log.taken },
+    pub ghost utf8: { ∥ IsUtf8 log.taken ∥₁ },
+}
+
+impl<'a, A: Allocator> FilledSink<'a, A> {
+    ghost use Rattle.std.specs.Prelude.{◌+◌, [], IsOk, OnErr, OnOk};
+    ghost use Rattle.hesc_specs.specs.Text.Beginning.{TookBeginning};
+    ghost use Rattle.hesc_sinks.specs.Room.{vec_room};
+    ghost use Rattle.hesc_sinks.specs.Sinks.{
+      filled_sink_failures,
+      filled_sink_left,
+      filled_sink_output,
+      filled_sink_room,
+      filled_sink_start,
+      filled_sink_taken,
+    };
+    ghost use Rattle.hesc_sinks.specs.Text.{small_text_bytes};
+
+    /// A sink after the bytes of the output, for `room` bytes at most, for which the output has room.
+    ///
+    /// After `FilledSink::new(&mut output, 2)` over `x`, `put("ab")?` and `into_output()` it holds `xab`.
+    #[inline(always)]
+    pub fn new(output: &'a mut Vec<u8, A>, room: usize) -> FilledSink<'a, A>
+        requires { room ≤ vec_room output.old }
+        ensures same_reference { (filled_sink_output result).ghost_name ≡ output.entry.ghost_name }
+        ensures start { filled_sink_start result ≡ output.old.items }
+        ensures room { filled_sink_room result ≡ room }
+        ensures nothing { filled_sink_taken result ≡ [] }
+    {
+        let start = Snapshot::of(&*output);
+        let end = output.len();
+        FilledSink {
+            output,
+            start,
+            end,
+            limit: end + room,
+            log: Log::new(),
+        }
+    }
+
+    /// The output without the zeros that were not written over.
+    ///
+    /// After `put("ab")?` over `x` it holds `xab`.
+    #[inline(always)]
+    pub fn into_output(self) -> &'a mut Vec<u8, A>
+        ensures same_reference { result.ghost_name ≡ (filled_sink_output self.entry).ghost_name }
+        ensures items { result.now.items ≡ filled_sink_start self.entry ++ filled_sink_taken self.entry }
+        ensures utf8 { IsUtf8 (filled_sink_taken self.entry) }
+    {
+        let output = self.output;
+        output.truncate(self.end);
+        output
+    }
+
+    // How many zeros there are to write over.
+    #[inline(always)]
+    fn left(&self) -> usize
+        ensures { result ≡ filled_sink_left self.now }
+    {
+        self.output.len() - self.end
+    }
+
+    // Appends more zeros.
+    #[inline(always)]
+    fn fill(&mut self)
+        ensures taken { filled_sink_taken self.new ≡ filled_sink_taken self.old }
+        ensures failures { filled_sink_failures self.new ≡ filled_sink_failures self.old }
+        ensures room { filled_sink_room self.new ≡ filled_sink_room self.old }
+        ensures same_reference { (filled_sink_output self.new).ghost_name
+            ≡ (filled_sink_output self.old).ghost_name }
+        ensures same_start { filled_sink_start self.new ≡ filled_sink_start self.old }
+    {
+        let step = (self.limit - self.output.len()).min(ZEROS.len());
+        let _appended = self.output.extend_from_slice(&ZEROS[..step]);
+    }
+
+    // A short stretch and a short text, where there are zeros for a block of each.
+    #[inline(always)]
+    fn put_both(&mut self, segment: Segment<'_>, text: SmallText)
+        requires few { length segment.kept.now ≤ 16 }
+        requires fits { 24 ≤ filled_sink_left self.old }
+        ensures taken { filled_sink_taken self.new
+            ≡ filled_sink_taken self.old ++ (segment.entry.kept.now ++ small_text_bytes text) }
+        ensures failures { filled_sink_failures self.new ≡ filled_sink_failures self.old }
+        ensures room { filled_sink_room self.old ≤ filled_sink_room self.new
+            + (length segment.entry.kept.now + length (small_text_bytes text)) }
+        ensures same_reference { (filled_sink_output self.new).ghost_name
+            ≡ (filled_sink_output self.old).ghost_name }
+        ensures same_start { filled_sink_start self.new ≡ filled_sink_start self.old }
+    {
+        let kept = segment.kept.as_bytes();
+        self.end = store_both(
+            self.output.as_mut_slice(),
+            self.end,
+            segment.rest,
+            kept.len(),
+            text,
+        );
+        let log = self.log.after_taking(kept);
+        self.log = log.after_taking(text.as_str().as_bytes());
+    }
+
+    // A stretch and a short text, where there are too few zeros.
+    #[inline(never)]
+    fn fill_and_put(&mut self, segment: Segment<'_>, text: SmallText) -> Result<(), AllocError>
+        ensures ok_taken { OnOk result
+            (filled_sink_taken self.new ≡ filled_sink_taken self.old ++ (segment.entry.kept.now ++ small_text_bytes text)) }
+        ensures ok_failures { OnOk result
+            (filled_sink_failures self.new ≡ filled_sink_failures self.old) }
+        ensures err_taken { OnErr result (TookBeginning (filled_sink_taken self.old)
+            (filled_sink_taken self.new) (segment.entry.kept.now ++ small_text_bytes text)) }
+        ensures err_failures { OnErr result
+            (filled_sink_failures self.new ≡ filled_sink_failures self.old + 1) }
+        ensures fits { length (segment.entry.kept.now ++ small_text_bytes text) ≤ filled_sink_room self.old → IsOk result }
+        ensures room { OnOk result (filled_sink_room self.old
+            ≤ filled_sink_room self.new + length (segment.entry.kept.now ++ small_text_bytes text)) }
+        ensures same_reference { (filled_sink_output self.new).ghost_name
+            ≡ (filled_sink_output self.old).ghost_name }
+        ensures same_start { filled_sink_start self.new ≡ filled_sink_start self.old }
+    {
+        self.fill();
+        if segment.kept.len() <= 16 && self.left() >= 24 {
+            self.put_both(segment, text);
+            return Ok(());
+        }
+        self.put_some(segment.kept)?;
+        self.put_some(text.as_str())
+    }
+
+    // A piece that there are too few zeros for.
+    #[inline(never)]
+    fn append(&mut self, piece: &str) -> Result<(), AllocError>
+        ensures ok_taken { OnOk result
+            (filled_sink_taken self.new ≡ filled_sink_taken self.old ++ piece.now) }
+        ensures ok_failures { OnOk result
+            (filled_sink_failures self.new ≡ filled_sink_failures self.old) }
+        ensures err_taken { OnErr result (filled_sink_taken self.new ≡ filled_sink_taken self.old) }
+        ensures err_failures { OnErr result
+            (filled_sink_failures self.new ≡ filled_sink_failures self.old + 1) }
+        ensures fits { length piece.now ≤ filled_sink_room self.old → IsOk result }
+        ensures room { OnOk result (filled_sink_room self.old
+            ≤ filled_sink_room self.new + length piece.now) }
+        ensures same_reference { (filled_sink_output self.new).ghost_name
+            ≡ (filled_sink_output self.old).ghost_name }
+        ensures same_start { filled_sink_start self.new ≡ filled_sink_start self.old }
+    {
+        if piece.len() > self.limit - self.end {
+            self.log = self.log.after_failing();
+            return Err(AllocError);
+        }
+        self.output.truncate(self.end);
+        match self.output.extend_from_slice(piece.as_bytes()) {
+            Ok(()) => {
+                self.end += piece.len();
+                self.log = self.log.after_taking(piece.as_bytes());
+                Ok(())
+            }
+            Err(fault) => {
+                self.log = self.log.after_failing();
+                Err(fault)
+            }
+        }
+    }
+}
+
+impl<A: Allocator> Sink for FilledSink<'_, A> {
+    ghost use Rattle.hesc_sinks.specs.Sinks.{
+      filled_sink_failures,
+      filled_sink_output,
+      filled_sink_room,
+      filled_sink_start,
+      filled_sink_taken,
+    };
+
+    type Fault = AllocError;
+
+    ghost taken = { filled_sink_taken };
+
+    ghost failures = { filled_sink_failures };
+
+    ghost room = { filled_sink_room };
+
+    ghost reference = { λ sink. (filled_sink_output sink).ghost_name };
+
+    ghost before = { λ sink. Some (filled_sink_start sink) };
+
+    #[inline(always)]
+    fn put(&mut self, piece: &str) -> Result<(), AllocError> {
+        if piece.len() > self.left() {
+            return self.append(piece);
+        }
+        self.end = store(self.output.as_mut_slice(), self.end, piece.as_bytes());
+        self.log = self.log.after_taking(piece.as_bytes());
+        Ok(())
+    }
+
+    // Most stretches and replacements are short.
+    #[inline(always)]
+    fn put_segment(&mut self, segment: Segment<'_>) -> Result<(), AllocError> {
+        match segment.new {
+            Replacement::Small(text) => {
+                if self.left() < 24 {
+                    return self.fill_and_put(segment, text);
+                }
+                if segment.kept.len() <= 16 {
+                    self.put_both(segment, text);
+                    return Ok(());
+                }
+                self.put_some(segment.kept)?;
+                self.put_some(text.as_str())
+            }
+            Replacement::Borrowed(text) => {
+                self.put_some(segment.kept)?;
+                self.put_some(text)
+            }
+        }
+    }
+}

@@ -1,0 +1,136 @@
+//! The sink that writes to the stack.
+ghost use Rattle.std.specs.Prelude.{◌≡◌, ◌≤◌, length, take};
+ghost use Rattle.std.specs.Str.{IsUtf8};
+
+use crate::found::Replacement;
+use crate::segment::Segment;
+use crate::sink::Sink;
+use crate::sinks::log::Log;
+use crate::sinks::stores::{store, store_both};
+use crate::small_text::SmallText;
+use std::str;
+
+/// Writes into an array, and fails where it does not suffice.
+///
+/// A short text is made here first: its length is known before memory is asked for, and it is not
+/// looked at twice.
+#[derive(Drop)]
+pub struct StackSink<const N: usize> {
+    bytes: [u8; N],
+    end: usize,
+    log: Log,
+    pub ghost within: { end ≤ length bytes },
+    pub ghost holds: { take end bytes ≡ log.taken },
+    pub ghost utf8: { ∥ IsUtf8 log.taken ∥₁ },
+}
+
+/// The array does not suffice.
+#[derive(Clone, Copy, Debug, PartialEq, Eq)]
+pub struct StackFull;
+
+impl<const N: usize> StackSink<N> {
+    ghost use Rattle.std.specs.Prelude.{◌+◌, ◌++◌, []};
+    ghost use Rattle.hesc_sinks.specs.Sinks.{
+      stack_sink_failures,
+      stack_sink_room,
+      stack_sink_taken,
+    };
+    ghost use Rattle.hesc_sinks.specs.Text.{small_text_bytes};
+
+    /// Nothing taken yet.
+    ///
+    /// `StackSink::<16>::new().as_str()` is empty.
+    #[inline(always)]
+    pub fn new() -> StackSink<N>
+        ensures { stack_sink_taken result ≡ [] }
+    {
+        StackSink {
+            bytes: [0; N],
+            end: 0,
+            log: Log::new(),
+        }
+    }
+
+    /// What was taken.
+    ///
+    /// After `put("ab")?` it is `ab`.
+    #[inline(always)]
+    pub fn as_str(&self) -> &str
+        ensures { result.now ≡ stack_sink_taken self.now }
+    {
+        // The bytes are UTF-8, as the ghost field `utf8` keeps.
+        unsafe { str::from_utf8_unchecked(&self.bytes[..self.end]) }
+    }
+
+    #[inline(always)]
+    fn room(&self) -> usize
+        ensures { result ≡ stack_sink_room self.now }
+    {
+        N - self.end
+    }
+
+    // A short stretch and a short text, where a block of each fits.
+    #[inline(always)]
+    fn put_both(&mut self, segment: Segment<'_>, text: SmallText)
+        requires few { length segment.kept.now ≤ 16 }
+        requires fits { 24 ≤ stack_sink_room self.old }
+        ensures taken { stack_sink_taken self.new
+            ≡ stack_sink_taken self.old ++ (segment.entry.kept.now ++ small_text_bytes text) }
+        ensures failures { stack_sink_failures self.new ≡ stack_sink_failures self.old }
+        ensures room { stack_sink_room self.old ≤ stack_sink_room self.new
+            + (length segment.entry.kept.now + length (small_text_bytes text)) }
+    {
+        let kept = segment.kept.as_bytes();
+        self.end = store_both(&mut self.bytes, self.end, segment.rest, kept.len(), text);
+        let log = self.log.after_taking(kept);
+        self.log = log.after_taking(text.as_str().as_bytes());
+    }
+}
+
+impl<const N: usize> Sink for StackSink<N> {
+    ghost use Rattle.std.specs.Prelude.{None};
+    ghost use Rattle.hesc_sinks.specs.Sinks.{
+      stack_sink_failures,
+      stack_sink_room,
+      stack_sink_taken,
+    };
+
+    type Fault = StackFull;
+
+    ghost taken = { stack_sink_taken };
+
+    ghost failures = { stack_sink_failures };
+
+    ghost room = { stack_sink_room };
+
+    ghost reference = { λ _. 0 };
+
+    ghost before = { λ _. None };
+
+    #[inline(always)]
+    fn put(&mut self, piece: &str) -> Result<(), StackFull> {
+        if piece.len() > self.room() {
+            self.log = self.log.after_failing();
+            return Err(StackFull);
+        }
+        self.end = store(&mut self.bytes, self.end, piece.as_bytes());
+        self.log = self.log.after_taking(piece.as_bytes());
+        Ok(())
+    }
+
+    // Most stretches and replacements are short.
+    #[inline(always)]
+    fn put_segment(&mut self, segment: Segment<'_>) -> Result<(), StackFull> {
+        if let Replacement::Small(text) = segment.new {
+            if segment.kept.len() <= 16 && self.room() >= 24 {
+                self.put_both(segment, text);
+                return Ok(());
+            }
+        }
+        self.put_some(segment.kept)?;
+        match segment.new {
+            Replacement::Borrowed(text) => self.put_some(text),
+            Replacement::Small(text) => self.put_some(text.as_str()),
+        }
+    }
+}

@@ -1,0 +1,105 @@
+//! Short texts stored into a slice by a store or two of a constant length.
+ghost use Rattle.std.specs.Prelude.{◌≡◌, ◌≤◌, ◌+◌, ◌++◌, length, take};
+ghost use Rattle.hesc_sinks.specs.Stores.{Stored};
+ghost use Rattle.hesc_sinks.specs.Text.{small_text_bytes};
+
+use crate::small_text::SmallText;
+use std::simd::Simd;
+
+/// Stores the first `count` of the bytes, and after them the text, at a place where a block of each
+/// fits, and answers the place after both. What stands there afterwards is lost.
+#[inline(always)]
+pub(crate) fn store_both(
+    room: &mut [u8],
+    place: usize,
+    bytes: &[u8],
+    count: usize,
+    text: SmallText,
+) -> usize
+    requires few { count ≤ 16 }
+    requires there { count ≤ length bytes.now }
+    requires fits { place + 24 ≤ length room.old }
+    ensures { Stored room.old room.new place (take count bytes.now ++ small_text_bytes text) result }
+{
+    let middle = store_short(room, place, bytes, count);
+    store_padded(room, middle, text)
+}
+
+/// Stores the bytes at a place, and answers the place after them.
+#[inline(always)]
+pub(crate) fn store(room: &mut [u8], place: usize, bytes: &[u8]) -> usize
+    requires { place + length bytes.now ≤ length room.old }
+    ensures { Stored room.old room.new place bytes.now result }
+{
+    let count = bytes.len();
+    if count > 32 {
+        let end = place + count;
+        room[place..end].copy_from_slice(bytes);
+        end
+    } else if count >= 16 {
+        store_ends::<16>(room, place, bytes)
+    } else if count >= 8 {
+        store_ends::<8>(room, place, bytes)
+    } else if count >= 4 {
+        store_ends::<4>(room, place, bytes)
+    } else if count >= 2 {
+        store_ends::<2>(room, place, bytes)
+    } else if count == 1 {
+        store_block::<1>(room, place, bytes)
+    } else {
+        place
+    }
+}
+
+// At most 16 of the bytes, at a place where 16 fit.
+#[inline(always)]
+fn store_short(room: &mut [u8], place: usize, bytes: &[u8], count: usize) -> usize
+    requires few { count ≤ 16 }
+    requires there { count ≤ length bytes.now }
+    requires fits { place + 16 ≤ length room.old }
+    ensures { Stored room.old room.new place (take count bytes.now) result }
+{
+    // A block for all short stretches, empty ones too, needs no guess of how long the next is.
+    if bytes.len() >= 16 {
+        store_block::<16>(room, place, bytes);
+        return place + count;
+    }
+    if count == 0 {
+        return place;
+    }
+    store(room, place, &bytes[..count])
+}
+
+// The text with its padding, by one store.
+#[inline(always)]
+fn store_padded(room: &mut [u8], place: usize, text: SmallText) -> usize
+    requires { place + 8 ≤ length room.old }
+    ensures { Stored room.old room.new place (small_text_bytes text) result }
+{
+    store_block::<8>(room, place, &text.block());
+    place + text.len()
+}
+
+// As many bytes as a block has, or up to twice as many: the last ones overlap the first.
+#[inline(always)]
+fn store_ends<const N: usize>(room: &mut [u8], place: usize, bytes: &[u8]) -> usize
+    requires one { N ≤ length bytes.now }
+    requires both { length bytes.now ≤ N + N }
+    requires fits { place + length bytes.now ≤ length room.old }
+    ensures { Stored room.old room.new place bytes.now result }
+{
+    let last = bytes.len() - N;
+    store_block::<N>(room, place, bytes);
+    store_block::<N>(room, place + last, &bytes[last..])
+}
+
+// The first bytes, as many as a block has, by one load and one store.
+#[inline(always)]
+fn store_block<const N: usize>(room: &mut [u8], place: usize, bytes: &[u8]) -> usize
+    requires there { N ≤ length bytes.now }
+    requires fits { place + N ≤ length room.old }
+    ensures { Stored room.old room.new place (take N bytes.now) result }
+{
+    Simd::<u8, N>::from_slice(bytes).copy_to_slice(&mut room[place..]);
+    place + N
+}
