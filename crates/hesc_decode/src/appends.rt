@@ -6,7 +6,7 @@ ghost use Rattle.hesc_specs.specs.Text.Escaped.{unescaped};
 ghost use Rattle.hesc_engine.specs.Forms.{AnswersPart, StringAppended, VecAppended, string_room, vec_room};
 
 use hesc_core::forms::{onto_string, onto_vec};
-use hesc_core::rules::{DecodeScript, DecodeStyle, Unescape};
+use hesc_core::rules::{DecodeScript, DecodeStyle, StringUnescape, Unchanged, string_class};
 use hesc_core::{Class, Element};
 use std::alloc::{AllocError, Allocator};
 
@@ -20,7 +20,10 @@ pub(crate) fn decode_onto_string<'o, A: Allocator>(
     ensures* appended { sem 𝓛 (StringAppended A.row A.Allocator output.entry
         (unescaped class text.now) result) }
 {
-    onto_string(output, &Unescape(class), text)
+    match string_class(class) {
+        Some((element, quotes)) => onto_string(output, &StringUnescape(element, quotes), text),
+        None => onto_string(output, &Unchanged, text),
+    }
 }
 
 #[inline(always)]
@@ -33,7 +36,10 @@ pub(crate) fn decode_onto_vec<'o, A: Allocator>(
     ensures* appended { sem 𝓛 (VecAppended A.row A.Allocator output.entry
         (unescaped class text.now) result) }
 {
-    onto_vec(output, &Unescape(class), text)
+    match string_class(class) {
+        Some((element, quotes)) => onto_vec(output, &StringUnescape(element, quotes), text),
+        None => onto_vec(output, &Unchanged, text),
+    }
 }
 
 #[inline(always)]

@@ -7,12 +7,24 @@ ghost use Rattle.hesc_specs.specs.declared.quotes.Quotes.TheVariants.{Single, Do
 ghost use Rattle.hesc_engine.specs.Forms.{AnswersPart, AnswersText, StringAppended, VecAppended, WritesText, string_room, vec_room};
 
 use crate::appends::{decode_onto_string, decode_onto_vec};
-use hesc_core::Class;
 use hesc_core::forms::{to_cow, to_writer};
-use hesc_core::rules::Unescape;
+use hesc_core::rules::StringUnescape;
+use hesc_core::{Class, Element, Quotes};
 use std::alloc::{AllocError, Allocator};
 use std::borrow::CowStr;
 use std::io::{self, Write};
+
+const SCRIPT_SINGLE: StringUnescape = StringUnescape(Element::Script, Quotes::Single);
+
+const SCRIPT_DOUBLE: StringUnescape = StringUnescape(Element::Script, Quotes::Double);
+
+const SCRIPT_BOTH: StringUnescape = StringUnescape(Element::Script, Quotes::Both);
+
+const STYLE_SINGLE: StringUnescape = StringUnescape(Element::Style, Quotes::Single);
+
+const STYLE_DOUBLE: StringUnescape = StringUnescape(Element::Style, Quotes::Double);
+
+const STYLE_BOTH: StringUnescape = StringUnescape(Element::Style, Quotes::Both);
 
 // `decode_script_single_quoted_text`: in a script's string `\\`, `\'`, `\x` and two upper-case hex
 // digits of a C0 control or of `<`, `\u2028` and `\u2029` become their characters. Right after a
@@ -30,7 +42,7 @@ pub fn decode_script_single_quoted_text<'t, A: Allocator>(
     ensures { AnswersText text.now (string_decoding Script Single text.now)
         (string_decoding_changes Script Single text.now 0) result }
 {
-    to_cow(alloc, &Unescape(Class::ScriptSingleQuoted), text)
+    to_cow(alloc, &SCRIPT_SINGLE, text)
 }
 
 /// Appends `text` decoded to `output`, and answers the part that was added. On a refusal
@@ -78,7 +90,7 @@ pub fn decode_script_single_quoted_text_to_writer<W: Write>(
     ensures { WritesText (W.contents output.old) (W.contents output.new)
         (string_decoding Script Single text.now) result }
 {
-    to_writer(&Unescape(Class::ScriptSingleQuoted), text, output)
+    to_writer(&SCRIPT_SINGLE, text, output)
 }
 
 // `decode_script_double_quoted_text`: in a script's string `\\`, `\"`, `\x` and two upper-case hex
@@ -97,7 +109,7 @@ pub fn decode_script_double_quoted_text<'t, A: Allocator>(
     ensures { AnswersText text.now (string_decoding Script Double text.now)
         (string_decoding_changes Script Double text.now 0) result }
 {
-    to_cow(alloc, &Unescape(Class::ScriptDoubleQuoted), text)
+    to_cow(alloc, &SCRIPT_DOUBLE, text)
 }
 
 /// Appends `text` decoded to `output`, and answers the part that was added. On a refusal
@@ -145,7 +157,7 @@ pub fn decode_script_double_quoted_text_to_writer<W: Write>(
     ensures { WritesText (W.contents output.old) (W.contents output.new)
         (string_decoding Script Double text.now) result }
 {
-    to_writer(&Unescape(Class::ScriptDoubleQuoted), text, output)
+    to_writer(&SCRIPT_DOUBLE, text, output)
 }
 
 // `decode_script_quoted_text`: in a script's string `\\`, `\'`, `\"`, `\x` and two upper-case hex
@@ -164,7 +176,7 @@ pub fn decode_script_quoted_text<'t, A: Allocator>(
     ensures { AnswersText text.now (string_decoding Script Both text.now)
         (string_decoding_changes Script Both text.now 0) result }
 {
-    to_cow(alloc, &Unescape(Class::ScriptQuoted), text)
+    to_cow(alloc, &SCRIPT_BOTH, text)
 }
 
 /// Appends `text` decoded to `output`, and answers the part that was added. On a refusal
@@ -211,7 +223,7 @@ pub fn decode_script_quoted_text_to_writer<W: Write>(
     ensures { WritesText (W.contents output.old) (W.contents output.new)
         (string_decoding Script Both text.now) result }
 {
-    to_writer(&Unescape(Class::ScriptQuoted), text, output)
+    to_writer(&SCRIPT_BOTH, text, output)
 }
 
 // `decode_style_single_quoted_text`: in a style's string `\\`, `\'`, and `\`, two upper-case hex
@@ -230,7 +242,7 @@ pub fn decode_style_single_quoted_text<'t, A: Allocator>(
     ensures { AnswersText text.now (string_decoding Style Single text.now)
         (string_decoding_changes Style Single text.now 0) result }
 {
-    to_cow(alloc, &Unescape(Class::StyleSingleQuoted), text)
+    to_cow(alloc, &STYLE_SINGLE, text)
 }
 
 /// Appends `text` decoded to `output`, and answers the part that was added. On a refusal
@@ -278,7 +290,7 @@ pub fn decode_style_single_quoted_text_to_writer<W: Write>(
     ensures { WritesText (W.contents output.old) (W.contents output.new)
         (string_decoding Style Single text.now) result }
 {
-    to_writer(&Unescape(Class::StyleSingleQuoted), text, output)
+    to_writer(&STYLE_SINGLE, text, output)
 }
 
 // `decode_style_double_quoted_text`: in a style's string `\\`, `\"`, and `\`, two upper-case hex
@@ -297,7 +309,7 @@ pub fn decode_style_double_quoted_text<'t, A: Allocator>(
     ensures { AnswersText text.now (string_decoding Style Double text.now)
         (string_decoding_changes Style Double text.now 0) result }
 {
-    to_cow(alloc, &Unescape(Class::StyleDoubleQuoted), text)
+    to_cow(alloc, &STYLE_DOUBLE, text)
 }
 
 /// Appends `text` decoded to `output`, and answers the part that was added. On a refusal
@@ -345,7 +357,7 @@ pub fn decode_style_double_quoted_text_to_writer<W: Write>(
     ensures { WritesText (W.contents output.old) (W.contents output.new)
         (string_decoding Style Double text.now) result }
 {
-    to_writer(&Unescape(Class::StyleDoubleQuoted), text, output)
+    to_writer(&STYLE_DOUBLE, text, output)
 }
 
 // `decode_style_quoted_text`: in a style's string `\\`, `\'`, `\"`, and `\`, two upper-case hex
@@ -364,7 +376,7 @@ pub fn decode_style_quoted_text<'t, A: Allocator>(
     ensures { AnswersText text.now (string_decoding Style Both text.now)
         (string_decoding_changes Style Both text.now 0) result }
 {
-    to_cow(alloc, &Unescape(Class::StyleQuoted), text)
+    to_cow(alloc, &STYLE_BOTH, text)
 }
 
 /// Appends `text` decoded to `output`, and answers the part that was added. On a refusal
@@ -411,5 +423,5 @@ pub fn decode_style_quoted_text_to_writer<W: Write>(
     ensures { WritesText (W.contents output.old) (W.contents output.new)
         (string_decoding Style Both text.now) result }
 {
-    to_writer(&Unescape(Class::StyleQuoted), text, output)
+    to_writer(&STYLE_BOTH, text, output)
 }

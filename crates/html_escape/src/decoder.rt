@@ -11,7 +11,7 @@ ghost use Rattle.html_escape.specs.Decoders.{
 
 use hesc_core::rules::next_body_unescape;
 use hesc_core::rules::references::next_references_ahead;
-use hesc_core::rules::strings::unescape::next_unescape_ahead;
+use hesc_core::rules::unescape::next_unescape_ahead;
 use hesc_core::{Class, Element, EntityTable, Found, Rule};
 use hesc_engine::ahead::Ahead;
 

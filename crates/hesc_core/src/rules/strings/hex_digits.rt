@@ -2,6 +2,8 @@
 ghost use Rattle.std.specs.Prelude.{◌≡◌, ◌<◌};
 ghost use Rattle.hesc_specs.specs.Text.HexDigits.{hex_digit};
 
+const DIGITS: [u8; 16] = *b"0123456789ABCDEF";
+
 /// A digit 0 to 15, as a digit or an upper-case letter.
 #[inline(always)]
 pub fn upper_hex_digit(digit: u8) -> u8
@@ -9,9 +11,5 @@ pub fn upper_hex_digit(digit: u8) -> u8
     ensures digit { result ≡ hex_digit digit }
     ensures ascii { result < 128 }
 {
-    if digit < 10 {
-        b'0' + digit
-    } else {
-        b'A' + (digit - 10)
-    }
+    DIGITS[digit as usize]
 }

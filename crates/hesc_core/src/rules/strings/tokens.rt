@@ -71,10 +71,11 @@ fn mark_escape(quotes: Quotes, bytes: &[u8]) -> Option<(usize, char)>
 fn is_quote(quotes: Quotes, byte: u8) -> bool
     ensures { result ≡ among quotes byte }
 {
-    match quotes {
-        Quotes::Single => byte == b'\'',
-        Quotes::Double => byte == b'"',
-        Quotes::Both => byte == b'\'' || byte == b'"',
+    // The byte first: most are no quote mark, whichever are known.
+    match byte {
+        b'\'' => !matches!(quotes, Quotes::Double),
+        b'"' => !matches!(quotes, Quotes::Single),
+        _ => false,
     }
 }
 
@@ -93,15 +94,18 @@ fn number_escape(element: Element, bytes: &[u8]) -> Option<(usize, char)>
     }
 }
 
+// By the first digit: that of `<`, or that of a control.
 #[inline(always)]
 fn is_pair(least: u8, high: u8, low: u8) -> bool
+    requires { least ≤ 1 }
     ensures { result ≡ writes_pair least high low }
 {
-    if !is_upper_hex(high) || !is_upper_hex(low) {
-        return false;
+    match high {
+        b'3' => low == b'C',
+        b'1' => is_upper_hex(low),
+        b'0' => is_upper_hex(low) && low >= b'0' + least,
+        _ => false,
     }
-    let value = pair_value(high, low);
-    least <= value && value < 32 || value == b'<'
 }
 
 #[inline(always)]

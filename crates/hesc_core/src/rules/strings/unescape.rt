@@ -1,40 +1,41 @@
-//! Unescaping by a class: in an encoded string each escape becomes the character that it stands
-//! for.
+//! Unescaping of strings: in an encoded string each escape becomes the character that it stands for.
 ghost use Rattle.std.specs.Prelude.{◌≡◌, [], IfNone, IfSome, encode_utf8};
 ghost use Rattle.std.specs.Str.{IsCharBoundary};
-ghost use Rattle.hesc_specs.specs.Text.Escaped.{unescape_changes, unescaped};
 ghost use Rattle.hesc_specs.specs.Strings.Changes.{string_decoding_changes};
-ghost use Rattle.hesc_specs.proofs.Text.UnescapeChanges.{applied-unescape_changes};
+ghost use Rattle.hesc_specs.specs.Strings.Tokens.{string_decoding};
+ghost use Rattle.hesc_specs.proofs.Strings.DecodingChanges.{applied-string_decoding_changes};
 ghost use Rattle.hesc_engine.specs.Ahead.{IsAhead};
 ghost use Rattle.hesc_engine.specs.Next.{IsNext};
 ghost use Rattle.hesc_engine.specs.Text.{replacement_bytes};
 
 use crate::rules::ahead::next_hit_or_end;
-use crate::rules::strings::classes::string_class;
 use crate::rules::strings::tokens::{escape, is_after_less};
 use hesc_engine::ahead::{Ahead, Sought};
 use hesc_engine::found::{Found, Replacement};
 use hesc_engine::rule::Rule;
 use hesc_engine::small_text::SmallText;
-use hesc_specs::{Class, Element, Quotes};
+use hesc_specs::{Element, Quotes};
 
-/// The decoder of a class. That of an HTML encoder's class changes nothing.
+/// The decoder of an element's strings with these quote marks. `Unescape` takes any class, and asks
+/// for both at each escape.
+///
+/// Of a script and both marks it changes the bytes 2 to 4 of `it\'s` to `'`.
 #[derive(Clone, Copy)]
-pub struct Unescape(pub Class);
+pub struct StringUnescape(pub Element, pub Quotes);
 
-impl Rule for Unescape {
-    ghost changes_from = { λ rule. unescape_changes rule.0 };
+impl Rule for StringUnescape {
+    ghost changes_from = { λ rule. string_decoding_changes rule.0 rule.1 };
 
-    ghost made = { λ rule. unescaped rule.0 };
+    ghost made = { λ rule. string_decoding rule.0 rule.1 };
 
     #[inline(always)]
     fn next(&self, text: &str, from: usize) -> Option<Found<'_>> {
-        next_unescape(self.0, text, from)
+        next_string_unescape(self.0, self.1, text, from)
     }
 
     #[inline(always)]
     fn next_ahead(&self, text: &str, from: usize, ahead: &mut Ahead) -> Option<Found<'_>> {
-        next_unescape_ahead(self.0, text, from, ahead)
+        next_string_unescape_ahead(self.0, self.1, text, from, ahead)
     }
 
     /// The source's length: no escape is shorter than its character.
@@ -43,44 +44,7 @@ impl Rule for Unescape {
         Some(text.len())
     }
 
-    ghost makes = { λ rule source _. applied-unescape_changes rule.0 source };
-}
-
-/// The first escape at or after `from`, a character boundary, where the reading begins, and its
-/// character. In an HTML encoder's class there is none.
-///
-/// In `it\'s` from 0, of `Class::ScriptQuoted`, it is the bytes 2 to 4, which become `'`.
-#[inline(always)]
-pub fn next_unescape(class: Class, text: &str, from: usize) -> Option<Found<'static>>
-    requires { IsCharBoundary text.now from }
-    ensures none { IfNone result (unescape_changes class text.now from ≡ []) }
-    ensures found { IfSome result (IsNext text.now from (unescape_changes class text.now)) }
-{
-    let mut ahead = Ahead::nothing(text);
-    next_unescape_ahead(class, text, from, &mut ahead)
-}
-
-/// The same, by what is known of the bytes ahead, which stays true.
-///
-/// In `it\'s` from 0, of `Class::ScriptQuoted`, it is the bytes 2 to 4 again, and of `ahead` the
-/// `hits` are then `0b100`.
-#[inline(always)]
-pub fn next_unescape_ahead(
-    class: Class,
-    text: &str,
-    from: usize,
-    ahead: &mut Ahead,
-) -> Option<Found<'static>>
-    requires boundary { IsCharBoundary text.now from }
-    requires ahead { IsAhead text.now ahead.old }
-    ensures none { IfNone result (unescape_changes class text.now from ≡ []) }
-    ensures found { IfSome result (IsNext text.now from (unescape_changes class text.now)) }
-    ensures ahead { IsAhead text.now ahead.new }
-{
-    match string_class(class) {
-        Some((element, quotes)) => next_string_unescape_ahead(element, quotes, text, from, ahead),
-        None => None,
-    }
+    ghost makes = { λ rule source _. applied-string_decoding_changes rule.0 rule.1 source };
 }
 
 /// The first escape of an encoded string at or after `from`, a character boundary, where the
@@ -105,7 +69,7 @@ pub fn next_string_unescape(
 
 /// The same, by what is known of the bytes ahead.
 #[inline(always)]
-fn next_string_unescape_ahead(
+pub(crate) fn next_string_unescape_ahead(
     element: Element,
     quotes: Quotes,
     text: &str,

@@ -4,10 +4,10 @@ use hesc_core::rules::escape::next_escape_ahead;
 use hesc_core::rules::html::escape::next_html_escape;
 use hesc_core::rules::references::next_references_ahead;
 use hesc_core::rules::strings::escape::next_string_escape;
-use hesc_core::rules::strings::unescape::next_unescape_ahead;
+use hesc_core::rules::unescape::next_unescape_ahead;
 use hesc_core::rules::{
-    HtmlEscape, StringEscape, next_body_escape, next_body_unescape, next_string_unescape,
-    next_unescape, string_class,
+    HtmlEscape, StringEscape, StringUnescape, next_body_escape, next_body_unescape,
+    next_string_unescape, next_unescape, string_class,
 };
 use hesc_core::table::entities::entities_agree;
 use hesc_core::{Class, Element, Quotes, Rule};
@@ -61,6 +61,8 @@ fn decoders_change_what_they_are_said_to(rt: HostRuntime) {
     assert!(rt; ahead.hits == 0b10);
     let found = next_string_unescape(Element::Style, Quotes::Both, "a\\3C b", 0);
     assert!(rt; is_change(found, 1, 5, "<"));
+    let string = StringUnescape(Element::Script, Quotes::Both);
+    assert!(rt; is_change(string.next("it\\'s", 0), 2, 4, "'"));
     let found = next_decoded(Decoder::HtmlEntities, "a&lt;b", 0);
     assert!(rt; is_change(found, 1, 5, "<"));
 }

@@ -1,4 +1,4 @@
-use Rattle.hesc_core.proofs.rules.strings.unescape.UnescapeRule.next.Goals as goal
+use Rattle.hesc_core.proofs.rules.unescape.UnescapeRule.next.Goals as goal
 
 pub returns-clause-none : goal.returns-clause-none
 returns-clause-none c = c.next_unescape.ensures.none
