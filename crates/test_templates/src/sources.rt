@@ -62,6 +62,6 @@ fn bindings(rt: HostRuntime) -> Result<(), Fail> {
             == Err(BindFault::Fill(FillFault::EmptyUnquoted(0)))
     );
     assert!(rt; template.append(&mut page, &[("id", "\""), ("title", "a b")]) == Ok(()));
-    assert_eq!(rt; page.as_str(), "<p title=a&#x20;b id=\"&quot;\">a b</p>");
+    assert!(rt; page.as_str() == "<p title=a&#x20;b id=\"&quot;\">a b</p>");
     Ok(())
 }

@@ -237,7 +237,7 @@ fn fills(rt: HostRuntime) -> Result<(), Fail> {
     assert!(rt; template.append(&mut output, &["", "b"]) == Err(FillFault::EmptyUnquoted(0)));
     assert!(rt; template.append(&mut output, &["a", ""]) == Ok(()));
     assert!(rt; template.append(&mut output, &["b", "<"]) == Ok(()));
-    assert_eq!(rt; output.as_str(), "x<p a=a><p a=b>&lt;");
+    assert!(rt; output.as_str() == "x<p a=a><p a=b>&lt;");
     Ok(())
 }
 
@@ -262,6 +262,6 @@ fn long_templates(rt: HostRuntime) -> Result<(), Fail> {
     };
     let mut page = String::new(alloc);
     assert!(rt; template.append(&mut page, &texts) == Ok(()));
-    assert_eq!(rt; page.as_str().len(), 40000 * 25 + 100000 * 20);
+    assert!(rt; page.as_str().len() == 40000 * 25 + 100000 * 20);
     Ok(())
 }
