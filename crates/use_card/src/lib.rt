@@ -36,9 +36,8 @@ mod tests {
     #[test]
     fn a_title_stays_in_its_place(rt: HostRuntime) -> Result<(), Fail> {
         let made = card(rt.alloc(), "\"><script>", "<");
-        assert_eq!(rt;
-            made.as_deref(),
-            Ok("<figure title=\"&quot;&gt;&lt;script&gt;\"><b>&lt;</b></figure>")
+        assert!(rt;
+            made.as_deref() == Ok("<figure title=\"&quot;&gt;&lt;script&gt;\"><b>&lt;</b></figure>")
         );
         Ok(())
     }

@@ -29,10 +29,7 @@ mod tests {
     #[test]
     fn no_text_leaves_its_place(rt: HostRuntime) -> Result<(), Fail> {
         let cell = cell(rt.alloc(), "a \"b\"", "</td>")?;
-        assert_eq!(rt;
-            cell.as_str(),
-            "<td title=\"a &quot;b&quot;\">&lt;/td&gt;</td>"
-        );
+        assert!(rt; cell.as_str() == "<td title=\"a &quot;b&quot;\">&lt;/td&gt;</td>");
         Ok(())
     }
 }

@@ -80,9 +80,9 @@ mod tests {
             assert!(rt; false);
             return Ok(());
         };
-        assert_eq!(rt;
-            page.as_str(),
-            "<form method=post action=\"/notes/7&quot;&lt;/script&gt;\"><input name=title value=\"&quot; autofocus onfocus=&quot;\"><input name=tags value='&#x27; a'><textarea name=text>\n&lt;/textarea&gt;</textarea></form><script>restore(\"7\\\"\\x3C/script>\");</script>"
+        assert!(rt;
+            page.as_str()
+                == "<form method=post action=\"/notes/7&quot;&lt;/script&gt;\"><input name=title value=\"&quot; autofocus onfocus=&quot;\"><input name=tags value='&#x27; a'><textarea name=text>\n&lt;/textarea&gt;</textarea></form><script>restore(\"7\\\"\\x3C/script>\");</script>"
         );
         Ok(())
     }

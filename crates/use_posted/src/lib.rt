@@ -45,11 +45,11 @@ mod tests {
     fn a_strangers_form_is_read(rt: HostRuntime) -> Result<(), Fail> {
         let posted = b"<input a=1 /><script>alert('\\x3C\\u0041');</script>rest";
         let script = posted_script(rt.alloc(), posted.as_slice())?;
-        assert_eq!(rt; script.as_deref(), Some(b"<A".as_slice()));
+        assert!(rt; script.as_deref() == Some(b"<A".as_slice()));
         let other = posted_script(rt.alloc(), b"<p>hello</p>")?;
-        assert_eq!(rt; other.as_deref(), None);
+        assert!(rt; other.as_deref().is_none());
         let value = value_text(rt.alloc(), "é&lt;\" rest")?;
-        assert_eq!(rt; value.as_deref(), Some("é<"));
+        assert!(rt; value.as_deref() == Some("é<"));
         Ok(())
     }
 }

@@ -118,9 +118,9 @@ mod tests {
             assert!(rt; false);
             return Ok(());
         };
-        assert_eq!(rt;
-            page.as_str(),
-            "<!DOCTYPE html><title>&lt;/title&gt;</title><table><tr><td>&lt;/table&gt;<td data-price=\"1&quot;&gt;\">&#8364;</tr><tr><td>tea<td data-price=\"2\">&#8364;</tr></table>"
+        assert!(rt;
+            page.as_str()
+                == "<!DOCTYPE html><title>&lt;/title&gt;</title><table><tr><td>&lt;/table&gt;<td data-price=\"1&quot;&gt;\">&#8364;</tr><tr><td>tea<td data-price=\"2\">&#8364;</tr></table>"
         );
         Ok(())
     }

@@ -59,14 +59,14 @@ mod tests {
     fn a_query_comes_back(rt: HostRuntime) -> Result<(), Fail> {
         let query = "\"</script>";
         let page = search_page(rt.alloc(), query);
-        assert_eq!(rt;
-            page.as_deref(),
-            Ok(
-                "<input value=\"&quot;&lt;/script&gt;\"><script>show(\"\\\"\\x3C/script>\")</script>"
-            )
+        assert!(rt;
+            page.as_deref()
+                == Ok(
+                    "<input value=\"&quot;&lt;/script&gt;\"><script>show(\"\\\"\\x3C/script>\")</script>"
+                )
         );
         let shown = shown(rt.alloc(), query);
-        assert_eq!(rt; shown.as_deref(), Ok(query.as_bytes()));
+        assert!(rt; shown.as_deref() == Ok(query.as_bytes()));
         Ok(())
     }
 }

@@ -54,9 +54,9 @@ mod tests {
             assert!(rt; false);
             return Ok(());
         };
-        assert_eq!(rt;
-            page.as_str(),
-            "<!DOCTYPE html><title>'\"&lt;/title&gt;&lt;/script&gt;</title><form action=/search><input name=q value=\"'&quot;&lt;/title&gt;&lt;/script&gt;\"></form><script>log('\\'\"\\x3C/title>\\x3C/script>');</script><p>Nothing was found for '\"&lt;/title&gt;&lt;/script&gt;.</p>"
+        assert!(rt;
+            page.as_str()
+                == "<!DOCTYPE html><title>'\"&lt;/title&gt;&lt;/script&gt;</title><form action=/search><input name=q value=\"'&quot;&lt;/title&gt;&lt;/script&gt;\"></form><script>log('\\'\"\\x3C/title>\\x3C/script>');</script><p>Nothing was found for '\"&lt;/title&gt;&lt;/script&gt;.</p>"
         );
         Ok(())
     }

@@ -45,7 +45,7 @@ mod tests {
     #[test]
     fn a_name_of_the_rows_has_its_value(rt: HostRuntime) -> Result<(), Fail> {
         let made = decode(rt.alloc(), "I &hearts; &lt;b&gt; &copy;")?;
-        assert_eq!(rt; made.as_str(), "I \u{2665} <b> &copy;");
+        assert!(rt; made.as_str() == "I \u{2665} <b> &copy;");
         Ok(())
     }
 }
