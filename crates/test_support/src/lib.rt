@@ -4,7 +4,6 @@
 #![tactic(auto)]
 
 pub mod amounts;
-mod counting;
 pub mod flaws;
 pub mod long;
 pub mod operations;
@@ -13,6 +12,5 @@ mod refusing;
 pub mod rows;
 mod streams;
 
-pub use crate::counting::{CountingWriter, Flush};
 pub use crate::refusing::Refusing;
-pub use crate::streams::{Trouble, WeakReader, WeakWriter, Weakness};
+pub use crate::streams::{Flush, Trouble, WeakReader, WeakWriter, Weakness};

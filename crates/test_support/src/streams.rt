@@ -17,6 +17,14 @@ pub enum Trouble {
     Idle,
 }
 
+/// What a writer does where it is flushed.
+#[derive(Clone, Copy, Debug, PartialEq, Eq)]
+pub enum Flush {
+    Succeeds,
+    /// It fails, by an error of the kind `Other`.
+    Fails,
+}
+
 /// How a stream is weak: at most `step` bytes a call, and `trouble` at the call of number `at`.
 ///
 /// The first call has the number 1. Every call counts, that with the trouble too.
@@ -58,6 +66,8 @@ pub struct WeakWriter {
     /// How often `flush` was called.
     pub flushes: u64,
     pub weakness: Weakness,
+    /// What it does where it is flushed; at first it succeeds.
+    pub flush: Flush,
     alloc: Global,
 }
 
@@ -74,6 +84,7 @@ impl WeakWriter {
             empty_calls: 0,
             flushes: 0,
             weakness,
+            flush: Flush::Succeeds,
             alloc,
         }
     }
@@ -109,7 +120,10 @@ impl Write for WeakWriter {
 
     fn flush(&mut self) -> io::Result<()> {
         self.flushes = self.flushes.saturating_add(1);
-        Ok(())
+        match self.flush {
+            Flush::Succeeds => Ok(()),
+            Flush::Fails => Err(Error::from(ErrorKind::Other)),
+        }
     }
 }
 

@@ -32,7 +32,7 @@ fn through(alloc: Global, words: &[&str], input: &[u8]) -> Result<Served, AllocE
 // The program's words, its input and what is written.
 type Row = (&'static [&'static str], Long, Long);
 
-const ROWS: [Row; 7] = [
+static ROWS: [Row; 7] = [
     (
         &["hesc", "encode_text"],
         ("", "a", MEGABYTE, ""),
@@ -82,7 +82,7 @@ const ROWS: [Row; 7] = [
 
 #[test]
 fn a_megabyte_takes_few_calls(rt: HostRuntime) -> Result<(), Fail> {
-    for (words, input, written) in ROWS {
+    for &(words, input, written) in &ROWS {
         let input = long_text(rt.alloc(), input)?;
         let written = long_text(rt.alloc(), written)?;
         let served = through(rt.alloc(), words, input.as_bytes())?;
@@ -91,7 +91,7 @@ fn a_megabyte_takes_few_calls(rt: HostRuntime) -> Result<(), Fail> {
             served.reads <= input.len() as u64 / READ_SIZE + 2,
             "{words:?}"
         );
-        assert!(rt; served.output.weak.calls == 1, "{words:?}");
+        assert!(rt; served.output.calls == 1, "{words:?}");
     }
     Ok(())
 }

@@ -3,7 +3,7 @@ use hesc_tool::serve;
 use std::alloc::{AllocError, Allocator, Global};
 use std::env::Args;
 use std::io;
-use test_support::{CountingWriter, Flush, Refusing, Trouble, WeakReader, Weakness};
+use test_support::{Flush, Refusing, Trouble, WeakReader, WeakWriter, Weakness};
 
 /// The program's name and the words after it, what standard input has, and what has to come of
 /// them: the status, what is written, and the line on the error stream.
@@ -58,8 +58,8 @@ const CALM_STREAMS: Streams = Streams {
 pub struct Served {
     pub status: u8,
     pub reads: u64,
-    pub output: CountingWriter,
-    pub errors: CountingWriter,
+    pub output: WeakWriter,
+    pub errors: WeakWriter,
 }
 
 /// Runs the program.
@@ -71,8 +71,9 @@ pub fn serve_over<A: Allocator>(
     heap: Global,
 ) -> Served {
     let mut input = WeakReader::new(input, streams.input);
-    let mut output = CountingWriter::new(heap, streams.output, streams.flush);
-    let mut errors = CountingWriter::new(heap, streams.errors, Flush::Succeeds);
+    let mut output = WeakWriter::new(heap, streams.output);
+    output.flush = streams.flush;
+    let mut errors = WeakWriter::new(heap, streams.errors);
     let status = serve(alloc, args, &mut input, &mut output, &mut errors);
     Served {
         status,
@@ -95,12 +96,12 @@ pub fn args_of(alloc: Global, words: &[&str]) -> Result<Args, AllocError> {
 /// the output. It flushes nothing else, and offers no stream nothing.
 pub fn ended(served: &Served, status: u8, written: &[u8], line: &str, flushes: u64) -> bool {
     served.status == status
-        && served.output.weak.taken.as_slice() == written
-        && served.errors.weak.taken.as_slice() == line.as_bytes()
+        && served.output.taken.as_slice() == written
+        && served.errors.taken.as_slice() == line.as_bytes()
         && served.output.flushes == flushes
         && served.errors.flushes == 0
-        && served.output.empty_writes == 0
-        && served.errors.empty_writes == 0
+        && served.output.empty_calls == 0
+        && served.errors.empty_calls == 0
 }
 
 // How often the output is flushed.
@@ -130,7 +131,7 @@ pub fn survives_refusals(alloc: Global, wanted: Serving<'_>) -> Result<bool, All
             let flushes = flushes(wanted);
             return Ok(ended(&served, wanted.status, wanted.written, wanted.line, flushes));
         }
-        if !ended(&served, 1, b"", MEMORY, 0) || served.output.weak.calls != 0 {
+        if !ended(&served, 1, b"", MEMORY, 0) || served.output.calls != 0 {
             return Ok(false);
         }
     }
@@ -164,7 +165,7 @@ pub fn survives_writers(alloc: Global, wanted: Serving<'_>) -> Result<bool, Allo
             let args = args_of(alloc, wanted.args)?;
             let served = serve_over(alloc, Ok(args), wanted.input, streams, alloc);
             if !ended(&served, 1, &wanted.written[..at], WRITE, 0)
-                || served.output.weak.calls != at as u64 + 1
+                || served.output.calls != at as u64 + 1
             {
                 return Ok(false);
             }
@@ -194,9 +195,9 @@ pub fn survives_errors(alloc: Global, wanted: Serving<'_>) -> Result<bool, Alloc
             let args = args_of(alloc, wanted.args)?;
             let served = serve_over(alloc, Ok(args), wanted.input, streams, alloc);
             if served.status != wanted.status
-                || served.errors.weak.taken.as_slice() != &line[..at]
-                || served.errors.weak.calls != at as u64 + 1
-                || served.output.weak.calls != 0
+                || served.errors.taken.as_slice() != &line[..at]
+                || served.errors.calls != at as u64 + 1
+                || served.output.calls != 0
                 || served.output.flushes != 0
             {
                 return Ok(false);
@@ -210,5 +211,5 @@ pub fn survives_errors(alloc: Global, wanted: Serving<'_>) -> Result<bool, Alloc
 pub fn is_right_without_words(alloc: Global, why: io::ErrorKind, status: u8, line: &str) -> bool {
     let no_args = Err(io::Error::from(why));
     let served = serve_over(alloc, no_args, b"a<b", CALM_STREAMS, alloc);
-    ended(&served, status, b"", line, 0) && served.reads == 0 && served.output.weak.calls == 0
+    ended(&served, status, b"", line, 0) && served.reads == 0 && served.output.calls == 0
 }

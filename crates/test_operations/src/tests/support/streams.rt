@@ -1,7 +1,9 @@
 //! The weak streams.
+use std::alloc::{AllocError, Global};
 use std::io::{self, ErrorKind, Read, Write};
+use std::process::Abort;
 use std::test::Fail;
-use test_support::{Trouble, WeakReader, WeakWriter, Weakness};
+use test_support::{Flush, Trouble, WeakReader, WeakWriter, Weakness};
 
 type Answer = Result<usize, ErrorKind>;
 
@@ -12,73 +14,62 @@ fn answer(counted: io::Result<usize>) -> Answer {
     }
 }
 
-// What the second call answers.
-static WRITER_ANSWERS: [(Trouble, Answer); 4] = [
-    (Trouble::Calm, Ok(2)),
-    (Trouble::Fails, Err(ErrorKind::StorageFull)),
-    (Trouble::Interrupted, Err(ErrorKind::Interrupted)),
-    (Trouble::Idle, Ok(0)),
+fn weakness(step: usize, at: u64, trouble: Trouble) -> Weakness {
+    Weakness { step, at, trouble }
+}
+
+// What the second call answers, and what the writer has taken after three.
+static WRITER_ANSWERS: [(Trouble, Answer, &[u8]); 4] = [
+    (Trouble::Calm, Ok(2), b"abcdf"),
+    (Trouble::Fails, Err(ErrorKind::StorageFull), b"abf"),
+    (Trouble::Interrupted, Err(ErrorKind::Interrupted), b"abf"),
+    (Trouble::Idle, Ok(0), b"abf"),
 ];
 
 #[test]
 fn a_writer_has_its_trouble_at_one_call(rt: HostRuntime) {
-    for &(trouble, want) in &WRITER_ANSWERS {
-        let weakness = Weakness {
-            step: 2,
-            at: 2,
-            trouble,
-        };
-        let mut output = WeakWriter::new(rt.alloc(), weakness);
-        assert!(rt; answer(output.write(b"abc")) == Ok(2), "{trouble:?}");
-        assert!(rt; answer(output.write(b"cde")) == want, "{trouble:?}");
-        assert!(rt; answer(output.write(b"f")) == Ok(1), "{trouble:?}");
-        let taken = if want == Ok(2) {
-            b"abcdf".as_slice()
-        } else {
-            b"abf".as_slice()
-        };
+    for &(trouble, second, taken) in &WRITER_ANSWERS {
+        let mut output = WeakWriter::new(rt.alloc(), weakness(2, 2, trouble));
+        assert!(rt; writes_three_times(&mut output, second), "{trouble:?}");
         assert!(rt; output.taken.as_slice() == taken, "{trouble:?}");
         assert!(rt; output.calls == 3, "{trouble:?}");
     }
 }
 
-static READER_ANSWERS: [(Trouble, Answer); 4] = [
-    (Trouble::Calm, Ok(2)),
-    (Trouble::Fails, Err(ErrorKind::Other)),
-    (Trouble::Interrupted, Err(ErrorKind::Interrupted)),
-    (Trouble::Idle, Ok(2)),
+fn writes_three_times(output: &mut WeakWriter, second: Answer) -> bool {
+    answer(output.write(b"abc")) == Ok(2)
+        && answer(output.write(b"cde")) == second
+        && answer(output.write(b"f")) == Ok(1)
+}
+
+// What the second call answers, and what the reader has left after two.
+static READER_ANSWERS: [(Trouble, Answer, &[u8]); 4] = [
+    (Trouble::Calm, Ok(2), b"e"),
+    (Trouble::Fails, Err(ErrorKind::Other), b"cde"),
+    (Trouble::Interrupted, Err(ErrorKind::Interrupted), b"cde"),
+    (Trouble::Idle, Ok(2), b"e"),
 ];
 
 #[test]
 fn a_reader_has_its_trouble_at_one_call(rt: HostRuntime) {
-    for &(trouble, want) in &READER_ANSWERS {
-        let weakness = Weakness {
-            step: 2,
-            at: 2,
-            trouble,
-        };
-        let mut input = WeakReader::new(b"abcde", weakness);
-        let mut buffer = [0u8; 3];
-        assert!(rt; answer(input.read(&mut buffer)) == Ok(2), "{trouble:?}");
-        assert!(rt; buffer == [b'a', b'b', 0], "{trouble:?}");
-        assert!(rt; answer(input.read(&mut buffer)) == want, "{trouble:?}");
-        let left = if want == Ok(2) {
-            b"e".as_slice()
-        } else {
-            b"cde".as_slice()
-        };
+    for &(trouble, second, left) in &READER_ANSWERS {
+        let mut input = WeakReader::new(b"abcde", weakness(2, 2, trouble));
+        assert!(rt; reads_twice(&mut input, second), "{trouble:?}");
         assert!(rt; input.left == left, "{trouble:?}");
         assert!(rt; input.calls == 2, "{trouble:?}");
     }
 }
 
+fn reads_twice(input: &mut WeakReader<'_>, second: Answer) -> bool {
+    let mut buffer = [0u8; 3];
+    answer(input.read(&mut buffer)) == Ok(2)
+        && buffer == [b'a', b'b', 0]
+        && answer(input.read(&mut buffer)) == second
+}
+
 #[test]
 fn a_byte_a_call_is_enough(rt: HostRuntime) -> Result<(), Fail> {
-    let weakness = Weakness {
-        step: 1,
-        at: 0,
-        trouble: Trouble::Calm,
-    };
+    let weakness = weakness(1, 0, Trouble::Calm);
     let mut output = WeakWriter::new(rt.alloc(), weakness);
     output.write_all(b"abcde")?;
     assert!(rt; output.taken.as_slice() == b"abcde".as_slice());
@@ -91,38 +82,34 @@ fn a_byte_a_call_is_enough(rt: HostRuntime) -> Result<(), Fail> {
     Ok(())
 }
 
+static KINDS: [ErrorKind; 4] = [
+    ErrorKind::BrokenPipe,
+    ErrorKind::StorageFull,
+    ErrorKind::TimedOut,
+    ErrorKind::StorageFull,
+];
+
 #[test]
 fn each_failing_call_has_an_error_of_its_own(rt: HostRuntime) -> Result<(), Fail> {
-    let kinds = [
-        ErrorKind::BrokenPipe,
-        ErrorKind::StorageFull,
-        ErrorKind::TimedOut,
-        ErrorKind::StorageFull,
-    ];
-    for (kind, at) in kinds.iter().zip(1..=4u64) {
-        let weakness = Weakness {
-            step: 1,
-            at,
-            trouble: Trouble::Fails,
-        };
-        let mut output = WeakWriter::new(rt.alloc(), weakness);
-        let Err(fault) = output.write_all(b"abcde") else {
-            panic!(rt; "call {at} fails");
-        };
-        assert!(rt; fault.kind() == *kind, "call {at}");
-        let message = fault.to_string(rt.alloc())?;
-        assert!(rt; message.as_str() == at.to_string(rt.alloc())?.as_str());
+    for (&kind, at) in KINDS.iter().zip(1..=4u64) {
+        assert!(rt; fails_by(rt.alloc(), at, kind)?, "call {at}");
     }
     Ok(())
 }
 
-#[test]
-fn a_flush_and_an_empty_write_are_counted(rt: HostRuntime) -> Result<(), Fail> {
-    let weakness = Weakness {
-        step: 1,
-        at: 0,
-        trouble: Trouble::Calm,
+// Whether the call of that number fails by an error of that kind, with the number as its message.
+fn fails_by(alloc: Global, at: u64, kind: ErrorKind) -> Result<bool, AllocError> {
+    let mut output = WeakWriter::new(alloc, weakness(1, at, Trouble::Fails));
+    let Err(fault) = output.write_all(b"abcde") else {
+        return Ok(false);
     };
+    let message = fault.to_string(alloc)?;
+    Ok(fault.kind() == kind && message.as_str() == at.to_string(alloc)?.as_str())
+}
+
+#[test]
+fn flushes_and_empty_writes_are_counted(rt: HostRuntime) -> Result<(), Fail> {
+    let weakness = weakness(1, 0, Trouble::Calm);
     let mut output = WeakWriter::new(rt.alloc(), weakness);
     assert!(rt; output.write(b"a")? == 1);
     assert!(rt; output.was_only_written());
@@ -131,5 +118,8 @@ fn a_flush_and_an_empty_write_are_counted(rt: HostRuntime) -> Result<(), Fail> {
     let mut output = WeakWriter::new(rt.alloc(), weakness);
     output.flush()?;
     assert!(rt; output.flushes == 1 && !output.was_only_written());
+    output.flush = Flush::Fails;
+    assert!(rt; output.flush().is_err() && output.flushes == 2);
+    assert!(rt; output.calls == 0 && output.taken.is_empty());
     Ok(())
 }
