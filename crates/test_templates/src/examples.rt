@@ -21,11 +21,11 @@ fn is_page(alloc: Global, template: &Template, texts: &[&str], wanted: &str) -> 
     }
 }
 
-const TITLE: [Part; 3] = [Part::Markup("<p title=\""), Part::Slot, Part::Markup("\">")];
+static TITLE: [Part; 3] = [Part::Markup("<p title=\""), Part::Slot, Part::Markup("\">")];
 
-const PARAGRAPH: [Part; 3] = [Part::Markup("<p>"), Part::Slot, Part::Markup("</p>")];
+static PARAGRAPH: [Part; 3] = [Part::Markup("<p>"), Part::Slot, Part::Markup("</p>")];
 
-const TWO_PARAGRAPHS: [Part; 6] = [
+static TWO_PARAGRAPHS: [Part; 6] = [
     Part::Markup("<p>"),
     Part::Slot,
     Part::Markup("</p>"),

@@ -6,7 +6,7 @@ use std::process::Abort;
 use std::test::Fail;
 
 // Quote marks, and what they could lead to.
-const QUOTES: [&str; 13] = [
+static QUOTES: [&str; 13] = [
     "\"",
     "'",
     "`",
@@ -23,7 +23,7 @@ const QUOTES: [&str; 13] = [
 ];
 
 // What could begin a tag.
-const OPENINGS: [&str; 9] = [
+static OPENINGS: [&str; 9] = [
     "<",
     "<<",
     "</",
@@ -36,7 +36,7 @@ const OPENINGS: [&str; 9] = [
 ];
 
 // End tags in any case.
-const END_TAGS: [&str; 11] = [
+static END_TAGS: [&str; 11] = [
     "</p>",
     "</P >",
     "</title>",
@@ -51,7 +51,7 @@ const END_TAGS: [&str; 11] = [
 ];
 
 // Tags of scripts and styles.
-const STYLES: [&str; 6] = [
+static STYLES: [&str; 6] = [
     "<script>",
     "<SCRIPT>f()</SCRIPT>",
     "</style>",
@@ -61,7 +61,7 @@ const STYLES: [&str; 6] = [
 ];
 
 // Comments and declarations.
-const COMMENTS: [&str; 12] = [
+static COMMENTS: [&str; 12] = [
     "<!--",
     "<!-->",
     "<!--->",
@@ -77,7 +77,7 @@ const COMMENTS: [&str; 12] = [
 ];
 
 // References, whole and halved.
-const REFERENCES: [&str; 15] = [
+static REFERENCES: [&str; 15] = [
     "&",
     "&&",
     "&amp",
@@ -96,7 +96,7 @@ const REFERENCES: [&str; 15] = [
 ];
 
 // Escapes, whole and halved.
-const BACKSLASHES: [&str; 17] = [
+static BACKSLASHES: [&str; 17] = [
     "\\",
     "\\\\",
     "\\'",
@@ -117,7 +117,7 @@ const BACKSLASHES: [&str; 17] = [
 ];
 
 // What ends a string, and code after it.
-const CODE: [&str; 15] = [
+static CODE: [&str; 15] = [
     "');f();//",
     "\");f();//",
     "'}p{x:y",
@@ -136,7 +136,7 @@ const CODE: [&str; 15] = [
 ];
 
 // White space, controls, and characters past ASCII.
-const SPACES: [&str; 14] = [
+static SPACES: [&str; 14] = [
     "  a  ",
     "\t",
     "\n",

@@ -27,7 +27,7 @@ fn every_request_of_new_is_refused_in_turn(rt: HostRuntime) -> Result<(), Fail> 
     Ok(())
 }
 
-const TEXTS: [&str; 9] = ["<", "&", "\"", "'", " ", "'", "\"", "\\", "</style>"];
+static TEXTS: [&str; 9] = ["<", "&", "\"", "'", " ", "'", "\"", "\\", "</style>"];
 
 #[test]
 fn an_append_asks_once_or_not_at_all(rt: HostRuntime) -> Result<(), Fail> {
@@ -60,7 +60,7 @@ fn an_append_asks_once_or_not_at_all(rt: HostRuntime) -> Result<(), Fail> {
 
 // Of `<`, of which each becomes four bytes: a page that is made on the stack, one that outgrows it,
 // and one that is too long for it from the first.
-const LENGTHS: [usize; 3] = [400, 1000, 3000];
+static LENGTHS: [usize; 3] = [400, 1000, 3000];
 
 #[test]
 fn an_append_of_any_length_asks_once_or_not_at_all(rt: HostRuntime) -> Result<(), Fail> {
@@ -69,7 +69,7 @@ fn an_append_of_any_length_asks_once_or_not_at_all(rt: HostRuntime) -> Result<()
         panic!(rt; "the parts are a template");
     };
     let heap = Refusing::new(rt.alloc(), 0);
-    for length in LENGTHS {
+    for &length in &LENGTHS {
         let (mut text, mut page) = (String::new(rt.alloc()), String::new(rt.alloc()));
         page.push_str("x<p>")?;
         for _ in 0..length {

@@ -6,7 +6,7 @@ use std::process::Abort;
 use std::test::Fail;
 
 /// The markup before each slot, and the place that the slot stands in.
-pub const SLOTS: [(&str, Place); 9] = [
+pub static SLOTS: [(&str, Place); 9] = [
     ("<!DOCTYPE html><title>", Place::Text),
     ("</title><p>", Place::Text),
     ("</p><p title=\"", Place::DoubleAttribute),
@@ -27,7 +27,7 @@ pub const LAST: &str = "\" }</style>";
 /// The parts of the page.
 pub fn parts(alloc: Global) -> Result<Vec<Part<'static>>, AllocError> {
     let mut parts = Vec::new(alloc);
-    for (markup, _) in SLOTS {
+    for &(markup, _) in &SLOTS {
         parts.push(Part::Markup(markup))?;
         parts.push(Part::Slot)?;
     }

@@ -6,7 +6,7 @@ use std::process::Abort;
 use std::test::Fail;
 
 // One text ends what the other could begin.
-const PAIRS: [(&str, &str); 16] = [
+static PAIRS: [(&str, &str); 16] = [
     ("\"", "\""),
     ("'", "'"),
     ("\"", "'"),
@@ -50,7 +50,7 @@ fn no_text_reaches_another(rt: HostRuntime) -> Result<(), Fail> {
     let Ok(template) = Template::new(rt.alloc(), &parts) else {
         panic!(rt; "the parts are a template");
     };
-    for (first, second) in PAIRS {
+    for &(first, second) in &PAIRS {
         for before in 0..9usize {
             assert!(rt;
                 stay_apart(rt.alloc(), &template, first, second, before)?,

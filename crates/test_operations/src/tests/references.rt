@@ -44,7 +44,7 @@ fn rows_have_their_first_fault(rt: HostRuntime) {
 }
 
 // The rows that every table has.
-const COMMON: [(&[u8], &str); 6] = [
+static COMMON: [(&[u8], &str); 6] = [
     (b"amp", "&"),
     (b"apos", "'"),
     (b"gt", ">"),

@@ -7,7 +7,7 @@ use test_support::Refusing;
 
 type Row = (Encoder, Place, &'static str, &'static str);
 
-const ENCLOSED: [Row; 20] = [
+static ENCLOSED: [Row; 20] = [
     (Encoder::Text, Place::Text, "a<b", ">a&lt;b<"),
     (Encoder::TextMinimal, Place::Text, "", "><"),
     (Encoder::Safe, Place::Text, "</b>", ">&lt;&#x2F;b&gt;<"),
@@ -110,7 +110,7 @@ const ENCLOSED: [Row; 20] = [
     ),
 ];
 
-const FAULTS: [(Encoder, Place, &str, PlaceFault); 6] = [
+static FAULTS: [(Encoder, Place, &str, PlaceFault); 6] = [
     (
         Encoder::StyleSingleQuoted,
         Place::StyleDouble,
@@ -151,7 +151,7 @@ const FAULTS: [(Encoder, Place, &str, PlaceFault); 6] = [
 
 #[test]
 fn the_text_stands_between_the_marks(rt: HostRuntime) -> Result<(), Fail> {
-    for (encoder, place, text, enclosed) in ENCLOSED {
+    for &(encoder, place, text, enclosed) in &ENCLOSED {
         assert!(rt; suits(encoder, place), "{encoder:?} in {place:?}");
         let mut output = String::from_str(rt.alloc(), "x")?;
         let added = enclose(encoder, place, text, &mut output);
@@ -166,7 +166,7 @@ fn the_text_stands_between_the_marks(rt: HostRuntime) -> Result<(), Fail> {
 
 #[test]
 fn a_fault_leaves_the_output(rt: HostRuntime) -> Result<(), Fail> {
-    for (encoder, place, text, fault) in FAULTS {
+    for &(encoder, place, text, fault) in &FAULTS {
         let heap = Refusing::new(rt.alloc(), 0);
         let mut output = String::from_str(&heap, "x")?;
         heap.refuse(1);

@@ -40,11 +40,11 @@ fn without_nul(alloc: Global, text: &str) -> Result<String, AllocError> {
 #[test]
 fn every_encoder_is_enclosed_and_read_back(rt: HostRuntime) -> Result<(), Fail> {
     let mut pairs = 0usize;
-    for operation in OPERATIONS {
+    for &operation in &OPERATIONS {
         let Operation::Encode(encoder) = operation else {
             continue;
         };
-        for place in PLACES {
+        for &place in &PLACES {
             if suits(encoder, place) {
                 pairs = pairs.saturating_add(1);
                 let wrong = first_wrong(rt.alloc(), encoder, place)?;

@@ -7,7 +7,7 @@ use test_support::long::{Long, MANY, MILLION, TRAPS, long_text};
 use test_support::places::PLACES;
 
 // A place, the text after its opening mark, its value, and the closing mark.
-const READ: [(Place, Long, Long, &str); 8] = [
+static READ: [(Place, Long, Long, &str); 8] = [
     (
         Place::Text,
         ("&lt", ";&lt", MANY - 1, ";"),
@@ -60,7 +60,7 @@ const READ: [(Place, Long, Long, &str); 8] = [
 
 #[test]
 fn long_texts_are_read(rt: HostRuntime) -> Result<(), Fail> {
-    for (place, text, value, mark) in READ {
+    for &(place, text, value, mark) in &READ {
         let mut text = long_text(rt.alloc(), text)?;
         let value = long_text(rt.alloc(), value)?;
         let end = text.len();
@@ -80,9 +80,9 @@ fn long_texts_are_read(rt: HostRuntime) -> Result<(), Fail> {
 
 #[test]
 fn every_reader_ends(rt: HostRuntime) -> Result<(), Fail> {
-    for trap in TRAPS {
+    for &trap in &TRAPS {
         let text = long_text(rt.alloc(), trap)?;
-        for place in PLACES {
+        for &place in &PLACES {
             let end = end_of_place(place, text.as_bytes());
             let found = match read_place(rt.alloc(), place, text.as_bytes())? {
                 Some(found) => Some(found.end),

@@ -9,16 +9,16 @@ use std::process::Abort;
 use std::test::Fail;
 use test_support::rows::{Held, Row};
 
-const ENCLOSED: [Row; 3] = [
+static ENCLOSED: [Row; 3] = [
     ("<", "<", Held::Borrowed),
     ("<", "&lt;&lt;", Held::Owned),
     ("a", "", Held::Owned),
 ];
 
-const READ: [Read<'static>; 3] = [(b"ab<", b"a", 2), (b"ab<", b"ab", 1), (b"ab", b"ab", 2)];
+static READ: [Read<'static>; 3] = [(b"ab<", b"a", 2), (b"ab<", b"ab", 1), (b"ab", b"ab", 2)];
 
 // Attributes, a script string, and what is not their form.
-const FORMS: [forms::Row; 3] = [
+static FORMS: [forms::Row; 3] = [
     (&[], "x", "<input/><script>alert('y');</script>"),
     (
         &[("a", Quoting::Single, "b")],
@@ -34,15 +34,15 @@ const FORMS: [forms::Row; 3] = [
 
 #[test]
 fn rows_that_are_wrong_are_refused(rt: HostRuntime) -> Result<(), Fail> {
-    for row in ENCLOSED {
+    for &row in &ENCLOSED {
         let is_right = enclosings::survives(rt.alloc(), Encoder::Text, Place::Text, row)?;
         assert!(rt; !is_right, "{:?} of {:?}", row.1, row.0);
     }
-    for read in READ {
+    for &read in &READ {
         let is_right = survives(rt.alloc(), Reader::Place(Place::Text, read));
         assert!(rt; !is_right, "{:?} up to {}", read.1, read.2);
     }
-    for row in FORMS {
+    for &row in &FORMS {
         assert!(rt;
             !forms::builds(rt.alloc(), row.0, row.1, row.2)?,
             "{}",

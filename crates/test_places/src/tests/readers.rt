@@ -8,7 +8,7 @@ use test_support::places::PLACES;
 
 #[test]
 fn each_place_is_read_up_to_its_mark(rt: HostRuntime) {
-    for place in PLACES {
+    for &place in &PLACES {
         for row in read_in(place) {
             assert!(rt;
                 reads(rt.alloc(), place, *row) == Ok(true),
@@ -53,7 +53,7 @@ fn reads_nothing(alloc: Global, place: Place, bytes: &[u8]) -> bool {
 
 #[test]
 fn every_request_of_a_reader_is_refused_in_turn(rt: HostRuntime) {
-    for place in PLACES {
+    for &place in &PLACES {
         for row in read_in(place) {
             assert!(rt;
                 survives_reading(rt.alloc(), place, *row),

@@ -20,7 +20,7 @@ fn survives(alloc: Global, wanted: Run<'_>) -> bool {
 
 #[test]
 fn every_operation_is_a_command(rt: HostRuntime) {
-    for operation in OPERATIONS {
+    for &operation in &OPERATIONS {
         let wrong = first_wrong_text(rt.alloc(), operation);
         assert!(rt; wrong.is_none(), "{wrong:?}: {operation:?}");
     }
@@ -44,11 +44,11 @@ fn first_wrong_text(alloc: Global, operation: Operation) -> Option<&'static str>
 
 #[test]
 fn every_encoder_encloses_for_every_place_that_suits_it(rt: HostRuntime) -> Result<(), Fail> {
-    for operation in OPERATIONS {
+    for &operation in &OPERATIONS {
         let Operation::Encode(encoder) = operation else {
             continue;
         };
-        for place in PLACES {
+        for &place in &PLACES {
             if suits(encoder, place) {
                 let wrong = first_wrong_enclosing(rt.alloc(), encoder, place)?;
                 assert!(rt; wrong.is_none(), "{wrong:?}: {encoder:?} in {place:?}");

@@ -6,7 +6,7 @@ use std::process::Abort;
 // The words of a `form`, and its form.
 type FormRun = (&'static [&'static str], &'static str);
 
-const FORM_RUNS: [FormRun; 4] = [
+static FORM_RUNS: [FormRun; 4] = [
     (
         &["form", "x", "value", "u", "a b"],
         "<input value=a&#x20;b /><script>alert('x');</script>",
@@ -24,7 +24,7 @@ const FORM_RUNS: [FormRun; 4] = [
 
 #[test]
 fn form_writes_the_form_of_its_words(rt: HostRuntime) {
-    for (words, form) in FORM_RUNS {
+    for &(words, form) in &FORM_RUNS {
         let wanted = Run {
             words,
             input: b"",
@@ -41,7 +41,7 @@ fn form_writes_the_form_of_its_words(rt: HostRuntime) {
 // A form, and the lines in which it is written.
 type LinesRow = (&'static [u8], &'static [u8]);
 
-const LINES: [LinesRow; 4] = [
+static LINES: [LinesRow; 4] = [
     (
         b"<input value=a&#x20;b /><script>alert('x');</script>",
         b"value u 3 a b\n1 x\n",
@@ -59,7 +59,7 @@ const LINES: [LinesRow; 4] = [
 
 #[test]
 fn read_form_writes_the_lines_of_a_form(rt: HostRuntime) {
-    for (form, lines) in LINES {
+    for &(form, lines) in &LINES {
         let answer = if lines.is_empty() {
             Err(Fault::NoPage)
         } else {
@@ -82,7 +82,7 @@ fn read_form_writes_the_lines_of_a_form(rt: HostRuntime) {
 // The words of a run that is refused, and its fault.
 type Refusal = (&'static [&'static str], Fault);
 
-const REFUSALS: [Refusal; 10] = [
+static REFUSALS: [Refusal; 10] = [
     (&["form"], Fault::Usage),
     (&["form", "x", "value"], Fault::Usage),
     (&["form", "x", "value", "u"], Fault::Usage),
@@ -97,7 +97,7 @@ const REFUSALS: [Refusal; 10] = [
 
 #[test]
 fn a_refused_form_writes_nothing(rt: HostRuntime) {
-    for (words, fault) in REFUSALS {
+    for &(words, fault) in &REFUSALS {
         let wanted = Run {
             words,
             input: b"",

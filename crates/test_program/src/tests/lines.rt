@@ -7,7 +7,7 @@ use test_support::long::{MILLION, long_text};
 use test_support::{Trouble, WeakReader, WeakWriter, Weakness};
 
 // A command, its input, and what it writes.
-const LINES: [(&str, &[u8], &[u8]); 8] = [
+static LINES: [(&str, &[u8], &[u8]); 8] = [
     ("lines-script", b"</script\n<!--", b"<\\/script\n<\\!--"),
     ("lines-script", b"a</scr\nipt>", b"a</scr\nipt>"),
     ("lines-script", b"", b""),
@@ -20,7 +20,7 @@ const LINES: [(&str, &[u8], &[u8]); 8] = [
 
 #[test]
 fn a_command_encodes_line_by_line(rt: HostRuntime) {
-    for (word, input, written) in LINES {
+    for &(word, input, written) in &LINES {
         let wanted = Run {
             words: &[word],
             input,

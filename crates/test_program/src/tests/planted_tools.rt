@@ -84,7 +84,7 @@ fn after_success<W: Write>(tool: Tool, output: &mut W) -> Result<(), Fault> {
 // fail, and by writers that fail.
 type Refused = (Tool, [bool; 4]);
 
-const REFUSED: [Refused; 9] = [
+static REFUSED: [Refused; 9] = [
     (Tool::Sound, [false, false, false, false]),
     (Tool::WritesTwice, [true, true, false, false]),
     (Tool::Flushes, [true, true, false, false]),
@@ -112,7 +112,7 @@ const UNNAMED: Run<'static> = Run {
 
 #[test]
 fn each_flaw_of_a_tool_is_refused(rt: HostRuntime) {
-    for (tool, refused) in REFUSED {
+    for &(tool, refused) in &REFUSED {
         let found = [
             !is_right_of(tool, rt.alloc(), ENCODED),
             !survives_refusals_of(tool, rt.alloc(), ENCODED),
@@ -126,7 +126,7 @@ fn each_flaw_of_a_tool_is_refused(rt: HostRuntime) {
 }
 
 // Runs that are not what the tool does.
-const OTHERS: [Run<'static>; 3] = [
+static OTHERS: [Run<'static>; 3] = [
     Run {
         words: &["encode_text"],
         input: b"a < b",
@@ -149,7 +149,7 @@ const OTHERS: [Run<'static>; 3] = [
 
 #[test]
 fn what_the_tool_does_not_do_is_refused(rt: HostRuntime) {
-    for wanted in OTHERS {
+    for &wanted in &OTHERS {
         assert!(rt; !is_right_of(Tool::Sound, rt.alloc(), wanted));
         assert!(rt; !survives_refusals_of(Tool::Sound, rt.alloc(), wanted));
     }

@@ -11,7 +11,7 @@ type Row = (
     &'static [u8],
 );
 
-const RUNS: [Row; 17] = [
+static RUNS: [Row; 17] = [
     (
         &["encode_text"],
         b"a > b && a < c",
@@ -87,14 +87,14 @@ fn run_of(row: Row) -> Run<'static> {
 
 #[test]
 fn each_command_line_has_its_answer(rt: HostRuntime) {
-    for row in RUNS {
+    for &row in &RUNS {
         assert!(rt; is_right(rt.alloc(), run_of(row)), "{:?}", row.0);
     }
 }
 
 #[test]
 fn every_request_of_a_run_is_refused_in_turn(rt: HostRuntime) {
-    for row in RUNS {
+    for &row in &RUNS {
         assert!(rt; survives_refusals(rt.alloc(), run_of(row)), "{:?}", row.0);
     }
 }
@@ -106,7 +106,7 @@ fn reads(row: Row) -> bool {
 
 #[test]
 fn a_failed_read_is_answered_and_nothing_written(rt: HostRuntime) {
-    for row in RUNS {
+    for &row in &RUNS {
         if reads(row) {
             assert!(rt; survives_readers(rt.alloc(), run_of(row)), "{:?}", row.0);
         }
@@ -115,7 +115,7 @@ fn a_failed_read_is_answered_and_nothing_written(rt: HostRuntime) {
 
 #[test]
 fn a_failed_write_leaves_a_beginning(rt: HostRuntime) {
-    for row in RUNS {
+    for &row in &RUNS {
         assert!(rt; survives_writers(rt.alloc(), run_of(row)), "{:?}", row.0);
     }
 }

@@ -25,7 +25,7 @@ struct Most {
     attributes: usize,
 }
 
-const LENGTHS: [usize; 3] = [10, 1000, 65_536];
+static LENGTHS: [usize; 3] = [10, 1000, 65_536];
 
 // No read is offered less than this.
 const READ_SIZE: usize = 4096;
@@ -57,10 +57,10 @@ const OF_OPERATION: Most = Most {
 
 #[test]
 fn an_operation_asks_for_what_it_reads_and_writes(rt: HostRuntime) -> Result<(), Fail> {
-    for length in LENGTHS {
+    for &length in &LENGTHS {
         for part in ["a", MIXED] {
             let text = text_of(rt.alloc(), part, length)?;
-            for operation in OPERATIONS {
+            for &operation in &OPERATIONS {
                 let words = [operation_word(operation)];
                 let is_right = is_frugal(rt.alloc(), &words, text.as_bytes(), OF_OPERATION);
                 assert!(rt; is_right, "{operation:?} of {length} bytes of {part:?}");
@@ -71,7 +71,7 @@ fn an_operation_asks_for_what_it_reads_and_writes(rt: HostRuntime) -> Result<(),
 }
 
 // Words, and how much the run asks for of a text. Lines are appended to room that is doubled.
-const OF_TEXTS: [(&[&str], Most); 3] = [
+static OF_TEXTS: [(&[&str], Most); 3] = [
     (
         &["lines-script"],
         Most {
@@ -100,10 +100,10 @@ const OF_TEXTS: [(&[&str], Most); 3] = [
 
 #[test]
 fn lines_and_enclosings_ask_for_what_they_read_and_write(rt: HostRuntime) -> Result<(), Fail> {
-    for length in LENGTHS {
+    for &length in &LENGTHS {
         for part in ["a", "a\n", "</script\n", MIXED] {
             let text = text_of(rt.alloc(), part, length)?;
-            for (words, most) in OF_TEXTS {
+            for &(words, most) in &OF_TEXTS {
                 let is_right = is_frugal(rt.alloc(), words, text.as_bytes(), most);
                 assert!(rt; is_right, "{words:?} of {length} bytes of {part:?}");
             }
@@ -129,7 +129,7 @@ const OF_PAGE: Most = Most {
 
 #[test]
 fn pages_and_forms_ask_for_what_they_read_and_write(rt: HostRuntime) -> Result<(), Fail> {
-    for length in LENGTHS {
+    for &length in &LENGTHS {
         for part in ["a", MIXED] {
             let text = text_of(rt.alloc(), part, length)?;
             let text = text.as_str();

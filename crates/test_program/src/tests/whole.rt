@@ -10,7 +10,7 @@ use std::test::Fail;
 // The program's name and the words after it, the input, and what is written.
 type Success = (&'static [&'static str], &'static [u8], &'static [u8]);
 
-const SUCCESSES: [Success; 8] = [
+static SUCCESSES: [Success; 8] = [
     (&["hesc", "encode_text"], b"a<b", b"a&lt;b"),
     (&["hesc", "encode_text"], b"", b""),
     (&["any name", "decode_html_entities"], b"&lt;\n", b"<\n"),
@@ -51,7 +51,7 @@ type Refusal = (&'static [&'static str], &'static [u8], u8, &'static str);
 
 const USAGE: &str = "usage: hesc COMMAND [ARGUMENT..]\n";
 
-const REFUSALS: [Refusal; 11] = [
+static REFUSALS: [Refusal; 11] = [
     (&[], b"a", 2, USAGE),
     (&["hesc"], b"a", 2, USAGE),
     (&["encode_text"], b"a", 2, USAGE),
@@ -103,7 +103,7 @@ fn refusal(row: Refusal) -> Serving<'static> {
 
 #[test]
 fn a_success_is_written_and_flushed_once(rt: HostRuntime) -> Result<(), Fail> {
-    for row in SUCCESSES {
+    for &row in &SUCCESSES {
         assert!(rt; is_right(rt.alloc(), success(row))?, "{:?}", row.0);
     }
     Ok(())
@@ -111,7 +111,7 @@ fn a_success_is_written_and_flushed_once(rt: HostRuntime) -> Result<(), Fail> {
 
 #[test]
 fn each_refusal_has_its_status_and_its_line(rt: HostRuntime) -> Result<(), Fail> {
-    for row in REFUSALS {
+    for &row in &REFUSALS {
         assert!(rt; is_right(rt.alloc(), refusal(row))?, "{:?}", row.0);
     }
     Ok(())
@@ -135,10 +135,10 @@ fn words_that_cannot_be_had_are_memory_or_usage(rt: HostRuntime) {
 
 #[test]
 fn every_request_of_a_program_is_refused_in_turn(rt: HostRuntime) -> Result<(), Fail> {
-    for row in SUCCESSES {
+    for &row in &SUCCESSES {
         assert!(rt; survives_refusals(rt.alloc(), success(row))?, "{:?}", row.0);
     }
-    for row in REFUSALS {
+    for &row in &REFUSALS {
         assert!(rt; survives_refusals(rt.alloc(), refusal(row))?, "{:?}", row.0);
     }
     Ok(())
@@ -146,7 +146,7 @@ fn every_request_of_a_program_is_refused_in_turn(rt: HostRuntime) -> Result<(), 
 
 #[test]
 fn a_failed_read_ends_a_program(rt: HostRuntime) -> Result<(), Fail> {
-    for row in SUCCESSES {
+    for &row in &SUCCESSES {
         if row.0.get(1) != Some(&"page") && row.0.get(1) != Some(&"form") {
             assert!(rt; survives_readers(rt.alloc(), success(row))?, "{:?}", row.0);
         }
@@ -156,7 +156,7 @@ fn a_failed_read_ends_a_program(rt: HostRuntime) -> Result<(), Fail> {
 
 #[test]
 fn a_failed_write_or_flush_ends_a_program(rt: HostRuntime) -> Result<(), Fail> {
-    for row in SUCCESSES {
+    for &row in &SUCCESSES {
         assert!(rt; survives_writers(rt.alloc(), success(row))?, "{:?}", row.0);
         assert!(rt; survives_flush(rt.alloc(), success(row))?, "{:?}", row.0);
     }
@@ -165,7 +165,7 @@ fn a_failed_write_or_flush_ends_a_program(rt: HostRuntime) -> Result<(), Fail> {
 
 #[test]
 fn a_failed_error_stream_leaves_the_status(rt: HostRuntime) -> Result<(), Fail> {
-    for row in REFUSALS {
+    for &row in &REFUSALS {
         assert!(rt; survives_errors(rt.alloc(), refusal(row))?, "{:?}", row.0);
     }
     Ok(())

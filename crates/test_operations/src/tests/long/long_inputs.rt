@@ -49,7 +49,7 @@ const STRONG: Weakness = Weakness {
     trouble: Trouble::Calm,
 };
 
-const COMMON: [(&[u8], &str); 6] = [
+static COMMON: [(&[u8], &str); 6] = [
     (b"amp", "&"),
     (b"apos", "'"),
     (b"gt", ">"),

@@ -14,7 +14,7 @@ pub type Entry = (&'static str, Quoting, &'static str);
 /// Attributes, a script string, and their form.
 pub type Row = (&'static [Entry], &'static str, &'static str);
 
-const FORMS: [Row; 7] = [
+static FORMS: [Row; 7] = [
     (&[], "x", "<input/><script>alert('x');</script>"),
     (
         &[("a", Quoting::Single, "it's")],
@@ -51,7 +51,7 @@ const FORMS: [Row; 7] = [
 // Attributes, and their first fault.
 type FaultRow = (&'static [Entry], FormFault);
 
-const FAULTS: [FaultRow; 12] = [
+static FAULTS: [FaultRow; 12] = [
     (
         &[("a", Quoting::Double, ""), ("a", Quoting::Double, "")],
         FormFault::BadName(1),
@@ -106,7 +106,7 @@ fn attributes_of(
 
 #[test]
 fn forms_are_built_and_read_back(rt: HostRuntime) -> Result<(), Fail> {
-    for row in FORMS {
+    for &row in &FORMS {
         assert!(rt; builds(rt.alloc(), row.0, row.1, row.2)?, "{}", row.2);
         assert!(rt; reads_back(rt.alloc(), row) == Ok(true), "{}", row.2);
     }
@@ -184,7 +184,7 @@ fn nul_in_an_unquoted_value_is_read_as_a_replacement(rt: HostRuntime) -> Result<
 
 #[test]
 fn the_first_fault_is_answered_and_leaves_the_output(rt: HostRuntime) -> Result<(), Fail> {
-    for (entries, fault) in FAULTS {
+    for &(entries, fault) in &FAULTS {
         assert!(rt; is_refused(rt.alloc(), entries, fault)?, "{fault:?}");
     }
     Ok(())
@@ -209,7 +209,7 @@ fn is_refused(
 
 #[test]
 fn every_request_of_a_reading_is_refused_in_turn(rt: HostRuntime) {
-    for row in FORMS {
+    for &row in &FORMS {
         assert!(rt; survives(rt.alloc(), Reader::Form(row)), "{}", row.2);
     }
 }

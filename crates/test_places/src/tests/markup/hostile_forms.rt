@@ -83,7 +83,7 @@ fn a_last_name_that_is_the_first_is_a_fault(rt: HostRuntime) -> Result<(), Fail>
 }
 
 // A part, and how often it makes about a megabyte after the beginning of a tag.
-const UNREAD: [(&str, usize); 4] = [
+static UNREAD: [(&str, usize); 4] = [
     (" a=b", 250_000),
     ("<input a", 125_000),
     (" a='b'", 166_000),
@@ -92,7 +92,7 @@ const UNREAD: [(&str, usize); 4] = [
 
 #[test]
 fn a_megabyte_that_is_no_form_is_read_to_its_end(rt: HostRuntime) -> Result<(), Fail> {
-    for (part, times) in UNREAD {
+    for &(part, times) in &UNREAD {
         for head in ["<input", ""] {
             for tail in [TAIL, ""] {
                 let bytes = long_text(rt.alloc(), (head, part, times, tail))?;

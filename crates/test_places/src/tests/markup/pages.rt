@@ -7,7 +7,7 @@ use std::process::Abort;
 use std::test::Fail;
 use test_support::Refusing;
 
-const TEXTS: [&str; 3] = [
+static TEXTS: [&str; 3] = [
     "Hello world!",
     "The default value is \"Hello world!\".",
     "<script>'s end tag is </script>",

@@ -78,7 +78,7 @@ fn survives_within(
     Ok(answer == wanted && heap.asked(number) == requests && output.strip_prefix("x") == Some(held))
 }
 
-const FLAWS: [Flaw; 5] = [
+static FLAWS: [Flaw; 5] = [
     Flaw::OtherText,
     Flaw::AsksTwice,
     Flaw::AsksForMuch,
@@ -90,7 +90,7 @@ const FLAWS: [Flaw; 5] = [
 fn each_flaw_of_a_builder_is_refused(rt: HostRuntime) -> Result<(), Fail> {
     let (text, made) = ("a<b>c&d", "a&lt;b&gt;c&amp;d");
     assert!(rt; survives(rt.alloc(), Builder::Planted(Flaw::Sound, text), made)?);
-    for flaw in FLAWS {
+    for &flaw in &FLAWS {
         let is_right = survives(rt.alloc(), Builder::Planted(flaw, text), made)?;
         assert!(rt; !is_right, "{flaw:?}");
     }

@@ -25,13 +25,13 @@ const FOR_EACH_NAME: usize = 48;
 
 #[test]
 fn enclosing_asks_for_its_answer_alone(rt: HostRuntime) -> Result<(), Fail> {
-    for (part, length) in TEXTS {
+    for &(part, length) in &TEXTS {
         let text = text_of(rt.alloc(), part, length)?;
-        for operation in OPERATIONS {
+        for &operation in &OPERATIONS {
             let Operation::Encode(encoder) = operation else {
                 continue;
             };
-            for place in PLACES {
+            for &place in &PLACES {
                 if suits(encoder, place) && (length <= 1000 || is_one_of_few(encoder)) {
                     let is_right = asks_little(rt.alloc(), encoder, place, text.as_str())?;
                     assert!(rt; is_right, "{encoder:?} in {place:?}: {length} of {part:?}");
@@ -91,7 +91,7 @@ fn reads_little(alloc: Global, place: Place, after: &str) -> Result<bool, AllocE
 
 #[test]
 fn pages_ask_for_what_stands_in_them(rt: HostRuntime) -> Result<(), Fail> {
-    for (part, length) in TEXTS {
+    for &(part, length) in &TEXTS {
         let text = text_of(rt.alloc(), part, length)?;
         let heap = Refusing::new(rt.alloc(), 0);
         let mut page = String::new(&heap);
@@ -120,7 +120,7 @@ fn most_of_reading(length: usize, attributes: usize) -> u64 {
 #[test]
 fn forms_ask_for_what_stands_in_them(rt: HostRuntime) -> Result<(), Fail> {
     let names = many_names(rt.alloc())?;
-    for (part, length) in TEXTS {
+    for &(part, length) in &TEXTS {
         let text = text_of(rt.alloc(), part, length.min(50))?;
         let mut attributes = Vec::new(rt.alloc());
         for name in names.iter().take(length / 32) {

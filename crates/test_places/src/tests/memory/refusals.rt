@@ -90,7 +90,7 @@ pub fn survives(alloc: Global, reader: Reader<'_>) -> bool {
     false
 }
 
-const FLAWS: [Flaw; 5] = [
+static FLAWS: [Flaw; 5] = [
     Flaw::FirstIsNothing,
     Flaw::LaterIsNothing,
     Flaw::LaterIsHidden,
@@ -101,7 +101,7 @@ const FLAWS: [Flaw; 5] = [
 #[test]
 fn each_flaw_of_a_reader_is_refused(rt: HostRuntime) {
     assert!(rt; survives(rt.alloc(), Reader::Planted(Flaw::Sound)));
-    for flaw in FLAWS {
+    for &flaw in &FLAWS {
         assert!(rt; !survives(rt.alloc(), Reader::Planted(flaw)), "{flaw:?}");
     }
 }
