@@ -185,6 +185,10 @@ impl<'a, A: Allocator> FilledSink<'a, A> {
             Ok(()) => {
                 self.end += piece.len();
                 self.log = self.log.after_taking(piece.as_bytes());
+                // After a short piece the next ones may be short too.
+                if piece.len() <= 64 {
+                    self.fill();
+                }
                 Ok(())
             }
             Err(fault) => {
