@@ -1,5 +1,6 @@
 //! Streams that take and give little at a time, and fail at the call at which they are told to.
 ghost use Rattle.std.specs.Prelude.{◌≡◌, [], Some};
+ghost use Rattle.test_support.specs.declared.streams.Flush.TheVariants.{Succeeds};
 
 use std::alloc::Global;
 use std::io::{self, Error, ErrorKind, Read, Write};
@@ -55,6 +56,21 @@ impl Trouble {
     }
 }
 
+impl Weakness {
+    /// A byte a call, and this trouble at the call of that number.
+    pub fn byte_by_byte(at: u64, trouble: Trouble) -> Weakness
+        ensures step { result.step ≡ 1 }
+        ensures at { result.at ≡ at }
+        ensures trouble { result.trouble ≡ trouble }
+    {
+        Weakness {
+            step: 1,
+            at,
+            trouble,
+        }
+    }
+}
+
 /// A writer that keeps what it takes, and counts its calls.
 #[derive(Drop)]
 pub struct WeakWriter {
@@ -76,7 +92,10 @@ impl WeakWriter {
     pub fn new(alloc: Global, weakness: Weakness) -> WeakWriter
         ensures empty { result.taken.items ≡ [] }
         ensures uncalled { result.calls ≡ 0 }
+        ensures unflushed { result.flushes ≡ 0 }
+        ensures none_empty { result.empty_calls ≡ 0 }
         ensures weak { result.weakness ≡ weakness }
+        ensures flush { result.flush ≡ Succeeds }
     {
         WeakWriter {
             taken: Vec::new(alloc),

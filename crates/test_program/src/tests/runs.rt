@@ -13,15 +13,6 @@ pub struct Run<'r> {
     pub written: &'r [u8],
 }
 
-// A stream that gives or takes one byte a call, and has this trouble at that call.
-fn weakness(at: u64, trouble: Trouble) -> Weakness {
-    Weakness {
-        step: 1,
-        at,
-        trouble,
-    }
-}
-
 const CALM: Weakness = Weakness {
     step: 1,
     at: 0,
@@ -82,7 +73,7 @@ pub fn survives_readers(alloc: Global, wanted: Run<'_>) -> bool {
 pub fn survives_readers_of(tool: Tool, alloc: Global, wanted: Run<'_>) -> bool {
     for trouble in [Trouble::Fails, Trouble::Interrupted] {
         for at in 1..=wanted.input.len() as u64 + 1 {
-            let mut input = WeakReader::new(wanted.input, weakness(at, trouble));
+            let mut input = WeakReader::new(wanted.input, Weakness::byte_by_byte(at, trouble));
             let mut output = WeakWriter::new(alloc, CALM);
             let answer = run_as(tool, alloc, wanted.words, &mut input, &mut output);
             if answer != Err(Fault::Read) || output.calls != 0 || output.flushes != 0 {
@@ -104,7 +95,7 @@ pub fn survives_writers_of(tool: Tool, alloc: Global, wanted: Run<'_>) -> bool {
     for trouble in [Trouble::Fails, Trouble::Interrupted, Trouble::Idle] {
         for at in 1..=wanted.written.len() as u64 {
             let mut input = WeakReader::new(wanted.input, CALM);
-            let mut output = WeakWriter::new(alloc, weakness(at, trouble));
+            let mut output = WeakWriter::new(alloc, Weakness::byte_by_byte(at, trouble));
             let answer = run_as(tool, alloc, wanted.words, &mut input, &mut output);
             if answer != Err(Fault::Write)
                 || output.calls != at

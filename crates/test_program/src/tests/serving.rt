@@ -31,15 +31,6 @@ pub struct Streams {
     pub flush: Flush,
 }
 
-// A stream that gives or takes one byte a call, and has this trouble at that call.
-fn weakness(at: u64, trouble: Trouble) -> Weakness {
-    Weakness {
-        step: 1,
-        at,
-        trouble,
-    }
-}
-
 const CALM: Weakness = Weakness {
     step: 1,
     at: 0,
@@ -144,7 +135,7 @@ pub fn survives_readers(alloc: Global, wanted: Serving<'_>) -> Result<bool, Allo
     for trouble in [Trouble::Fails, Trouble::Interrupted] {
         for at in 1..=wanted.input.len() as u64 + 1 {
             let mut streams = CALM_STREAMS;
-            streams.input = weakness(at, trouble);
+            streams.input = Weakness::byte_by_byte(at, trouble);
             let args = args_of(alloc, wanted.args)?;
             let served = serve_over(alloc, Ok(args), wanted.input, streams, alloc);
             if !ended(&served, 1, b"", READ, 0) || served.reads != at {
@@ -161,7 +152,7 @@ pub fn survives_writers(alloc: Global, wanted: Serving<'_>) -> Result<bool, Allo
     for trouble in [Trouble::Fails, Trouble::Interrupted, Trouble::Idle] {
         for at in 0..wanted.written.len() {
             let mut streams = CALM_STREAMS;
-            streams.output = weakness(at as u64 + 1, trouble);
+            streams.output = Weakness::byte_by_byte(at as u64 + 1, trouble);
             let args = args_of(alloc, wanted.args)?;
             let served = serve_over(alloc, Ok(args), wanted.input, streams, alloc);
             if !ended(&served, 1, &wanted.written[..at], WRITE, 0)
@@ -191,7 +182,7 @@ pub fn survives_errors(alloc: Global, wanted: Serving<'_>) -> Result<bool, Alloc
     for trouble in [Trouble::Fails, Trouble::Interrupted, Trouble::Idle] {
         for at in 0..line.len() {
             let mut streams = CALM_STREAMS;
-            streams.errors = weakness(at as u64 + 1, trouble);
+            streams.errors = Weakness::byte_by_byte(at as u64 + 1, trouble);
             let args = args_of(alloc, wanted.args)?;
             let served = serve_over(alloc, Ok(args), wanted.input, streams, alloc);
             if served.status != wanted.status

@@ -12,14 +12,6 @@ use test_support::{Trouble, WeakWriter, Weakness};
 
 static TROUBLES: [Trouble; 3] = [Trouble::Fails, Trouble::Interrupted, Trouble::Idle];
 
-fn weakness(at: u64, trouble: Trouble) -> Weakness {
-    Weakness {
-        step: 1,
-        at,
-        trouble,
-    }
-}
-
 #[test]
 fn a_trouble_at_any_call_is_handed_on(rt: HostRuntime) -> Result<(), Fail> {
     for &operation in &OPERATIONS {
@@ -42,7 +34,7 @@ pub fn first_wrong(alloc: Global, of: Call<'_>) -> Option<&'static str> {
         }
         for &trouble in &TROUBLES {
             for at in 1..=row.1.len() as u64 {
-                if !hands_on(alloc, of, *row, weakness(at, trouble)) {
+                if !hands_on(alloc, of, *row, Weakness::byte_by_byte(at, trouble)) {
                     return Some(row.0);
                 }
             }
@@ -54,7 +46,7 @@ pub fn first_wrong(alloc: Global, of: Call<'_>) -> Option<&'static str> {
 // Each byte is one call, and nothing else is asked of the writer.
 fn writes_all(alloc: Global, of: Call<'_>, row: Row) -> bool {
     let (text, made, _) = row;
-    let mut output = WeakWriter::new(alloc, weakness(0, Trouble::Calm));
+    let mut output = WeakWriter::new(alloc, Weakness::byte_by_byte(0, Trouble::Calm));
     to_writer(of, text, &mut output).is_ok()
         && output.taken.as_slice() == made.as_bytes()
         && output.calls == made.len() as u64
@@ -132,7 +124,7 @@ fn count_of_pieces(operation: Operation, text: &str) -> u64 {
 
 #[test]
 fn an_empty_piece_is_no_call(rt: HostRuntime) {
-    let mut output = WeakWriter::new(rt.alloc(), weakness(1, Trouble::Fails));
+    let mut output = WeakWriter::new(rt.alloc(), Weakness::byte_by_byte(1, Trouble::Fails));
     let mut sink = WriterSink::new(&mut output);
     assert!(rt; sink.put("").is_ok());
     let _output = sink.into_output();
@@ -155,7 +147,7 @@ static GONE_OUT: [(u64, &str); 9] = [
 #[test]
 fn a_failed_writer_has_a_beginning(rt: HostRuntime) {
     for &(at, gone_out) in &GONE_OUT {
-        let mut output = WeakWriter::new(rt.alloc(), weakness(at, Trouble::Fails));
+        let mut output = WeakWriter::new(rt.alloc(), Weakness::byte_by_byte(at, Trouble::Fails));
         let is_ok = encode_text_to_writer("a > b", &mut output).is_ok();
         assert!(rt; is_ok == (at == 9), "failing at {at}");
         assert!(rt;

@@ -14,8 +14,13 @@ fn answer(counted: io::Result<usize>) -> Answer {
     }
 }
 
-fn weakness(step: usize, at: u64, trouble: Trouble) -> Weakness {
-    Weakness { step, at, trouble }
+// Two bytes a call, and the trouble at the second.
+fn weakness(trouble: Trouble) -> Weakness {
+    Weakness {
+        step: 2,
+        at: 2,
+        trouble,
+    }
 }
 
 // What the second call answers, and what the writer has taken after three.
@@ -29,7 +34,7 @@ static WRITER_ANSWERS: [(Trouble, Answer, &[u8]); 4] = [
 #[test]
 fn a_writer_has_its_trouble_at_one_call(rt: HostRuntime) {
     for &(trouble, second, taken) in &WRITER_ANSWERS {
-        let mut output = WeakWriter::new(rt.alloc(), weakness(2, 2, trouble));
+        let mut output = WeakWriter::new(rt.alloc(), weakness(trouble));
         assert!(rt; writes_three_times(&mut output, second), "{trouble:?}");
         assert!(rt; output.taken.as_slice() == taken, "{trouble:?}");
         assert!(rt; output.calls == 3, "{trouble:?}");
@@ -53,7 +58,7 @@ static READER_ANSWERS: [(Trouble, Answer, &[u8]); 4] = [
 #[test]
 fn a_reader_has_its_trouble_at_one_call(rt: HostRuntime) {
     for &(trouble, second, left) in &READER_ANSWERS {
-        let mut input = WeakReader::new(b"abcde", weakness(2, 2, trouble));
+        let mut input = WeakReader::new(b"abcde", weakness(trouble));
         assert!(rt; reads_twice(&mut input, second), "{trouble:?}");
         assert!(rt; input.left == left, "{trouble:?}");
         assert!(rt; input.calls == 2, "{trouble:?}");
@@ -69,7 +74,7 @@ fn reads_twice(input: &mut WeakReader<'_>, second: Answer) -> bool {
 
 #[test]
 fn a_byte_a_call_is_enough(rt: HostRuntime) -> Result<(), Fail> {
-    let weakness = weakness(1, 0, Trouble::Calm);
+    let weakness = Weakness::byte_by_byte(0, Trouble::Calm);
     let mut output = WeakWriter::new(rt.alloc(), weakness);
     output.write_all(b"abcde")?;
     assert!(rt; output.taken.as_slice() == b"abcde".as_slice());
@@ -99,7 +104,7 @@ fn each_failing_call_has_an_error_of_its_own(rt: HostRuntime) -> Result<(), Fail
 
 // Whether the call of that number fails by an error of that kind, with the number as its message.
 fn fails_by(alloc: Global, at: u64, kind: ErrorKind) -> Result<bool, AllocError> {
-    let mut output = WeakWriter::new(alloc, weakness(1, at, Trouble::Fails));
+    let mut output = WeakWriter::new(alloc, Weakness::byte_by_byte(at, Trouble::Fails));
     let Err(fault) = output.write_all(b"abcde") else {
         return Ok(false);
     };
@@ -109,17 +114,19 @@ fn fails_by(alloc: Global, at: u64, kind: ErrorKind) -> Result<bool, AllocError>
 
 #[test]
 fn flushes_and_empty_writes_are_counted(rt: HostRuntime) -> Result<(), Fail> {
-    let weakness = weakness(1, 0, Trouble::Calm);
+    let weakness = Weakness::byte_by_byte(0, Trouble::Calm);
     let mut output = WeakWriter::new(rt.alloc(), weakness);
     assert!(rt; output.write(b"a")? == 1);
     assert!(rt; output.was_only_written());
     assert!(rt; output.write(b"")? == 0);
     assert!(rt; output.empty_calls == 1 && !output.was_only_written());
+    assert!(rt; output.calls == 2 && output.taken.as_slice() == b"a".as_slice());
     let mut output = WeakWriter::new(rt.alloc(), weakness);
     output.flush()?;
     assert!(rt; output.flushes == 1 && !output.was_only_written());
     output.flush = Flush::Fails;
-    assert!(rt; output.flush().is_err() && output.flushes == 2);
+    assert!(rt; output.flush().is_err() && output.flush().is_err());
+    assert!(rt; output.flushes == 3);
     assert!(rt; output.calls == 0 && output.taken.is_empty());
     Ok(())
 }
