@@ -1,5 +1,5 @@
 //! The commands, and the words that name them.
-ghost use Rattle.std.specs.Prelude.{◌≡◌, map, MatchOption};
+ghost use Rattle.std.specs.Prelude.{◌≡◌, [], ◌∷◌, map, MatchOption};
 ghost use Rattle.hesc_commands.specs.Commands.{NamesNoCommand, NamesNoneOfFew, words_of};
 
 use crate::form_words::{FormWords, form_of};
@@ -46,16 +46,26 @@ fn command_of_few<'w>(words: &[&'w str]) -> Option<Command<'w>>
         (λ command. words_of command ≡ map (λ word. word.now) words.now) }
 {
     match words {
-        ["read-form"] => Some(Command::ReadForm),
-        ["read-page"] => Some(Command::ReadPage),
+        [word] => command_of_one(word),
         ["page", first, second, third] => Some(Command::Page(first, second, third)),
-        ["lines-script"] => Some(Command::Lines(BodyKind::Script)),
-        ["lines-style"] => Some(Command::Lines(BodyKind::Style)),
-        [name] => Some(Command::Operation(operation_named(name)?)),
         ["enclose", encoder, place] => Some(Command::Enclose(
             encoder_named(encoder)?,
             place_named(place)?,
         )),
         _ => None,
+    }
+}
+
+// The command that this word alone names.
+fn command_of_one<'w>(word: &str) -> Option<Command<'w>>
+    ensures { MatchOption result (NamesNoneOfFew (word.now ∷ []))
+        (λ command. words_of command ≡ word.now ∷ []) }
+{
+    match word {
+        "read-form" => Some(Command::ReadForm),
+        "read-page" => Some(Command::ReadPage),
+        "lines-script" => Some(Command::Lines(BodyKind::Script)),
+        "lines-style" => Some(Command::Lines(BodyKind::Style)),
+        name => Some(Command::Operation(operation_named(name)?)),
     }
 }
