@@ -18,6 +18,9 @@ use crate::row_faults::{COMMON_ENTITIES, fault_of_row, first_value};
 use hesc_specs::TableFault;
 use std::cmp::Ordering;
 
+// A constant would be written out where it is used, and each of its references proved there.
+static BUILT_IN: [(&[u8], &str); 77] = NAMED_ENTITIES;
+
 /// A table of entities: rows of a name and its value, by strictly rising names of ASCII letters and
 /// digits, that have the six common names with their values.
 #[derive(Clone, Copy)]
@@ -39,7 +42,7 @@ impl EntityTable<'static> {
         ensures { rows_of result ≡ named_rows }
     {
         EntityTable {
-            rows: &NAMED_ENTITIES,
+            rows: &BUILT_IN,
             growth: Growth::Never,
         }
     }
