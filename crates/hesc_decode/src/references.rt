@@ -34,6 +34,7 @@ pub fn decode_html_entities<'t, A: Allocator>(
 ///
 /// `decode_html_entities_to_string("Hello&#x20;world&#x21;", &mut page)?`
 /// appends and answers `Hello world!`.
+#[inline(always)]
 pub fn decode_html_entities_to_string<'o, A: Allocator>(
     text: &str,
     output: &'o mut String<A>,
@@ -51,6 +52,7 @@ pub fn decode_html_entities_to_string<'o, A: Allocator>(
 ///
 /// `decode_html_entities_to_vec("Hello&#x20;world&#x21;", &mut bytes)?`
 /// appends and answers the bytes of `Hello world!`.
+#[inline(always)]
 pub fn decode_html_entities_to_vec<'o, A: Allocator>(
     text: &str,
     output: &'o mut Vec<u8, A>,
@@ -120,6 +122,7 @@ pub fn decode_html_entities_with<'t, A: Allocator>(
 ///
 /// `decode_html_entities_with_to_string(&table, "&amp;lt;&AMP;&Amp;&copy;", &mut page)?`
 /// appends and answers `&lt;&&Amp;©`.
+#[inline(always)]
 pub fn decode_html_entities_with_to_string<'o, A: Allocator>(
     table: &EntityTable<'_>,
     text: &str,
@@ -138,6 +141,7 @@ pub fn decode_html_entities_with_to_string<'o, A: Allocator>(
 ///
 /// `decode_html_entities_with_to_vec(&table, "&amp;lt;&AMP;&Amp;&copy;", &mut bytes)?`
 /// appends and answers the bytes of `&lt;&&Amp;©`.
+#[inline(always)]
 pub fn decode_html_entities_with_to_vec<'o, A: Allocator>(
     table: &EntityTable<'_>,
     text: &str,

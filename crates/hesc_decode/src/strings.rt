@@ -50,6 +50,7 @@ pub fn decode_script_single_quoted_text<'t, A: Allocator>(
 ///
 /// `decode_script_single_quoted_text_to_string(r#"it\'s "\x3Cb>""#, &mut page)?`
 /// appends and answers `it's "<b>"`.
+#[inline(always)]
 pub fn decode_script_single_quoted_text_to_string<'o, A: Allocator>(
     text: &str,
     output: &'o mut String<A>,
@@ -67,6 +68,7 @@ pub fn decode_script_single_quoted_text_to_string<'o, A: Allocator>(
 ///
 /// `decode_script_single_quoted_text_to_vec(r#"it\'s "\x3Cb>""#, &mut bytes)?`
 /// appends and answers the bytes of `it's "<b>"`.
+#[inline(always)]
 pub fn decode_script_single_quoted_text_to_vec<'o, A: Allocator>(
     text: &str,
     output: &'o mut Vec<u8, A>,
@@ -117,6 +119,7 @@ pub fn decode_script_double_quoted_text<'t, A: Allocator>(
 ///
 /// `decode_script_double_quoted_text_to_string(r#"it's \"\x3Cb>\""#, &mut page)?`
 /// appends and answers `it's "<b>"`.
+#[inline(always)]
 pub fn decode_script_double_quoted_text_to_string<'o, A: Allocator>(
     text: &str,
     output: &'o mut String<A>,
@@ -134,6 +137,7 @@ pub fn decode_script_double_quoted_text_to_string<'o, A: Allocator>(
 ///
 /// `decode_script_double_quoted_text_to_vec(r#"it's \"\x3Cb>\""#, &mut bytes)?`
 /// appends and answers the bytes of `it's "<b>"`.
+#[inline(always)]
 pub fn decode_script_double_quoted_text_to_vec<'o, A: Allocator>(
     text: &str,
     output: &'o mut Vec<u8, A>,
@@ -184,6 +188,7 @@ pub fn decode_script_quoted_text<'t, A: Allocator>(
 ///
 /// `decode_script_quoted_text_to_string(r#"it\'s \"\x3Cb>\""#, &mut page)?`
 /// appends and answers `it's "<b>"`.
+#[inline(always)]
 pub fn decode_script_quoted_text_to_string<'o, A: Allocator>(
     text: &str,
     output: &'o mut String<A>,
@@ -201,6 +206,7 @@ pub fn decode_script_quoted_text_to_string<'o, A: Allocator>(
 ///
 /// `decode_script_quoted_text_to_vec(r#"it\'s \"\x3Cb>\""#, &mut bytes)?`
 /// appends and answers the bytes of `it's "<b>"`.
+#[inline(always)]
 pub fn decode_script_quoted_text_to_vec<'o, A: Allocator>(
     text: &str,
     output: &'o mut Vec<u8, A>,
@@ -250,6 +256,7 @@ pub fn decode_style_single_quoted_text<'t, A: Allocator>(
 ///
 /// `decode_style_single_quoted_text_to_string(r#"it\'s "\3C b>""#, &mut page)?`
 /// appends and answers `it's "<b>"`.
+#[inline(always)]
 pub fn decode_style_single_quoted_text_to_string<'o, A: Allocator>(
     text: &str,
     output: &'o mut String<A>,
@@ -267,6 +274,7 @@ pub fn decode_style_single_quoted_text_to_string<'o, A: Allocator>(
 ///
 /// `decode_style_single_quoted_text_to_vec(r#"it\'s "\3C b>""#, &mut bytes)?`
 /// appends and answers the bytes of `it's "<b>"`.
+#[inline(always)]
 pub fn decode_style_single_quoted_text_to_vec<'o, A: Allocator>(
     text: &str,
     output: &'o mut Vec<u8, A>,
@@ -317,6 +325,7 @@ pub fn decode_style_double_quoted_text<'t, A: Allocator>(
 ///
 /// `decode_style_double_quoted_text_to_string(r#"it's \"\3C b>\""#, &mut page)?`
 /// appends and answers `it's "<b>"`.
+#[inline(always)]
 pub fn decode_style_double_quoted_text_to_string<'o, A: Allocator>(
     text: &str,
     output: &'o mut String<A>,
@@ -334,6 +343,7 @@ pub fn decode_style_double_quoted_text_to_string<'o, A: Allocator>(
 ///
 /// `decode_style_double_quoted_text_to_vec(r#"it's \"\3C b>\""#, &mut bytes)?`
 /// appends and answers the bytes of `it's "<b>"`.
+#[inline(always)]
 pub fn decode_style_double_quoted_text_to_vec<'o, A: Allocator>(
     text: &str,
     output: &'o mut Vec<u8, A>,
@@ -384,6 +394,7 @@ pub fn decode_style_quoted_text<'t, A: Allocator>(
 ///
 /// `decode_style_quoted_text_to_string(r#"it\'s \"\3C b>\""#, &mut page)?`
 /// appends and answers `it's "<b>"`.
+#[inline(always)]
 pub fn decode_style_quoted_text_to_string<'o, A: Allocator>(
     text: &str,
     output: &'o mut String<A>,
@@ -401,6 +412,7 @@ pub fn decode_style_quoted_text_to_string<'o, A: Allocator>(
 ///
 /// `decode_style_quoted_text_to_vec(r#"it\'s \"\3C b>\""#, &mut bytes)?`
 /// appends and answers the bytes of `it's "<b>"`.
+#[inline(always)]
 pub fn decode_style_quoted_text_to_vec<'o, A: Allocator>(
     text: &str,
     output: &'o mut Vec<u8, A>,

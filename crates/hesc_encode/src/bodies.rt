@@ -31,6 +31,7 @@ pub fn encode_script<'t, A: Allocator>(alloc: A, text: &'t str) -> Result<CowStr
 /// `output` is as it was.
 ///
 /// `encode_script_to_string("</script>", &mut page)?` appends and answers `<\/script>`.
+#[inline(always)]
 pub fn encode_script_to_string<'o, A: Allocator>(
     text: &str,
     output: &'o mut String<A>,
@@ -47,6 +48,7 @@ pub fn encode_script_to_string<'o, A: Allocator>(
 /// `output` is as it was.
 ///
 /// `encode_script_to_vec("</script>", &mut bytes)?` appends and answers the bytes of `<\/script>`.
+#[inline(always)]
 pub fn encode_script_to_vec<'o, A: Allocator>(
     text: &str,
     output: &'o mut Vec<u8, A>,
@@ -87,6 +89,7 @@ pub fn encode_style<'t, A: Allocator>(alloc: A, text: &'t str) -> Result<CowStr<
 /// `output` is as it was.
 ///
 /// `encode_style_to_string("</style>", &mut page)?` appends and answers `<\/style>`.
+#[inline(always)]
 pub fn encode_style_to_string<'o, A: Allocator>(
     text: &str,
     output: &'o mut String<A>,
@@ -103,6 +106,7 @@ pub fn encode_style_to_string<'o, A: Allocator>(
 /// `output` is as it was.
 ///
 /// `encode_style_to_vec("</style>", &mut bytes)?` appends and answers the bytes of `<\/style>`.
+#[inline(always)]
 pub fn encode_style_to_vec<'o, A: Allocator>(
     text: &str,
     output: &'o mut Vec<u8, A>,

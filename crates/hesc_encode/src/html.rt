@@ -33,6 +33,7 @@ pub fn encode_text_minimal<'t, A: Allocator>(
 ///
 /// `encode_text_minimal_to_string(r#"it's "<b>""#, &mut page)?`
 /// appends and answers `it's "&lt;b>"`.
+#[inline(always)]
 pub fn encode_text_minimal_to_string<'o, A: Allocator>(
     text: &str,
     output: &'o mut String<A>,
@@ -50,6 +51,7 @@ pub fn encode_text_minimal_to_string<'o, A: Allocator>(
 ///
 /// `encode_text_minimal_to_vec(r#"it's "<b>""#, &mut bytes)?`
 /// appends and answers the bytes of `it's "&lt;b>"`.
+#[inline(always)]
 pub fn encode_text_minimal_to_vec<'o, A: Allocator>(
     text: &str,
     output: &'o mut Vec<u8, A>,
@@ -89,6 +91,7 @@ pub fn encode_text<'t, A: Allocator>(alloc: A, text: &'t str) -> Result<CowStr<'
 /// `output` is as it was.
 ///
 /// `encode_text_to_string(r#"it's "<b>""#, &mut page)?` appends and answers `it's "&lt;b&gt;"`.
+#[inline(always)]
 pub fn encode_text_to_string<'o, A: Allocator>(
     text: &str,
     output: &'o mut String<A>,
@@ -106,6 +109,7 @@ pub fn encode_text_to_string<'o, A: Allocator>(
 ///
 /// `encode_text_to_vec(r#"it's "<b>""#, &mut bytes)?`
 /// appends and answers the bytes of `it's "&lt;b&gt;"`.
+#[inline(always)]
 pub fn encode_text_to_vec<'o, A: Allocator>(
     text: &str,
     output: &'o mut Vec<u8, A>,
@@ -150,6 +154,7 @@ pub fn encode_double_quoted_attribute<'t, A: Allocator>(
 ///
 /// `encode_double_quoted_attribute_to_string(r#"it's "<b>""#, &mut page)?`
 /// appends and answers `it's &quot;&lt;b&gt;&quot;`.
+#[inline(always)]
 pub fn encode_double_quoted_attribute_to_string<'o, A: Allocator>(
     text: &str,
     output: &'o mut String<A>,
@@ -167,6 +172,7 @@ pub fn encode_double_quoted_attribute_to_string<'o, A: Allocator>(
 ///
 /// `encode_double_quoted_attribute_to_vec(r#"it's "<b>""#, &mut bytes)?`
 /// appends and answers the bytes of `it's &quot;&lt;b&gt;&quot;`.
+#[inline(always)]
 pub fn encode_double_quoted_attribute_to_vec<'o, A: Allocator>(
     text: &str,
     output: &'o mut Vec<u8, A>,
@@ -215,6 +221,7 @@ pub fn encode_single_quoted_attribute<'t, A: Allocator>(
 ///
 /// `encode_single_quoted_attribute_to_string(r#"it's "<b>""#, &mut page)?`
 /// appends and answers `it&#x27;s "&lt;b&gt;"`.
+#[inline(always)]
 pub fn encode_single_quoted_attribute_to_string<'o, A: Allocator>(
     text: &str,
     output: &'o mut String<A>,
@@ -232,6 +239,7 @@ pub fn encode_single_quoted_attribute_to_string<'o, A: Allocator>(
 ///
 /// `encode_single_quoted_attribute_to_vec(r#"it's "<b>""#, &mut bytes)?`
 /// appends and answers the bytes of `it&#x27;s "&lt;b&gt;"`.
+#[inline(always)]
 pub fn encode_single_quoted_attribute_to_vec<'o, A: Allocator>(
     text: &str,
     output: &'o mut Vec<u8, A>,
@@ -280,6 +288,7 @@ pub fn encode_quoted_attribute<'t, A: Allocator>(
 ///
 /// `encode_quoted_attribute_to_string(r#"it's "<b>""#, &mut page)?`
 /// appends and answers `it&#x27;s &quot;&lt;b&gt;&quot;`.
+#[inline(always)]
 pub fn encode_quoted_attribute_to_string<'o, A: Allocator>(
     text: &str,
     output: &'o mut String<A>,
@@ -297,6 +306,7 @@ pub fn encode_quoted_attribute_to_string<'o, A: Allocator>(
 ///
 /// `encode_quoted_attribute_to_vec(r#"it's "<b>""#, &mut bytes)?`
 /// appends and answers the bytes of `it&#x27;s &quot;&lt;b&gt;&quot;`.
+#[inline(always)]
 pub fn encode_quoted_attribute_to_vec<'o, A: Allocator>(
     text: &str,
     output: &'o mut Vec<u8, A>,
@@ -342,6 +352,7 @@ pub fn encode_safe<'t, A: Allocator>(alloc: A, text: &'t str) -> Result<CowStr<'
 ///
 /// `encode_safe_to_string(r#"it's "<b>""#, &mut page)?`
 /// appends and answers `it&#x27;s &quot;&lt;b&gt;&quot;`.
+#[inline(always)]
 pub fn encode_safe_to_string<'o, A: Allocator>(
     text: &str,
     output: &'o mut String<A>,
@@ -359,6 +370,7 @@ pub fn encode_safe_to_string<'o, A: Allocator>(
 ///
 /// `encode_safe_to_vec(r#"it's "<b>""#, &mut bytes)?`
 /// appends and answers the bytes of `it&#x27;s &quot;&lt;b&gt;&quot;`.
+#[inline(always)]
 pub fn encode_safe_to_vec<'o, A: Allocator>(
     text: &str,
     output: &'o mut Vec<u8, A>,
@@ -403,6 +415,7 @@ pub fn encode_unquoted_attribute<'t, A: Allocator>(
 ///
 /// `encode_unquoted_attribute_to_string(r#"it's "<b>""#, &mut page)?`
 /// appends and answers `it&#x27;s&#x20;&quot;&lt;b&gt;&quot;`.
+#[inline(always)]
 pub fn encode_unquoted_attribute_to_string<'o, A: Allocator>(
     text: &str,
     output: &'o mut String<A>,
@@ -420,6 +433,7 @@ pub fn encode_unquoted_attribute_to_string<'o, A: Allocator>(
 ///
 /// `encode_unquoted_attribute_to_vec(r#"it's "<b>""#, &mut bytes)?`
 /// appends and answers the bytes of `it&#x27;s&#x20;&quot;&lt;b&gt;&quot;`.
+#[inline(always)]
 pub fn encode_unquoted_attribute_to_vec<'o, A: Allocator>(
     text: &str,
     output: &'o mut Vec<u8, A>,

@@ -36,6 +36,7 @@ pub fn encode_script_single_quoted_text<'t, A: Allocator>(
 ///
 /// `encode_script_single_quoted_text_to_string(r#"it's "<b>""#, &mut page)?`
 /// appends and answers `it\'s "\x3Cb>"`.
+#[inline(always)]
 pub fn encode_script_single_quoted_text_to_string<'o, A: Allocator>(
     text: &str,
     output: &'o mut String<A>,
@@ -53,6 +54,7 @@ pub fn encode_script_single_quoted_text_to_string<'o, A: Allocator>(
 ///
 /// `encode_script_single_quoted_text_to_vec(r#"it's "<b>""#, &mut bytes)?`
 /// appends and answers the bytes of `it\'s "\x3Cb>"`.
+#[inline(always)]
 pub fn encode_script_single_quoted_text_to_vec<'o, A: Allocator>(
     text: &str,
     output: &'o mut Vec<u8, A>,
@@ -101,6 +103,7 @@ pub fn encode_script_double_quoted_text<'t, A: Allocator>(
 ///
 /// `encode_script_double_quoted_text_to_string(r#"it's "<b>""#, &mut page)?`
 /// appends and answers `it's \"\x3Cb>\"`.
+#[inline(always)]
 pub fn encode_script_double_quoted_text_to_string<'o, A: Allocator>(
     text: &str,
     output: &'o mut String<A>,
@@ -118,6 +121,7 @@ pub fn encode_script_double_quoted_text_to_string<'o, A: Allocator>(
 ///
 /// `encode_script_double_quoted_text_to_vec(r#"it's "<b>""#, &mut bytes)?`
 /// appends and answers the bytes of `it's \"\x3Cb>\"`.
+#[inline(always)]
 pub fn encode_script_double_quoted_text_to_vec<'o, A: Allocator>(
     text: &str,
     output: &'o mut Vec<u8, A>,
@@ -166,6 +170,7 @@ pub fn encode_script_quoted_text<'t, A: Allocator>(
 ///
 /// `encode_script_quoted_text_to_string(r#"it's "<b>""#, &mut page)?`
 /// appends and answers `it\'s \"\x3Cb>\"`.
+#[inline(always)]
 pub fn encode_script_quoted_text_to_string<'o, A: Allocator>(
     text: &str,
     output: &'o mut String<A>,
@@ -183,6 +188,7 @@ pub fn encode_script_quoted_text_to_string<'o, A: Allocator>(
 ///
 /// `encode_script_quoted_text_to_vec(r#"it's "<b>""#, &mut bytes)?`
 /// appends and answers the bytes of `it\'s \"\x3Cb>\"`.
+#[inline(always)]
 pub fn encode_script_quoted_text_to_vec<'o, A: Allocator>(
     text: &str,
     output: &'o mut Vec<u8, A>,
@@ -230,6 +236,7 @@ pub fn encode_style_single_quoted_text<'t, A: Allocator>(
 ///
 /// `encode_style_single_quoted_text_to_string(r#"it's "<b>""#, &mut page)?`
 /// appends and answers `it\'s "\3C b>"`.
+#[inline(always)]
 pub fn encode_style_single_quoted_text_to_string<'o, A: Allocator>(
     text: &str,
     output: &'o mut String<A>,
@@ -247,6 +254,7 @@ pub fn encode_style_single_quoted_text_to_string<'o, A: Allocator>(
 ///
 /// `encode_style_single_quoted_text_to_vec(r#"it's "<b>""#, &mut bytes)?`
 /// appends and answers the bytes of `it\'s "\3C b>"`.
+#[inline(always)]
 pub fn encode_style_single_quoted_text_to_vec<'o, A: Allocator>(
     text: &str,
     output: &'o mut Vec<u8, A>,
@@ -295,6 +303,7 @@ pub fn encode_style_double_quoted_text<'t, A: Allocator>(
 ///
 /// `encode_style_double_quoted_text_to_string(r#"it's "<b>""#, &mut page)?`
 /// appends and answers `it's \"\3C b>\"`.
+#[inline(always)]
 pub fn encode_style_double_quoted_text_to_string<'o, A: Allocator>(
     text: &str,
     output: &'o mut String<A>,
@@ -312,6 +321,7 @@ pub fn encode_style_double_quoted_text_to_string<'o, A: Allocator>(
 ///
 /// `encode_style_double_quoted_text_to_vec(r#"it's "<b>""#, &mut bytes)?`
 /// appends and answers the bytes of `it's \"\3C b>\"`.
+#[inline(always)]
 pub fn encode_style_double_quoted_text_to_vec<'o, A: Allocator>(
     text: &str,
     output: &'o mut Vec<u8, A>,
@@ -360,6 +370,7 @@ pub fn encode_style_quoted_text<'t, A: Allocator>(
 ///
 /// `encode_style_quoted_text_to_string(r#"it's "<b>""#, &mut page)?`
 /// appends and answers `it\'s \"\3C b>\"`.
+#[inline(always)]
 pub fn encode_style_quoted_text_to_string<'o, A: Allocator>(
     text: &str,
     output: &'o mut String<A>,
@@ -377,6 +388,7 @@ pub fn encode_style_quoted_text_to_string<'o, A: Allocator>(
 ///
 /// `encode_style_quoted_text_to_vec(r#"it's "<b>""#, &mut bytes)?`
 /// appends and answers the bytes of `it\'s \"\3C b>\"`.
+#[inline(always)]
 pub fn encode_style_quoted_text_to_vec<'o, A: Allocator>(
     text: &str,
     output: &'o mut Vec<u8, A>,
