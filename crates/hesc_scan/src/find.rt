@@ -38,7 +38,8 @@ pub fn first_byte(byte: u8, bytes: &[u8], from: usize) -> usize
     first_byte_far(byte, bytes, from)
 }
 
-// Where 32 bytes or fewer are left, they are looked at as two halves that overlap, or as one block.
+// Where 32 bytes or fewer are left, they are looked at as two halves that overlap, among the last 16
+// of the text, or, in a shorter one, as one block.
 #[inline(never)]
 fn first_byte_near(byte: u8, bytes: &[u8], from: usize) -> usize
     requires within { from ≤ length bytes.now }
@@ -47,6 +48,9 @@ fn first_byte_near(byte: u8, bytes: &[u8], from: usize) -> usize
 {
     if bytes.len() - from >= 16 {
         return first_byte_of_halves(byte, bytes, from);
+    }
+    if bytes.len() >= 16 {
+        return first_byte_of_last(byte, bytes, from);
     }
     let mask = block_hits_of_one(byte, &Block::rest(bytes, from));
     first_set(mask, bytes, from)
@@ -69,6 +73,19 @@ fn first_byte_of_halves(byte: u8, bytes: &[u8], from: usize) -> usize
         return last + mask.trailing_zeros() as usize;
     }
     bytes.len()
+}
+
+// The mask of the last 16 bytes, without those before `from`.
+#[inline(always)]
+fn first_byte_of_last(byte: u8, bytes: &[u8], from: usize) -> usize
+    requires long { 16 ≤ length bytes.now }
+    requires within { from ≤ length bytes.now }
+    requires few { length bytes.now ≤ from + 16 }
+    ensures { IsFirstPlace (is_byte byte) bytes.now from result }
+{
+    let start = bytes.len() - 16;
+    let hits = half_hits_of_one(byte, bytes, start);
+    first_set(hits >> (from - start), bytes, from)
 }
 
 #[inline(never)]
