@@ -54,12 +54,6 @@ pub knows_nothing : {place : Place} {bytes value : List ℕ} {mode : Mode} {rest
     Nothing ≡ step_of place mode rest → None ≡ reading place bytes
 knows_nothing {place} {mode = mode} {rest} follows full nothing = rw (turned (step_of place) mode rest full, sym nothing) at follows.known
 
--- nor where the bytes have run out
-pub runs_out : {place : Place} {bytes value : List ℕ} {mode : Mode} {rest : List ℕ} → Follows place bytes value mode rest → length rest ≡ 0 →
-    None ≡ reading place bytes
-runs_out {rest = []} follows empty = follows.known
-runs_out {rest = b ∷ rest} follows empty = absurd (omega arith)
-
 -- nor where an item is not all there
 lacks : {place : Place} {bytes value : List ℕ} {mode next : Mode} {rest : List ℕ} (found : Step) (more : ℕ) (item : List ℕ) → IsItem found more item next →
     Follows place bytes value mode rest → length rest ≢ 0 → found ≡ step_of place mode rest → length rest ≤ more → None ≡ reading place bytes

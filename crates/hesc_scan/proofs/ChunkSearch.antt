@@ -44,9 +44,6 @@ module _ (bytes rest : List ℕ) (from : ℕ) (chunks : List (List ℕ)) (i : �
 pub slice_rest : (bytes : List ℕ) (from : ℕ) → from ≤ length bytes → chunk from (length bytes - from) bytes ≡ drop from bytes
 slice_rest bytes from within = take_all (length bytes - from) (drop from bytes) (omega (arith, length-drop from bytes))
 
-pub chunk_long : (bytes found : List ℕ) (place : ℕ) → StandsAt bytes place found → length found ≡ 32
-chunk_long bytes found place stands = ap length stands.bytes_there ∙ length-chunk place 32 bytes stands.room
-
 pub below_256 : (bytes found : List ℕ) (place : ℕ) → ((k : ℕ) → Fits w8 (get_or bytes k 0)) → StandsAt bytes place found → Each1 (λ b. b < 256) found
 below_256 bytes found place fits stands = subst (Each1 (λ b. b < 256)) (sym stands.bytes_there) (below_from_Fits w8 _ (chunk-fits w8 place 32 bytes fits))
 
@@ -137,15 +134,3 @@ first_of_block test bytes from reached place mask later none first some =
 
 pub inside_of_block : (test : ℕ → Bool) (bytes : List ℕ) (from place mask : ℕ) → IsFirstBlock test bytes from place mask → 0 < mask → place + count_trailing_zeros 64 mask < length bytes
 inside_of_block test bytes from place mask first some = inside_by_part test bytes from place 32 mask (omega arith) first.within first.ordered first.before first.is_mask some
-
-pub none_in_blocks : (test : ℕ → Bool) (bytes : List ℕ) (from reached place mask : ℕ) → from ≤ reached → ((k : ℕ) → from ≤ k → k < reached → test (get_or bytes k 0) ≡ false)
-    → IsFirstBlock test bytes reached place mask → mask ≡ 0 → IsFirstPlace test bytes from place
-none_in_blocks test bytes from reached place mask later none first empty = record {
-  ordered = omega (arith, first.ordered);
-  in_range = first.within;
-  before = λ k from_k below. elim (cases_lt k reached) [
-    | inl earlier ↦ none k from_k earlier
-    | inr following ↦ first.before k following below
-  ];
-  found = λ inside. absurd (omega (arith, first.none empty));
-}

@@ -107,10 +107,6 @@ session-from element held (piece ∷ pieces) all (held', added, later, step, goe
 pub session-joined : (element : Element) (pieces : List (List ℕ)) (all : List ℕ) → IsSession element [] pieces all → all ≡ body_encoding element (concat pieces)
 session-joined element pieces all session = session-from element [] pieces all session
 
--- a step whatever bytes follow is a step over texts
-pub step-text : (element : Element) (held piece held' added : List ℕ) → IsStep element held piece held' added → IsTextStep element held piece held' added
-step-text element held piece held' added step = (λ rest text. step.0 rest, step.1)
-
 -- the joined pieces of a session over texts are a text
 pieces-text : (element : Element) (held : List ℕ) (pieces : List (List ℕ)) (all : List ℕ) → IsTextSession element held pieces all → IsUtf8 (concat pieces)
 pieces-text element held [] all session = IsUtf8-nil

@@ -29,8 +29,5 @@ element_in-some : (string : Option (Element × Quotes)) (element : Element) → 
 element_in-some None element is = cc
 element_in-some (Some string) element is = let same : string.0 ≡ element = cc in (string.1, ap (λ (e : Element). Some (e, string.1)) same)
 
-pub element_of-none : (class : Class) → element_of class ≡ None → IsHtml class
-element_of-none class is = element_in-none (string_class class) is
-
 pub element_of-some : (class : Class) (element : Element) → element_of class ≡ Some element → (quotes : Quotes) × (string_class class ≡ Some (element, quotes))
 element_of-some class element is = element_in-some (string_class class) element is

@@ -1,4 +1,4 @@
-use Rattle.std.proofs.Common.{◌+◌, arith, sym}
+use Rattle.std.proofs.Common.{arith, sym}
 use Rattle.std.proofs.lemmas.Bool.{eqb-false}
 use Rattle.hesc_scan.proofs.ChunkSearch.{below_256, chunk_stands, slice_rest}
 use Rattle.hesc_scan.proofs.byte_block.mask_at.Goals as goal
