@@ -4,9 +4,9 @@
 //! A form that appends finds out what room is enough, reserves once, and then runs into room that
 //! is known to suffice, so a refusal leaves the output as it was.
 pub mod cow;
-mod kept;
 pub mod made;
 pub mod measure;
+mod output;
 pub mod parts;
 pub mod string;
 pub mod vec;

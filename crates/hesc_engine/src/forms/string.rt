@@ -5,8 +5,8 @@ ghost use Rattle.std.specs.Str.{IsCharBoundary};
 ghost use Rattle.std.specs.String.{string_bytes};
 ghost use Rattle.hesc_engine.specs.Forms.{AnswersPart, Appended, StringAppended, string_room};
 
-use crate::forms::kept::Output;
 use crate::forms::made::Made;
+use crate::forms::output::Output;
 use crate::forms::parts::{Parts, append_parts, append_short};
 use crate::rule::Rule;
 use std::alloc::{AllocError, Allocator};

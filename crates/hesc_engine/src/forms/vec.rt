@@ -4,8 +4,8 @@ ghost use Rattle.std.specs.Borrow.{sem};
 ghost use Rattle.std.specs.Str.{IsUtf8};
 ghost use Rattle.hesc_engine.specs.Forms.{AnswersPart, Appended, VecAppended, vec_room};
 
-use crate::forms::kept::Output;
 use crate::forms::made::Made;
+use crate::forms::output::Output;
 use crate::forms::parts::{Parts, append_parts_to_vec};
 use crate::rule::Rule;
 use std::alloc::{AllocError, Allocator};
