@@ -1,4 +1,4 @@
-//! The engine: each piece of a rule's text goes to a sink. Nothing else makes output.
+//! The engine: each piece of a rule's text goes to a sink.
 ghost use Rattle.std.specs.Prelude.{◌≡◌, ◌≢◌, ◌≤◌, ◌<◌, ◌+◌, [], ◌++◌, length, IsOk, OnOk, OnErr};
 ghost use Rattle.hesc_specs.specs.Text.Beginning.{TookBeginning};
 ghost use Rattle.hesc_specs.specs.Text.Parts.{joined};
@@ -34,6 +34,8 @@ pub fn run<R: Rule, S: Sink>(rule: &R, text: &str, sink: &mut S) -> Result<(), S
 }
 
 /// The same of a text whose first change was found.
+///
+/// Of what the encoder of text makes of `a<b` the sink takes `a&lt;b`.
 #[inline(always)]
 pub fn run_made<R: Rule, S: Sink>(made: &Made<'_, R>, sink: &mut S) -> Result<(), S::Fault>
     ensures ok_taken { OnOk result

@@ -2,8 +2,8 @@
 //!
 //! A [`Place`] begins after its opening mark. Its grammar, which comes from a public standard, says
 //! where it ends and what it holds: one [`Step`] at each position, for which [`step_of`] has a
-//! function for each kind of place. [`read_place`] reads a place so, step by step. None of it shares
-//! code with the decoders.
+//! function for each kind of place. [`read_place`] reads a place so, step by step. With the encoders and
+//! decoders it shares the search for one byte, and no more.
 #![tactic(auto)]
 
 mod bodies;

@@ -1,4 +1,4 @@
-//! The sinks: a count, an array on the stack, a string, a vector, a writer.
+//! The sinks: a count, an array on the stack, a string, a vector, the room of a vector, a writer.
 pub mod counter;
 pub mod filled;
 pub mod log;

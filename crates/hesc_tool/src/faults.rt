@@ -14,7 +14,7 @@ pub enum Fault {
     Read,
     /// The command wants a text, and the input is not UTF-8.
     NotUtf8,
-    /// The input does not begin with a page.
+    /// The input does not begin with a page, or with a form.
     NoPage,
     /// The encoder does not suit the place.
     NotForPlace,

@@ -1,6 +1,5 @@
 //! Tests of templates: which are taken and which refused, memory that is refused, and hostile texts in
-//! every place, read back by the grammars of places, which share no code with templates. The examples
-//! of the documents are here too.
+//! every place, read back by the grammars of places. The examples of the documents are here too.
 #![tactic(auto)]
 
 #[cfg(test)]

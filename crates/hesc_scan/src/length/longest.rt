@@ -8,6 +8,8 @@ use hesc_specs::Class;
 
 /// As many bytes as the encoding by the class has or more, for any text of this length, and 0 where
 /// it has none; `None` where they would pass the greatest `usize`.
+///
+/// Of `Class::Text` and `a<b` it is 18, where the encoding has 6 bytes.
 #[inline(always)]
 pub fn longest_escaped(class: Class, text: &str) -> Option<usize>
     ensures enough { IfSome result (λ longest. length (escaped class text.now) ≤ longest) }
@@ -19,6 +21,8 @@ pub fn longest_escaped(class: Class, text: &str) -> Option<usize>
 }
 
 /// The same for the body encoding of these bytes, for each element.
+///
+/// Of `</b>` it is 8, where the encoding has 4 bytes.
 #[inline(always)]
 pub fn longest_body(bytes: &[u8]) -> Option<usize>
     ensures enough { (element : Element) →

@@ -12,7 +12,7 @@ use std::marker::{Model, PhantomData};
 /// after what it held at first, of a writer as far as it tells its bytes, and of a counter to their
 /// number; a log that says otherwise cannot stand in the sink. `failures` is tied to the clauses of
 /// [`put`](crate::Sink::put) alone: it rises at each `Err` and stays at each `Ok`. So it counts the
-/// faults that were answered, and all that is proved by it is that [`run`](hesc_core::run) answers a
+/// faults that were answered, and all that is proved by it is that `run` of the engine answers a
 /// fault only where a `put` did.
 #[derive(Drop)]
 pub struct Log {
