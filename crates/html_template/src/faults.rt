@@ -1,4 +1,5 @@
 //! Why there is no template, and why no page.
+use std::alloc::AllocError;
 
 /// Why parts are no template. Parts are counted from 0, and the first fault is answered.
 #[derive(Clone, Copy, Debug, PartialEq, Eq)]
@@ -15,6 +16,17 @@ pub enum TemplateFault {
     Memory,
 }
 
+impl From<AllocError> for TemplateFault {
+    ghost use Rattle.std.specs.Prelude.{◌≡◌};
+    ghost use Rattle.html_template.specs.declared.faults.TemplateFault.TheVariants.{Memory};
+
+    ghost from_gives = { λ _ fault. fault ≡ Memory };
+
+    fn from(_refusal: AllocError) -> TemplateFault {
+        TemplateFault::Memory
+    }
+}
+
 /// Why texts do not fill a template. Texts are counted from 0.
 #[derive(Clone, Copy, Debug, PartialEq, Eq)]
 pub enum FillFault {
@@ -24,4 +36,15 @@ pub enum FillFault {
     EmptyUnquoted(usize),
     /// A growth was refused, or the length would pass the greatest `usize`.
     Memory,
+}
+
+impl From<AllocError> for FillFault {
+    ghost use Rattle.std.specs.Prelude.{◌≡◌};
+    ghost use Rattle.html_template.specs.declared.faults.FillFault.TheVariants.{Memory};
+
+    ghost from_gives = { λ _ fault. fault ≡ Memory };
+
+    fn from(_refusal: AllocError) -> FillFault {
+        FillFault::Memory
+    }
 }

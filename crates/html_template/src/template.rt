@@ -23,7 +23,7 @@ use crate::fill::{Summary, check};
 use crate::page::{Page, append_page};
 use crate::parts::{Part, Piece};
 use html_tokenizer::{Reader, Standing};
-use std::alloc::{AllocError, Allocator, Global};
+use std::alloc::{Allocator, Global};
 
 /// A page with slots, each of which stands where a text may stand.
 #[derive(Drop)]
@@ -98,10 +98,8 @@ impl<'a, A: Allocator + Copy> Template<'a, A> {
             texts,
             least,
         };
-        match append_page(output, &page) {
-            Ok(()) => Ok(()),
-            Err(AllocError) => Err(FillFault::Memory),
-        }
+        append_page(output, &page)?;
+        Ok(())
     }
 }
 
@@ -123,9 +121,7 @@ fn take_part<'a, A: Allocator>(
 {
     let piece = match part {
         Part::Markup(text) => {
-            let Ok(()) = reader.read(text.as_bytes()) else {
-                return Err(TemplateFault::Memory);
-            };
+            reader.read(text.as_bytes())?;
             if reader.is_refused() {
                 return Err(TemplateFault::Malformed(number));
             }

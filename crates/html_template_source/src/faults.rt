@@ -43,3 +43,14 @@ pub enum BindFault {
     /// A growth was refused.
     Memory,
 }
+
+impl From<AllocError> for BindFault {
+    ghost use Rattle.std.specs.Prelude.{◌≡◌};
+    ghost use Rattle.html_template_source.specs.declared.faults.BindFault.TheVariants.{Memory};
+
+    ghost from_gives = { λ _ fault. fault ≡ Memory };
+
+    fn from(_refusal: AllocError) -> BindFault {
+        BindFault::Memory
+    }
+}
