@@ -1,4 +1,4 @@
-//! A caller: a template that hands the promise of places on to its own callers.
+//! A caller: a card whose contract hands the promise of places on to its own callers.
 #![tactic(auto)]
 
 ghost use Rattle.std.specs.Prelude.{◌≡◌, IfOk};
