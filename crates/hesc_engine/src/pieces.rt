@@ -49,7 +49,7 @@ pub struct Pieces<'t, R: Rule> {
     is_done: bool,
     ahead: Ahead,
     ghost boundary: { IsCharBoundary text.now from },
-    ghost known: { IsAhead text.now ahead },
+    ghost known: { IsAhead (R.is_sought rule.now) text.now ahead },
 }
 
 impl<'t, R: Rule> Pieces<'t, R> {
@@ -98,7 +98,7 @@ impl<'t, R: Rule> Pieces<'t, R> {
     /// The same, where something is known of the first bytes.
     #[inline(always)]
     fn knowing(rule: &'t R, text: &'t str, ahead: Ahead) -> Pieces<'t, R>
-        requires { IsAhead text.now ahead }
+        requires { IsAhead (R.is_sought rule.now) text.now ahead }
         ensures pieces { parts_left result ≡ parts text.now 0 (R.changes_from rule.now text.now 0) }
         ensures joined { joined (parts text.now 0 (R.changes_from rule.now text.now 0))
             ≡ R.made rule.now text.now }
@@ -128,7 +128,7 @@ impl<'t, R: Rule> Pieces<'t, R> {
         ahead: Ahead,
     ) -> (Segment<'t>, Pieces<'t, R>)
         requires first { IsNext text.now 0 (R.changes_from rule.now text.now) first }
-        requires ahead { IsAhead text.now ahead }
+        requires ahead { IsAhead (R.is_sought rule.now) text.now ahead }
         ensures made { R.made rule.now text.now
             ≡ segment_bytes result.0 ++ joined (parts_left result.1) }
         ensures before_rest { IsBeforeRest result.1 }

@@ -1,5 +1,5 @@
 //! Rules: an operation as the changes that it makes, one after another.
-ghost use Rattle.std.specs.Prelude.{◌≡◌, ◌≤◌, ◌<◌, ◌^◌, ℕ, List, [], length, IfNone, IfSome, IsSome};
+ghost use Rattle.std.specs.Prelude.{◌≡◌, ◌≤◌, ◌<◌, ◌^◌, ℕ, Bool, List, [], false, length, IfNone, IfSome, IsSome};
 ghost use Rattle.std.specs.Str.{IsCharBoundary, IsUtf8};
 ghost use Rattle.hesc_specs.specs.Text.Changes.{Change, applied};
 ghost use Rattle.hesc_engine.specs.Ahead.{IsAhead};
@@ -17,6 +17,9 @@ pub trait Rule {
 
     ghost made: { Self → List ℕ → List ℕ };
 
+    // The bytes that `Ahead` tells of. A rule that keeps no mask looks for none.
+    ghost is_sought: { Self → ℕ → Bool } = { λ _ _. false };
+
     /// The first change at or after `from`, a character boundary, or `None` where there is none.
     ///
     /// Of the encoder of text, in `a<b` from 0, it is the byte 1, which becomes `&lt;`.
@@ -32,10 +35,10 @@ pub trait Rule {
     #[inline(always)]
     fn next_ahead(&self, text: &str, from: usize, ahead: &mut Ahead) -> Option<Found<'_>>
         requires boundary { IsCharBoundary text.now from }
-        requires ahead { IsAhead text.now ahead.old }
+        requires ahead { IsAhead (is_sought self.now) text.now ahead.old }
         ensures none { IfNone result (changes_from self.now text.now from ≡ []) }
         ensures found { IfSome result (IsNext text.now from (changes_from self.now text.now)) }
-        ensures ahead { IsAhead text.now ahead.new }
+        ensures ahead { IsAhead (is_sought self.now) text.now ahead.new }
     {
         let _known = *ahead;
         self.next(text, from)

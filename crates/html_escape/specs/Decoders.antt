@@ -1,7 +1,8 @@
 -- What each decoder reads from a text, and where it changes it.
-use Rattle.std.specs.Prelude.{◌≡◌, ℕ, List}
+use Rattle.std.specs.Prelude.{◌≡◌, ◌==◌, ℕ, Bool, List}
 use Rattle.hesc_specs.specs.Bodies.Encoding.{body_decoding}
 use Rattle.hesc_specs.specs.Bodies.Changes.{body_decoding_changes}
+use Rattle.hesc_specs.specs.Text.Ascii.{ampersand, backslash}
 use Rattle.hesc_specs.specs.Text.Changes.{Change, applied}
 use Rattle.hesc_specs.specs.References.Changes.{reference_changes}
 use Rattle.hesc_specs.specs.References.Decoding.{decoded}
@@ -39,6 +40,11 @@ decoder_changes ScriptQuoted = string_decoding_changes element.Script quotes.Bot
 decoder_changes StyleSingleQuoted = string_decoding_changes element.Style quotes.Single
 decoder_changes StyleDoubleQuoted = string_decoding_changes element.Style quotes.Double
 decoder_changes StyleQuoted = string_decoding_changes element.Style quotes.Both
+
+-- the bytes that a decoder looks for by masks
+abbrev pub decoder_sought : Decoder → ℕ → Bool
+decoder_sought HtmlEntities = λ byte. byte == ampersand
+decoder_sought other = λ byte. byte == backslash
 
 -- a decoder's changes, made, are what it reads
 pub applied-decoder_changes : (decoder : Decoder) (source : List ℕ) → applied source 0 (decoder_changes decoder source 0) ≡ decoder_text decoder source

@@ -6,6 +6,7 @@ ghost use Rattle.hesc_engine.specs.Next.{IsNext};
 ghost use Rattle.html_escape.specs.Decoders.{
   applied-decoder_changes,
   decoder_changes,
+  decoder_sought,
   decoder_text,
 };
 
@@ -42,6 +43,8 @@ impl Rule for Decoder {
     ghost changes_from = { decoder_changes };
 
     ghost made = { decoder_text };
+
+    ghost is_sought = { decoder_sought };
 
     fn next(&self, text: &str, from: usize) -> Option<Found<'_>> {
         next_decoded(*self, text, from)
@@ -80,10 +83,10 @@ fn next_decoded_ahead(
     ahead: &mut Ahead,
 ) -> Option<Found<'static>>
     requires boundary { IsCharBoundary text.now from }
-    requires ahead { IsAhead text.now ahead.old }
+    requires ahead { IsAhead (decoder_sought decoder) text.now ahead.old }
     ensures none { IfNone result (decoder_changes decoder text.now from ≡ []) }
     ensures found { IfSome result (IsNext text.now from (decoder_changes decoder text.now)) }
-    ensures ahead { IsAhead text.now ahead.new }
+    ensures ahead { IsAhead (decoder_sought decoder) text.now ahead.new }
 {
     match decoder {
         Decoder::HtmlEntities => next_references_ahead(&EntityTable::built_in(), text, from, ahead),

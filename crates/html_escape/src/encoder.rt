@@ -1,6 +1,7 @@
 //! The encoders by name.
 ghost use Rattle.std.specs.Prelude.{◌≡◌, ℕ, List, [], IfNone, IfSome};
 ghost use Rattle.std.specs.Str.{IsCharBoundary};
+ghost use Rattle.hesc_specs.specs.Text.Classes.{in_class};
 ghost use Rattle.hesc_specs.specs.Text.Escaped.{escape_changes, escaped};
 ghost use Rattle.hesc_engine.specs.Ahead.{IsAhead};
 ghost use Rattle.hesc_engine.specs.Next.{IsNext};
@@ -9,6 +10,7 @@ ghost use Rattle.html_escape.specs.Encoders.{
   applied-encoder_changes,
   encoded,
   encoder_changes,
+  encoder_sought,
 };
 
 use hesc_core::rules::escape::next_escape_ahead;
@@ -57,6 +59,8 @@ impl Rule for Encoder {
 
     ghost made = { encoded };
 
+    ghost is_sought = { encoder_sought };
+
     fn next(&self, text: &str, from: usize) -> Option<Found<'_>> {
         next_encoded(*self, text, from)
     }
@@ -95,6 +99,7 @@ fn class_of(encoder: Encoder) -> Option<Class>
     ensures some { IfSome result (λ class. (text : List ℕ) → encoded encoder text ≡ escaped class text) }
     ensures changes { IfSome result (λ class. (text : List ℕ) (from : ℕ) →
         encoder_changes encoder text from ≡ escape_changes class text from) }
+    ensures sought { IfSome result (λ class. encoder_sought encoder ≡ in_class class) }
     ensures none { IfNone result (IsBodyEncoder encoder) }
 {
     match encoder {
@@ -150,10 +155,10 @@ fn next_encoded_ahead(
     ahead: &mut Ahead,
 ) -> Option<Found<'static>>
     requires boundary { IsCharBoundary text.now from }
-    requires ahead { IsAhead text.now ahead.old }
+    requires ahead { IsAhead (encoder_sought encoder) text.now ahead.old }
     ensures none { IfNone result (encoder_changes encoder text.now from ≡ []) }
     ensures found { IfSome result (IsNext text.now from (encoder_changes encoder text.now)) }
-    ensures ahead { IsAhead text.now ahead.new }
+    ensures ahead { IsAhead (encoder_sought encoder) text.now ahead.new }
 {
     match class_of(encoder) {
         Some(class) => next_escape_ahead(class, text, from, ahead),

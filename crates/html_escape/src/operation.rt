@@ -5,6 +5,7 @@ ghost use Rattle.hesc_engine.specs.Pieces.{parts_left};
 ghost use Rattle.html_escape.specs.Operations.{
   applied-operation_changes,
   operation_changes,
+  operation_sought,
   operation_text,
 };
 
@@ -24,6 +25,8 @@ impl Rule for Operation {
     ghost changes_from = { operation_changes };
 
     ghost made = { operation_text };
+
+    ghost is_sought = { operation_sought };
 
     fn next(&self, text: &str, from: usize) -> Option<Found<'_>> {
         match *self {

@@ -1,26 +1,35 @@
 //! The search for the next byte that a rule looks for, by what is known of the bytes ahead.
-ghost use Rattle.std.specs.Prelude.{◌≡◌, ◌≤◌, ◌<◌, ℕ, false, length, slice_index, IfErr, IfNone, IfOk, IfSome};
+ghost use Rattle.std.specs.Prelude.{◌≡◌, ◌≤◌, ◌<◌, ℕ, Bool, false, length, slice_index, IfErr, IfNone, IfOk, IfSome};
 ghost use Rattle.hesc_specs.specs.Text.FirstPlace.{IsFirstPlace};
-ghost use Rattle.hesc_scan.specs.Blocks.{IsFirstBlock, mask_from};
-ghost use Rattle.hesc_engine.specs.Ahead.{IsAhead, is_sought};
+ghost use Rattle.hesc_scan.specs.Blocks.{IsFirstBlock};
+ghost use Rattle.hesc_engine.specs.Ahead.{IsAhead};
+ghost use Rattle.hesc_core.specs.Sought.{is_sought};
 
-use hesc_engine::ahead::{Ahead, Sought};
+use hesc_engine::ahead::Ahead;
 use hesc_scan::byte_block::first_byte_block;
 use hesc_scan::scan::first_block;
+use hesc_specs::Class;
+
+/// The bytes that a rule looks for: those of a class, or one byte.
+#[derive(Clone, Copy)]
+pub(crate) enum Sought {
+    InClass(Class),
+    Byte(u8),
+}
 
 /// The least place at or after `from` whose byte is sought, or `None` where there is none. The bytes
 /// are searched after those that are known.
 #[inline(always)]
 pub(crate) fn next_hit(sought: Sought, text: &str, from: usize, ahead: &mut Ahead) -> Option<usize>
     requires within { from ≤ length text.now }
-    requires ahead { IsAhead text.now ahead.old }
+    requires ahead { IsAhead (is_sought sought) text.now ahead.old }
     ensures none { IfNone result (IsFirstPlace (is_sought sought) text.now from (length text.now)) }
     ensures first { IfSome result (IsFirstPlace (is_sought sought) text.now from) }
     ensures inside { IfSome result (λ place. place < length text.now) }
-    ensures ahead { IsAhead text.now ahead.new }
+    ensures ahead { IsAhead (is_sought sought) text.now ahead.new }
 {
     let bytes = text.as_bytes();
-    let reached = match known_hit(sought, bytes, from, *ahead) {
+    let reached = match known_hit(text, from, *ahead) {
         Ok(place) => return Some(place),
         Err(reached) => reached,
     };
@@ -28,11 +37,7 @@ pub(crate) fn next_hit(sought: Sought, text: &str, from: usize, ahead: &mut Ahea
         return None;
     }
     let (start, hits) = first_sought(sought, bytes, reached);
-    *ahead = Ahead {
-        sought,
-        start,
-        hits,
-    };
+    *ahead = Ahead { start, hits };
     if hits == 0 {
         return None;
     }
@@ -43,9 +48,9 @@ pub(crate) fn next_hit(sought: Sought, text: &str, from: usize, ahead: &mut Ahea
 #[inline(always)]
 pub(crate) fn next_hit_or_end(sought: Sought, text: &str, from: usize, ahead: &mut Ahead) -> usize
     requires within { from ≤ length text.now }
-    requires ahead { IsAhead text.now ahead.old }
+    requires ahead { IsAhead (is_sought sought) text.now ahead.old }
     ensures first { IsFirstPlace (is_sought sought) text.now from result }
-    ensures ahead { IsAhead text.now ahead.new }
+    ensures ahead { IsAhead (is_sought sought) text.now ahead.new }
 {
     match next_hit(sought, text, from, ahead) {
         Some(place) => place,
@@ -65,24 +70,23 @@ fn first_sought(sought: Sought, bytes: &[u8], from: usize) -> (usize, u64)
     }
 }
 
-// The place of the first byte at or after `from` that is known to be sought, or the place up to which
-// there is none.
+// The place of the first byte at or after `from` that the mask shows, whatever bytes it tells of, or
+// the place up to which it shows none.
 #[inline(always)]
-fn known_hit(sought: Sought, bytes: &[u8], from: usize, ahead: Ahead) -> Result<usize, usize>
-    requires within { from ≤ length bytes.now }
-    requires ahead { ahead.hits ≡ mask_from (is_sought ahead.sought) bytes.now ahead.start }
-    ensures first { IfOk result (IsFirstPlace (is_sought sought) bytes.now from) }
-    ensures inside { IfOk result (λ place. place < length bytes.now) }
-    ensures reached { IfErr result (λ reached. (from ≤ reached) × (reached ≤ length bytes.now)) }
-    ensures none { IfErr result (λ reached. (k : ℕ) → from ≤ k → k < reached
-        → is_sought sought (slice_index bytes.now k) ≡ false) }
+fn known_hit(text: &str, from: usize, ahead: Ahead) -> Result<usize, usize>
+    requires { from ≤ length text.now }
+    ensures first { IfOk result (λ place. (test : ℕ → Bool) → IsAhead test text.now ahead
+        → IsFirstPlace test text.now from place × (place < length text.now)) }
+    ensures reached { IfErr result (λ reached. (from ≤ reached) × (reached ≤ length text.now)) }
+    ensures none { IfErr result (λ reached. (test : ℕ → Bool) → IsAhead test text.now ahead
+        → (k : ℕ) → from ≤ k → k < reached → test (slice_index text.now k) ≡ false) }
 {
-    if ahead.sought != sought || from < ahead.start || from - ahead.start >= 32 {
+    if from < ahead.start || from - ahead.start >= 32 {
         return Err(from);
     }
     let left = ahead.hits >> (from - ahead.start);
     if left == 0 {
-        return Err(bytes.len().min(ahead.start + 32));
+        return Err(text.len().min(ahead.start + 32));
     }
     Ok(from + left.trailing_zeros() as usize)
 }

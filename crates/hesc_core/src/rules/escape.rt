@@ -1,7 +1,7 @@
 //! Escaping by a class: what the encoder of the class replaces becomes its escape.
 ghost use Rattle.std.specs.Prelude.{◌≡◌, [], IfNone, IfSome};
 ghost use Rattle.std.specs.Str.{IsCharBoundary};
-ghost use Rattle.hesc_specs.specs.Text.Classes.{element_of as element_in_class};
+ghost use Rattle.hesc_specs.specs.Text.Classes.{element_of as element_in_class, in_class};
 ghost use Rattle.hesc_specs.specs.Text.Escaped.{escape_changes, escaped};
 ghost use Rattle.hesc_specs.proofs.Text.EscapeChanges.{applied-escape_changes};
 ghost use Rattle.hesc_engine.specs.Ahead.{IsAhead};
@@ -24,6 +24,8 @@ impl Rule for Escape {
     ghost changes_from = { λ rule. escape_changes rule.0 };
 
     ghost made = { λ rule. escaped rule.0 };
+
+    ghost is_sought = { λ rule. in_class rule.0 };
 
     #[inline(always)]
     fn next(&self, text: &str, from: usize) -> Option<Found<'_>> {
@@ -87,10 +89,10 @@ pub fn next_escape_ahead(
     ahead: &mut Ahead,
 ) -> Option<Found<'static>>
     requires boundary { IsCharBoundary text.now from }
-    requires ahead { IsAhead text.now ahead.old }
+    requires ahead { IsAhead (in_class class) text.now ahead.old }
     ensures none { IfNone result (escape_changes class text.now from ≡ []) }
     ensures found { IfSome result (IsNext text.now from (escape_changes class text.now)) }
-    ensures ahead { IsAhead text.now ahead.new }
+    ensures ahead { IsAhead (in_class class) text.now ahead.new }
 {
     match element_of(class) {
         Some(element) => next_string_escape_ahead(class, element, text, from, ahead),

@@ -1,6 +1,7 @@
 //! Decoding by a table: each reference that has a value becomes it.
-ghost use Rattle.std.specs.Prelude.{◌≡◌, [], IfNone, IfSome};
+ghost use Rattle.std.specs.Prelude.{◌≡◌, ◌==◌, [], IfNone, IfSome};
 ghost use Rattle.std.specs.Str.{IsCharBoundary};
+ghost use Rattle.hesc_specs.specs.Text.Ascii.{ampersand};
 ghost use Rattle.hesc_specs.specs.References.Changes.{reference_changes};
 ghost use Rattle.hesc_specs.specs.References.Decoding.{decoded};
 ghost use Rattle.hesc_specs.proofs.References.Applied.{applied-reference_changes};
@@ -10,9 +11,9 @@ ghost use Rattle.hesc_table.specs.Table.{rows_of};
 
 mod values;
 
-use crate::rules::ahead::next_hit_or_end;
+use crate::rules::ahead::{Sought, next_hit_or_end};
 use crate::rules::references::values::value_of_body;
-use hesc_engine::ahead::{Ahead, Sought};
+use hesc_engine::ahead::Ahead;
 use hesc_engine::found::Found;
 use hesc_engine::rule::Rule;
 use hesc_scan::find::first_of_two;
@@ -27,6 +28,8 @@ impl Rule for References<'_> {
     ghost changes_from = { λ rule. reference_changes (rows_of rule.0.now) };
 
     ghost made = { λ rule. decoded (rows_of rule.0.now) };
+
+    ghost is_sought = { λ rule byte. byte == ampersand };
 
     #[inline(always)]
     fn next(&self, text: &str, from: usize) -> Option<Found<'_>> {
@@ -79,11 +82,11 @@ pub fn next_references_ahead<'a>(
     ahead: &mut Ahead,
 ) -> Option<Found<'a>>
     requires boundary { IsCharBoundary text.now from }
-    requires ahead { IsAhead text.now ahead.old }
+    requires ahead { IsAhead (λ byte. byte == ampersand) text.now ahead.old }
     ensures none { IfNone result (reference_changes (rows_of table.now) text.now from ≡ []) }
     ensures found { IfSome result
         (IsNext text.now from (reference_changes (rows_of table.now) text.now)) }
-    ensures ahead { IsAhead text.now ahead.new }
+    ensures ahead { IsAhead (λ byte. byte == ampersand) text.now ahead.new }
 {
     let bytes = text.as_bytes();
     let mut start = next_hit_or_end(Sought::Byte(b'&'), text, from, ahead);

@@ -20,7 +20,7 @@ pub struct Made<'m, R: Rule> {
     pub(crate) first: Found<'m>,
     pub(crate) ahead: Ahead,
     ghost is_first: { IsNext text.now 0 (R.changes_from rule.now text.now) first },
-    ghost known: { IsAhead text.now ahead },
+    ghost known: { IsAhead (R.is_sought rule.now) text.now ahead },
 }
 
 impl<'m, R: Rule> Made<'m, R> {

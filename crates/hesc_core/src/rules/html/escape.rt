@@ -9,9 +9,9 @@ ghost use Rattle.hesc_specs.proofs.Text.EscapeChanges.{applied-escape_changes};
 ghost use Rattle.hesc_engine.specs.Ahead.{IsAhead};
 ghost use Rattle.hesc_engine.specs.Next.{IsNext};
 
-use crate::rules::ahead::next_hit;
+use crate::rules::ahead::{Sought, next_hit};
 use crate::rules::html::references::reference;
-use hesc_engine::ahead::{Ahead, Sought};
+use hesc_engine::ahead::Ahead;
 use hesc_engine::found::{Found, Replacement};
 use hesc_engine::rule::Rule;
 use hesc_scan::length::{encoded_length, longest_escaped};
@@ -31,6 +31,8 @@ impl Rule for HtmlEscape {
     ghost changes_from = { λ rule. escape_changes rule.class };
 
     ghost made = { λ rule. escaped rule.class };
+
+    ghost is_sought = { λ rule. in_class rule.class };
 
     #[inline(always)]
     fn next(&self, text: &str, from: usize) -> Option<Found<'_>> {
@@ -88,10 +90,10 @@ pub(crate) fn next_html_escape_ahead(
 ) -> Option<Found<'static>>
     requires boundary { IsCharBoundary text.now from }
     requires html { IsHtml class }
-    requires ahead { IsAhead text.now ahead.old }
+    requires ahead { IsAhead (in_class class) text.now ahead.old }
     ensures none { IfNone result (html_changes class text.now from ≡ []) }
     ensures found { IfSome result (IsNext text.now from (html_changes class text.now)) }
-    ensures ahead { IsAhead text.now ahead.new }
+    ensures ahead { IsAhead (in_class class) text.now ahead.new }
 {
     match next_hit(Sought::InClass(class), text, from, ahead) {
         Some(start) => Some(html_escape_at(class, text, from, start)),

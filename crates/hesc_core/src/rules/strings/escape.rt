@@ -2,7 +2,7 @@
 //! escape.
 ghost use Rattle.std.specs.Prelude.{◌≡◌, ◌≤◌, ◌<◌, ◌==◌, [], IfNone, IfSome, Some, if◌then◌else◌, length, take};
 ghost use Rattle.std.specs.Str.{IsAscii, IsCharBoundary};
-ghost use Rattle.hesc_specs.specs.Text.Classes.{element_of};
+ghost use Rattle.hesc_specs.specs.Text.Classes.{element_of, in_class};
 ghost use Rattle.hesc_specs.specs.Text.EscapedPlaces.{escapes_at};
 ghost use Rattle.hesc_specs.specs.Text.FirstPlace.{IsFirstAt};
 ghost use Rattle.hesc_engine.specs.Ahead.{IsAhead};
@@ -18,9 +18,9 @@ ghost use Rattle.hesc_specs.specs.declared.elements.Element.TheVariants.{Script,
 ghost use Rattle.hesc_engine.specs.Next.{IsNext};
 ghost use Rattle.hesc_engine.specs.Text.{replacement_bytes};
 
-use crate::rules::ahead::next_hit_or_end;
+use crate::rules::ahead::{Sought, next_hit_or_end};
 use crate::rules::strings::hex_digits::upper_hex_digit;
-use hesc_engine::ahead::{Ahead, Sought};
+use hesc_engine::ahead::Ahead;
 use hesc_engine::found::{Found, Replacement};
 use hesc_engine::rule::Rule;
 use hesc_engine::small_text::SmallText;
@@ -43,6 +43,8 @@ impl Rule for StringEscape {
     ghost changes_from = { λ rule. escape_changes rule.class };
 
     ghost made = { λ rule. escaped rule.class };
+
+    ghost is_sought = { λ rule. in_class rule.class };
 
     #[inline(always)]
     fn next(&self, text: &str, from: usize) -> Option<Found<'_>> {
@@ -98,10 +100,10 @@ pub(crate) fn next_string_escape_ahead(
 ) -> Option<Found<'static>>
     requires boundary { IsCharBoundary text.now from }
     requires element { element_of class ≡ Some element }
-    requires ahead { IsAhead text.now ahead.old }
+    requires ahead { IsAhead (in_class class) text.now ahead.old }
     ensures none { IfNone result (escape_changes class text.now from ≡ []) }
     ensures found { IfSome result (IsNext text.now from (escape_changes class text.now)) }
-    ensures ahead { IsAhead text.now ahead.new }
+    ensures ahead { IsAhead (in_class class) text.now ahead.new }
 {
     let start = next_escaped(class, text, from, ahead);
     string_escape_at(class, element, text, from, start)
@@ -111,9 +113,9 @@ pub(crate) fn next_string_escape_ahead(
 #[inline(always)]
 fn next_escaped(class: Class, text: &str, from: usize, ahead: &mut Ahead) -> usize
     requires within { from ≤ length text.now }
-    requires ahead { IsAhead text.now ahead.old }
+    requires ahead { IsAhead (in_class class) text.now ahead.old }
     ensures first { IsFirstAt (escapes_at class text.now) from (length text.now) result }
-    ensures ahead { IsAhead text.now ahead.new }
+    ensures ahead { IsAhead (in_class class) text.now ahead.new }
 {
     let bytes = text.as_bytes();
     let mut place = next_hit_or_end(Sought::InClass(class), text, from, ahead);

@@ -9,6 +9,7 @@ use hesc_core::forms::{
 use hesc_core::rules::Escape;
 use hesc_core::{Class, Counter, Piece, Pieces, Replacement, Rule, SmallText, run};
 use hesc_engine::Ahead;
+use hesc_engine::engine::run_made;
 use std::process::Abort;
 use std::test::Fail;
 use test_support::{Trouble, WeakWriter, Weakness};
@@ -23,6 +24,7 @@ fn a_rule_answers_as_it_is_said_to(rt: HostRuntime) {
     assert!(rt; ahead.hits == 0b10);
     assert!(rt; encoder.total("a<b") == Some(6));
     assert!(rt; encoder.total_by_changes("a<b") == Some(6));
+    assert!(rt; encoder.longest("a<b") == Some(18));
     let encoder = Escape(Class::ScriptQuoted);
     assert!(rt; encoder.bound("\u{20AC}") == Some(6));
     assert!(rt; encoder.total("\u{20AC}") == Some(3));
@@ -117,8 +119,13 @@ fn parts_are_put_as_they_are_said_to_be(rt: HostRuntime) -> Result<(), Fail> {
         panic!(rt; "it changes");
     };
     assert!(rt; made.room_for(0) == Ok(6));
+    assert!(rt; !made.may_fit(6));
+    assert!(rt; made.short_bound() == Some(18));
     let mut counter = Counter::new();
     made.put_into(&mut counter)?;
+    assert!(rt; counter.count() == 6);
+    let mut counter = Counter::new();
+    run_made(&made, &mut counter)?;
     assert!(rt; counter.count() == 6);
     let mut page = String::from_str(rt.alloc(), "x")?;
     append_parts(&mut page, &made)?;

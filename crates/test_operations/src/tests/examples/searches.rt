@@ -4,7 +4,7 @@ use hesc_core::openings::{first_escaped_opening, first_opening, is_named, name_o
 use hesc_core::scan::{FLAGS, completes_separator, first_block, first_escaped, flags_agree};
 use hesc_core::{Class, Element};
 use hesc_scan::byte_block::first_byte_block;
-use hesc_scan::length::{body_bound, encoded_length, string_bound};
+use hesc_scan::length::{body_bound, encoded_length, longest_body, longest_escaped, string_bound};
 
 #[test]
 fn bytes_are_found_as_they_are_said_to_be(rt: HostRuntime) {
@@ -35,4 +35,6 @@ fn lengths_are_as_they_are_said_to_be(rt: HostRuntime) {
     assert!(rt; body_bound(b"</script>") == Some(10));
     assert!(rt; encoded_length(Class::Text, b"a<b") == Some(6));
     assert!(rt; string_bound(Class::ScriptQuoted, "it's") == Some(5));
+    assert!(rt; longest_escaped(Class::Text, "a<b") == Some(18));
+    assert!(rt; longest_body(b"</b>") == Some(8));
 }

@@ -13,7 +13,7 @@ invariant-seeking l = record {
   bytes : l.bytes ≡ l.text;
   begins : l.start < length l.text → is_start (slice_index l.text l.start) ≡ true;
   changes : reference_changes (rows_of l.table) l.text l.from ≡ reference_changes (rows_of l.table) l.text l.start;
-  ahead : IsAhead l.text l.ahead;
+  ahead : IsAhead is_start l.text l.ahead;
 }
 
 abbrev pub decreases-seeking : goal.decreases-seeking

@@ -11,7 +11,7 @@ invariant-seeking l = record {
   within : l.place ≤ length l.text;
   none : (k : ℕ) → l.from ≤ k → k < l.place → escapes_at l.class l.text k ≡ false;
   found : l.place < length l.text → in_class l.class (slice_index l.text l.place) ≡ true;
-  ahead : IsAhead l.text l.ahead;
+  ahead : IsAhead (in_class l.class) l.text l.ahead;
 }
 
 abbrev pub decreases-seeking : goal.decreases-seeking

@@ -11,7 +11,7 @@ invariant-seeking l = record {
   within : l.start ≤ length l.text;
   same : string_decoding_changes l.element l.quotes l.text l.from ≡ string_decoding_changes l.element l.quotes l.text l.start;
   begins : l.start < length l.text → (slice_index l.text l.start == backslash) ≡ true;
-  ahead : IsAhead l.text l.ahead;
+  ahead : IsAhead (λ byte. byte == backslash) l.text l.ahead;
 }
 
 abbrev pub decreases-seeking : goal.decreases-seeking
