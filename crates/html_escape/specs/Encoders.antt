@@ -1,5 +1,5 @@
 -- What each encoder writes for a text, and where it changes it.
-use Rattle.std.specs.Prelude.{◌≡◌, ⊤, ℕ, Bool, false, List}
+use Rattle.std.specs.Prelude.{◌≡◌, ℕ, Bool, false, List}
 use Rattle.std.specs.Str.{IsUtf8}
 use Rattle.hesc_specs.specs.Bodies.Encoding.{body_encoding}
 use Rattle.hesc_specs.specs.Bodies.Changes.{body_encoding_changes}
@@ -34,12 +34,6 @@ encoded ScriptQuoted = string_encoding element.Script quotes.Both
 encoded StyleSingleQuoted = string_encoding element.Style quotes.Single
 encoded StyleDoubleQuoted = string_encoding element.Style quotes.Double
 encoded StyleQuoted = string_encoding element.Style quotes.Both
-
--- the encoder is that of a body
-abbrev pub IsBodyEncoder : Encoder → Type 0
-IsBodyEncoder Script = ⊤
-IsBodyEncoder Style = ⊤
-IsBodyEncoder other = ⊥
 
 -- an encoder's changes of a source from a place on
 abbrev pub encoder_changes : Encoder → List ℕ → ℕ → List Change

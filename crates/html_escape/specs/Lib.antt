@@ -1,4 +1,5 @@
 pub mod Encoders
+pub mod Replaced
 pub mod Decoders
 pub mod Operations
 pub mod Held

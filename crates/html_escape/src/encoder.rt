@@ -1,20 +1,18 @@
 //! The encoders by name.
 ghost use Rattle.std.specs.Prelude.{◌≡◌, ℕ, List, [], IfNone, IfSome};
 ghost use Rattle.std.specs.Str.{IsCharBoundary};
-ghost use Rattle.hesc_specs.specs.Text.Classes.{in_class};
-ghost use Rattle.hesc_specs.specs.Text.Escaped.{escape_changes, escaped};
 ghost use Rattle.hesc_engine.specs.Ahead.{IsAhead};
 ghost use Rattle.hesc_engine.specs.Next.{IsNext};
 ghost use Rattle.html_escape.specs.Encoders.{
-  IsBodyEncoder,
   applied-encoder_changes,
   encoded,
   encoder_changes,
   encoder_sought,
 };
+ghost use Rattle.html_escape.specs.Replaced.{replaced_changes, replaced_sought, replaced_text};
 
 use hesc_core::rules::escape::next_escape_ahead;
-use hesc_core::rules::{Escape, next_body_escape, next_escape};
+use hesc_core::rules::{Escape, next_body_escape};
 use hesc_core::{Class, Element, Found, Rule};
 use hesc_engine::ahead::Ahead;
 use hesc_scan::length::{body_bound, longest_body};
@@ -71,52 +69,59 @@ impl Rule for Encoder {
 
     // That of the rule that the name stands for.
     fn total(&self, text: &str) -> Option<usize> {
-        match class_of(*self) {
-            Some(class) => Escape(class).total(text),
-            None => self.total_by_changes(text),
+        match replaced_by(*self) {
+            Replaced::Characters(class) => Escape(class).total(text),
+            Replaced::Openings(_) => self.total_by_changes(text),
         }
     }
 
     fn bound(&self, text: &str) -> Option<usize> {
-        match class_of(*self) {
-            Some(class) => Escape(class).bound(text),
-            None => body_bound(text.as_bytes()),
+        match replaced_by(*self) {
+            Replaced::Characters(class) => Escape(class).bound(text),
+            Replaced::Openings(_) => body_bound(text.as_bytes()),
         }
     }
 
     fn longest(&self, text: &str) -> Option<usize> {
-        match class_of(*self) {
-            Some(class) => Escape(class).longest(text),
-            None => longest_body(text.as_bytes()),
+        match replaced_by(*self) {
+            Replaced::Characters(class) => Escape(class).longest(text),
+            Replaced::Openings(_) => longest_body(text.as_bytes()),
         }
     }
 
     ghost makes = { applied-encoder_changes };
 }
 
-// The class of an encoder of HTML or of strings; bodies have none.
-fn class_of(encoder: Encoder) -> Option<Class>
-    ensures some { IfSome result (λ class. (text : List ℕ) → encoded encoder text ≡ escaped class text) }
-    ensures changes { IfSome result (λ class. (text : List ℕ) (from : ℕ) →
-        encoder_changes encoder text from ≡ escape_changes class text from) }
-    ensures sought { IfSome result (λ class. encoder_sought encoder ≡ in_class class) }
-    ensures none { IfNone result (IsBodyEncoder encoder) }
+// What an encoder replaces: the characters of a class, or the openings of a body.
+#[derive(Clone, Copy)]
+enum Replaced {
+    Characters(Class),
+    Openings(Element),
+}
+
+// What the encoder replaces.
+fn replaced_by(encoder: Encoder) -> Replaced
+    ensures text { (text : List ℕ) → encoded encoder text ≡ replaced_text result text }
+    ensures changes { (text : List ℕ) (from : ℕ) →
+        encoder_changes encoder text from ≡ replaced_changes result text from }
+    ensures sought { encoder_sought encoder ≡ replaced_sought result }
 {
     match encoder {
-        Encoder::TextMinimal => Some(Class::TextMinimal),
-        Encoder::Text => Some(Class::Text),
-        Encoder::DoubleQuotedAttribute => Some(Class::DoubleQuotedAttribute),
-        Encoder::SingleQuotedAttribute => Some(Class::SingleQuotedAttribute),
-        Encoder::QuotedAttribute => Some(Class::QuotedAttribute),
-        Encoder::Safe => Some(Class::Safe),
-        Encoder::UnquotedAttribute => Some(Class::UnquotedAttribute),
-        Encoder::ScriptSingleQuoted => Some(Class::ScriptSingleQuoted),
-        Encoder::ScriptDoubleQuoted => Some(Class::ScriptDoubleQuoted),
-        Encoder::ScriptQuoted => Some(Class::ScriptQuoted),
-        Encoder::StyleSingleQuoted => Some(Class::StyleSingleQuoted),
-        Encoder::StyleDoubleQuoted => Some(Class::StyleDoubleQuoted),
-        Encoder::StyleQuoted => Some(Class::StyleQuoted),
-        Encoder::Script | Encoder::Style => None,
+        Encoder::TextMinimal => Replaced::Characters(Class::TextMinimal),
+        Encoder::Text => Replaced::Characters(Class::Text),
+        Encoder::DoubleQuotedAttribute => Replaced::Characters(Class::DoubleQuotedAttribute),
+        Encoder::SingleQuotedAttribute => Replaced::Characters(Class::SingleQuotedAttribute),
+        Encoder::QuotedAttribute => Replaced::Characters(Class::QuotedAttribute),
+        Encoder::Safe => Replaced::Characters(Class::Safe),
+        Encoder::UnquotedAttribute => Replaced::Characters(Class::UnquotedAttribute),
+        Encoder::Script => Replaced::Openings(Element::Script),
+        Encoder::Style => Replaced::Openings(Element::Style),
+        Encoder::ScriptSingleQuoted => Replaced::Characters(Class::ScriptSingleQuoted),
+        Encoder::ScriptDoubleQuoted => Replaced::Characters(Class::ScriptDoubleQuoted),
+        Encoder::ScriptQuoted => Replaced::Characters(Class::ScriptQuoted),
+        Encoder::StyleSingleQuoted => Replaced::Characters(Class::StyleSingleQuoted),
+        Encoder::StyleDoubleQuoted => Replaced::Characters(Class::StyleDoubleQuoted),
+        Encoder::StyleQuoted => Replaced::Characters(Class::StyleQuoted),
     }
 }
 
@@ -128,23 +133,8 @@ pub fn next_encoded(encoder: Encoder, text: &str, from: usize) -> Option<Found<'
     ensures none { IfNone result (encoder_changes encoder text.now from ≡ []) }
     ensures found { IfSome result (IsNext text.now from (encoder_changes encoder text.now)) }
 {
-    match encoder {
-        Encoder::TextMinimal => next_escape(Class::TextMinimal, text, from),
-        Encoder::Text => next_escape(Class::Text, text, from),
-        Encoder::DoubleQuotedAttribute => next_escape(Class::DoubleQuotedAttribute, text, from),
-        Encoder::SingleQuotedAttribute => next_escape(Class::SingleQuotedAttribute, text, from),
-        Encoder::QuotedAttribute => next_escape(Class::QuotedAttribute, text, from),
-        Encoder::Safe => next_escape(Class::Safe, text, from),
-        Encoder::UnquotedAttribute => next_escape(Class::UnquotedAttribute, text, from),
-        Encoder::Script => next_body_escape(Element::Script, text, from),
-        Encoder::Style => next_body_escape(Element::Style, text, from),
-        Encoder::ScriptSingleQuoted => next_escape(Class::ScriptSingleQuoted, text, from),
-        Encoder::ScriptDoubleQuoted => next_escape(Class::ScriptDoubleQuoted, text, from),
-        Encoder::ScriptQuoted => next_escape(Class::ScriptQuoted, text, from),
-        Encoder::StyleSingleQuoted => next_escape(Class::StyleSingleQuoted, text, from),
-        Encoder::StyleDoubleQuoted => next_escape(Class::StyleDoubleQuoted, text, from),
-        Encoder::StyleQuoted => next_escape(Class::StyleQuoted, text, from),
-    }
+    let mut ahead = Ahead::nothing(text);
+    next_encoded_ahead(encoder, text, from, &mut ahead)
 }
 
 /// The same, by what is known of the bytes ahead, which stays true.
@@ -160,8 +150,8 @@ fn next_encoded_ahead(
     ensures found { IfSome result (IsNext text.now from (encoder_changes encoder text.now)) }
     ensures ahead { IsAhead (encoder_sought encoder) text.now ahead.new }
 {
-    match class_of(encoder) {
-        Some(class) => next_escape_ahead(class, text, from, ahead),
-        None => next_encoded(encoder, text, from),
+    match replaced_by(encoder) {
+        Replaced::Characters(class) => next_escape_ahead(class, text, from, ahead),
+        Replaced::Openings(element) => next_body_escape(element, text, from),
     }
 }
