@@ -1,6 +1,6 @@
 //! What is known of the bytes ahead: at which of them a rule that looks for certain bytes may change
 //! something.
-ghost use Rattle.std.specs.Prelude.{◌≡◌, ◌≤◌, ℕ, Bool, length};
+ghost use Rattle.std.specs.Prelude.{ℕ, Bool};
 ghost use Rattle.hesc_engine.specs.Ahead.{IsAhead};
 
 /// The mask of the bytes from `start` on, 32 of them or as many as the text has: bit `k` of `hits`

@@ -1,5 +1,6 @@
 -- What each decoder reads from a text, and where it changes it.
-use Rattle.std.specs.Prelude.{◌≡◌, ◌==◌, ℕ, Bool, List}
+use Rattle.std.specs.Prelude.{◌≡◌, ℕ, Bool, false, List}
+use Rattle.memchr.specs.Find.{is_byte}
 use Rattle.hesc_specs.specs.Bodies.Encoding.{body_decoding}
 use Rattle.hesc_specs.specs.Bodies.Changes.{body_decoding_changes}
 use Rattle.hesc_specs.specs.Text.Ascii.{ampersand, backslash}
@@ -43,8 +44,14 @@ decoder_changes StyleQuoted = string_decoding_changes element.Style quotes.Both
 
 -- the bytes that a decoder looks for by masks
 abbrev pub decoder_sought : Decoder → ℕ → Bool
-decoder_sought HtmlEntities = λ byte. byte == ampersand
-decoder_sought other = λ byte. byte == backslash
+decoder_sought HtmlEntities = is_byte ampersand
+decoder_sought ScriptSingleQuoted = is_byte backslash
+decoder_sought ScriptDoubleQuoted = is_byte backslash
+decoder_sought ScriptQuoted = is_byte backslash
+decoder_sought StyleSingleQuoted = is_byte backslash
+decoder_sought StyleDoubleQuoted = is_byte backslash
+decoder_sought StyleQuoted = is_byte backslash
+decoder_sought other = λ byte. false
 
 -- a decoder's changes, made, are what it reads
 pub applied-decoder_changes : (decoder : Decoder) (source : List ℕ) → applied source 0 (decoder_changes decoder source 0) ≡ decoder_text decoder source

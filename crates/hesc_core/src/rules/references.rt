@@ -1,10 +1,11 @@
 //! Decoding by a table: each reference that has a value becomes it.
-ghost use Rattle.std.specs.Prelude.{◌≡◌, ◌==◌, [], IfNone, IfSome};
+ghost use Rattle.std.specs.Prelude.{◌≡◌, [], IfNone, IfSome};
 ghost use Rattle.std.specs.Str.{IsCharBoundary};
 ghost use Rattle.hesc_specs.specs.Text.Ascii.{ampersand};
 ghost use Rattle.hesc_specs.specs.References.Changes.{reference_changes};
 ghost use Rattle.hesc_specs.specs.References.Decoding.{decoded};
 ghost use Rattle.hesc_specs.proofs.References.Applied.{applied-reference_changes};
+ghost use Rattle.memchr.specs.Find.{is_byte};
 ghost use Rattle.hesc_engine.specs.Ahead.{IsAhead};
 ghost use Rattle.hesc_engine.specs.Next.{IsNext};
 ghost use Rattle.hesc_table.specs.Table.{rows_of};
@@ -29,7 +30,7 @@ impl Rule for References<'_> {
 
     ghost made = { λ rule. decoded (rows_of rule.0.now) };
 
-    ghost is_sought = { λ rule byte. byte == ampersand };
+    ghost is_sought = { λ rule. is_byte ampersand };
 
     #[inline(always)]
     fn next(&self, text: &str, from: usize) -> Option<Found<'_>> {
@@ -82,11 +83,11 @@ pub fn next_references_ahead<'a>(
     ahead: &mut Ahead,
 ) -> Option<Found<'a>>
     requires boundary { IsCharBoundary text.now from }
-    requires ahead { IsAhead (λ byte. byte == ampersand) text.now ahead.old }
+    requires ahead { IsAhead (is_byte ampersand) text.now ahead.old }
     ensures none { IfNone result (reference_changes (rows_of table.now) text.now from ≡ []) }
     ensures found { IfSome result
         (IsNext text.now from (reference_changes (rows_of table.now) text.now)) }
-    ensures ahead { IsAhead (λ byte. byte == ampersand) text.now ahead.new }
+    ensures ahead { IsAhead (is_byte ampersand) text.now ahead.new }
 {
     let bytes = text.as_bytes();
     let mut start = next_hit_or_end(Sought::Byte(b'&'), text, from, ahead);

@@ -1,9 +1,10 @@
 //! Unescaping by a class: in an encoded string each escape becomes the character that it stands for.
-ghost use Rattle.std.specs.Prelude.{◌≡◌, ◌==◌, [], IfNone, IfSome};
+ghost use Rattle.std.specs.Prelude.{◌≡◌, [], IfNone, IfSome};
 ghost use Rattle.std.specs.Str.{IsCharBoundary};
 ghost use Rattle.hesc_specs.specs.Text.Ascii.{backslash};
 ghost use Rattle.hesc_specs.specs.Text.Escaped.{unescape_changes, unescaped};
 ghost use Rattle.hesc_specs.proofs.Text.UnescapeChanges.{applied-unescape_changes};
+ghost use Rattle.memchr.specs.Find.{is_byte};
 ghost use Rattle.hesc_engine.specs.Ahead.{IsAhead};
 ghost use Rattle.hesc_engine.specs.Next.{IsNext};
 
@@ -23,7 +24,7 @@ impl Rule for Unescape {
 
     ghost made = { λ rule. unescaped rule.0 };
 
-    ghost is_sought = { λ rule byte. byte == backslash };
+    ghost is_sought = { λ rule. is_byte backslash };
 
     #[inline(always)]
     fn next(&self, text: &str, from: usize) -> Option<Found<'_>> {
@@ -70,10 +71,10 @@ pub fn next_unescape_ahead(
     ahead: &mut Ahead,
 ) -> Option<Found<'static>>
     requires boundary { IsCharBoundary text.now from }
-    requires ahead { IsAhead (λ byte. byte == backslash) text.now ahead.old }
+    requires ahead { IsAhead (is_byte backslash) text.now ahead.old }
     ensures none { IfNone result (unescape_changes class text.now from ≡ []) }
     ensures found { IfSome result (IsNext text.now from (unescape_changes class text.now)) }
-    ensures ahead { IsAhead (λ byte. byte == backslash) text.now ahead.new }
+    ensures ahead { IsAhead (is_byte backslash) text.now ahead.new }
 {
     match string_class(class) {
         Some((element, quotes)) => next_string_unescape_ahead(element, quotes, text, from, ahead),

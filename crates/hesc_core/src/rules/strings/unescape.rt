@@ -1,10 +1,11 @@
 //! Unescaping of strings: in an encoded string each escape becomes the character that it stands for.
-ghost use Rattle.std.specs.Prelude.{◌≡◌, ◌==◌, [], IfNone, IfSome, encode_utf8};
+ghost use Rattle.std.specs.Prelude.{◌≡◌, [], IfNone, IfSome, encode_utf8};
 ghost use Rattle.std.specs.Str.{IsCharBoundary};
 ghost use Rattle.hesc_specs.specs.Text.Ascii.{backslash};
 ghost use Rattle.hesc_specs.specs.Strings.Changes.{string_decoding_changes};
 ghost use Rattle.hesc_specs.specs.Strings.Tokens.{string_decoding};
 ghost use Rattle.hesc_specs.proofs.Strings.DecodingChanges.{applied-string_decoding_changes};
+ghost use Rattle.memchr.specs.Find.{is_byte};
 ghost use Rattle.hesc_engine.specs.Ahead.{IsAhead};
 ghost use Rattle.hesc_engine.specs.Next.{IsNext};
 ghost use Rattle.hesc_engine.specs.Text.{replacement_bytes};
@@ -29,7 +30,7 @@ impl Rule for StringUnescape {
 
     ghost made = { λ rule. string_decoding rule.0 rule.1 };
 
-    ghost is_sought = { λ rule byte. byte == backslash };
+    ghost is_sought = { λ rule. is_byte backslash };
 
     #[inline(always)]
     fn next(&self, text: &str, from: usize) -> Option<Found<'_>> {
@@ -80,11 +81,11 @@ pub(crate) fn next_string_unescape_ahead(
     ahead: &mut Ahead,
 ) -> Option<Found<'static>>
     requires boundary { IsCharBoundary text.now from }
-    requires ahead { IsAhead (λ byte. byte == backslash) text.now ahead.old }
+    requires ahead { IsAhead (is_byte backslash) text.now ahead.old }
     ensures none { IfNone result (string_decoding_changes element quotes text.now from ≡ []) }
     ensures found { IfSome result (IsNext text.now from
         (string_decoding_changes element quotes text.now)) }
-    ensures ahead { IsAhead (λ byte. byte == backslash) text.now ahead.new }
+    ensures ahead { IsAhead (is_byte backslash) text.now ahead.new }
 {
     let bytes = text.as_bytes();
     let mut start = next_hit_or_end(Sought::Byte(b'\\'), text, from, ahead);

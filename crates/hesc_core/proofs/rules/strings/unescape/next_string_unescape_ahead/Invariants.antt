@@ -1,4 +1,5 @@
 use Rattle.std.proofs.Common.{◌≡◌, ◌≤◌, ◌<◌, ◌-◌, ◌==◌, true, length, slice_index}
+use Rattle.memchr.specs.Find.{is_byte}
 use Rattle.hesc_specs.specs.Text.Ascii.{backslash}
 use Rattle.hesc_specs.specs.Strings.Changes.{string_decoding_changes}
 use Rattle.hesc_engine.specs.Ahead.{IsAhead}
@@ -11,7 +12,7 @@ invariant-seeking l = record {
   within : l.start ≤ length l.text;
   same : string_decoding_changes l.element l.quotes l.text l.from ≡ string_decoding_changes l.element l.quotes l.text l.start;
   begins : l.start < length l.text → (slice_index l.text l.start == backslash) ≡ true;
-  ahead : IsAhead (λ byte. byte == backslash) l.text l.ahead;
+  ahead : IsAhead (is_byte backslash) l.text l.ahead;
 }
 
 abbrev pub decreases-seeking : goal.decreases-seeking
