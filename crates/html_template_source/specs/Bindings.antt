@@ -2,7 +2,7 @@
 use Rattle.std.specs.Prelude.{◌≡◌, ⊤, ℕ, ◌+◌, Bool, List, [], ◌∷◌, Option, Some, None, Result, Ok, Err, bytes_eq, if◌then◌else◌, map, not}
 use Rattle.std.specs.Borrow.{Bor}
 use Rattle.std.specs.List.{list_any}
-use Rattle.std.specs.Option.{unwrap_or, is_some}
+use Rattle.std.specs.Option.{unwrap_or, is_some, option_or}
 use Rattle.html_template.specs.FillFaults.{fill_fault}
 use Rattle.html_template.specs.Templates.{Chunk}
 use Rattle.html_template.specs.declared.faults.FillFault.{FillFault}
@@ -43,10 +43,6 @@ missing_fault number bindings [] = None
 missing_fault number bindings (name ∷ names) =
     if is_some (bound bindings name) then missing_fault (number + 1) bindings names else Some (Missing number)
 
-abbrev pub or_else : Option BindFault → Option BindFault → Option BindFault
-or_else None other = other
-or_else (Some fault) other = Some fault
-
 abbrev pub filled : Option FillFault → Option BindFault
 filled None = None
 filled (Some fault) = Some (Fill fault)
@@ -54,8 +50,8 @@ filled (Some fault) = Some (Fill fault)
 -- the first fault: of the bindings, of the slots, and of the texts
 abbrev pub bind_fault : List Binding → List (List ℕ) → List Chunk → Option BindFault
 bind_fault bindings names chunks =
-    or_else (binding_fault 0 names bindings)
-    (or_else (missing_fault 0 bindings names) (filled (fill_fault 0 chunks (map (text_of bindings) names))))
+    option_or (binding_fault 0 names bindings)
+    (option_or (missing_fault 0 bindings names) (filled (fill_fault 0 chunks (map (text_of bindings) names))))
 
 -- the first fault is answered, and where there is none no other one but Memory; memory may run out before
 abbrev pub AnswersBind : {T : Type 0} → Option BindFault → Result T BindFault → Type 0

@@ -11,7 +11,7 @@ use Rattle.hesc_specs.specs.Text.Ascii.{slash, less_than}
 use Rattle.hesc_specs.specs.Bodies.Encoding.{body_encoding}
 use Rattle.hesc_specs.specs.Text.Elements.{element_name}
 use Rattle.hesc_specs.specs.Bodies.Openings.{ends_name, completes_opening, is_opening}
-use Rattle.hesc_specs.specs.Bodies.Sessions.{is_partial, partial_end, decided_encoding, IsStep, IsTextStep, IsSession, IsTextSession}
+use Rattle.hesc_specs.specs.Bodies.Sessions.{is_partial, partial_end, decided_encoding, IsStep, IsSession, IsTextSession}
 use Rattle.hesc_specs.specs.Text.Words.{begins_in_any_case, is_beginning_in_any_case}
 use Rattle.hesc_specs.specs.declared.elements.Element.{Element}
 use Rattle.hesc_specs.proofs.Bodies.Openings.{passes, completes_opening-words}

@@ -1,6 +1,7 @@
 -- What holds of rows that have no fault: their names ascend, and the common names have their values.
 use Rattle.std.proofs.Common.{ℕ, zero, suc, ◌≡◌, ◌≢◌, ◌+◌, ◌-◌, ◌<◌, Bool, true, false, ◌&&◌, not, List, [], ◌∷◌, Option, Some, None, Ordering, Less, Equal, Greater, ◌==◌, length, nat_le, is_none, if◌then◌else◌, refl, ap, sym, ⊎_elim, arith}
 use Rattle.std.specs.Cmp.Lexicographic.{slice_cmp}
+use Rattle.std.specs.Option.{option_or}
 use Rattle.std.specs.Ordering.{is_lt, nat_cmp}
 use Rattle.std.specs.Str.{bytes_eq}
 use Rattle.std.proofs.lemmas.Bool.{cases_Bool, cases_eq}
@@ -8,7 +9,7 @@ use Rattle.std.proofs.lemmas.Bool.Decides.{nat_tests}
 use Rattle.std.proofs.lemmas.Cmp.{nat_list_cmp_total}
 use Rattle.std.proofs.lemmas.Slice.Eq.{bytes_eq-Decides}
 use Rattle.hesc_specs.specs.References.Rows.{Row, row_at, value_of, common_rows}
-use Rattle.hesc_specs.specs.References.TableFaults.{is_alphanumeric, is_ascending, is_wrong_common, row_fault, or_else, faults_below, missing_below, first_fault, is_table}
+use Rattle.hesc_specs.specs.References.TableFaults.{is_alphanumeric, is_ascending, is_wrong_common, row_fault, faults_below, missing_below, first_fault, is_table}
 use Rattle.hesc_specs.specs.declared.table_fault.TableFault.{TableFault}
 use Rattle.hesc_specs.specs.declared.table_fault.TableFault.TheVariants.{EmptyName, BadName, NotAscending, WrongCommon, MissingCommon}
 
@@ -16,21 +17,21 @@ is_none-None : {A : Type 0} (found : Option A) → is_none found ≡ true → fo
 is_none-None None h = refl
 is_none-None (Some x) h = absurd (cc)
 
-or_else-first : (a b : Option TableFault) → or_else a b ≡ None → a ≡ None
-or_else-first None b h = refl
-or_else-first (Some fault) b h = absurd (cc)
+option_or-first : (a b : Option TableFault) → option_or a b ≡ None → a ≡ None
+option_or-first None b h = refl
+option_or-first (Some fault) b h = absurd (cc)
 
-or_else-second : (a b : Option TableFault) → or_else a b ≡ None → b ≡ None
-or_else-second None b h = h
-or_else-second (Some fault) b h = absurd (cc)
+option_or-second : (a b : Option TableFault) → option_or a b ≡ None → b ≡ None
+option_or-second None b h = h
+option_or-second (Some fault) b h = absurd (cc)
 
 -- a row among the first that have no fault has none
 row_among : (rows : List Row) (n i : ℕ) → faults_below rows n ≡ None → i < n → row_fault rows i ≡ None
 row_among rows zero i h below = absurd (omega arith)
 row_among rows (suc n) i h below =
     ⊎_elim
-    (λ (last : i ≡ n). rw last (or_else-second (faults_below rows n) (row_fault rows n) h))
-    (λ (other : i ≢ n). row_among rows n i (or_else-first (faults_below rows n) (row_fault rows n) h) (omega arith))
+    (λ (last : i ≡ n). rw last (option_or-second (faults_below rows n) (row_fault rows n) h))
+    (λ (other : i ≢ n). row_among rows n i (option_or-first (faults_below rows n) (row_fault rows n) h) (omega arith))
     (cases_eq i n)
 
 -- the fault of a row after faultless ones is the first, whatever comes later
@@ -55,8 +56,8 @@ name_among : (rows : List Row) (n k : ℕ) → missing_below rows n ≡ None →
 name_among rows zero k h below = absurd (omega arith)
 name_among rows (suc n) k h below =
     ⊎_elim
-    (λ (last : k ≡ n). rw last (missing_here (value_of rows (row_at common_rows n).0) n (or_else-second (missing_below rows n) _ h)))
-    (λ (other : k ≢ n). name_among rows n k (or_else-first (missing_below rows n) _ h) (omega arith))
+    (λ (last : k ≡ n). rw last (missing_here (value_of rows (row_at common_rows n).0) n (option_or-second (missing_below rows n) _ h)))
+    (λ (other : k ≢ n). name_among rows n k (option_or-first (missing_below rows n) _ h) (omega arith))
     (cases_eq k n)
 
 -- a row that has none of the four faults
@@ -124,7 +125,7 @@ module _ (rows : List Row) (good : is_table rows ≡ true) where
   no_fault = is_none-None (first_fault rows) good
 
   each_faultless : (i : ℕ) → i < length rows → Faultless rows i
-  each_faultless i within = faultless rows i (row_among rows (length rows) i (or_else-first (faults_below rows (length rows)) _ no_fault) within)
+  each_faultless i within = faultless rows i (row_among rows (length rows) i (option_or-first (faults_below rows (length rows)) _ no_fault) within)
 
   -- a name is below that of the next row
   next_ascends : (i : ℕ) → i + 1 < length rows → slice_cmp nat_cmp (row_at rows i).0 (row_at rows (i + 1)).0 ≡ Less
@@ -160,5 +161,5 @@ module _ (rows : List Row) (good : is_table rows ≡ true) where
   pub common_value : (k : ℕ) (name value : List ℕ) → k < length common_rows → (row_at common_rows k).0 ≡ name → value_of common_rows name ≡ Some value → value_of rows name ≡ Some value
   common_value k name value below is_name is_common =
       let there : is_none (value_of rows name) ≡ false =
-      rw is_name at (name_among rows (length common_rows) k (or_else-second (faults_below rows (length rows)) (missing_below rows (length common_rows)) no_fault) below) in
+      rw is_name at (name_among rows (length common_rows) k (option_or-second (faults_below rows (length rows)) (missing_below rows (length common_rows)) no_fault) below) in
       found_is_common name value (value_of rows name) is_common refl there

@@ -2,13 +2,14 @@
 use Rattle.std.proofs.Common.{◌≡◌, ℕ, ◌+◌, ◌-◌, ◌≤◌, ◌<◌, Bool, true, false, ◌&&◌, ◌||◌, List, [], ◌∷◌, ◌++◌, ◌==◌, Some, None, length, drop, codes, refl, ap, arith, if◌then◌else◌}
 use Rattle.std.specs.Prelude.{encode_utf8, slice_index}
 use Rattle.std.specs.Char.{to_ascii_lowercase}
+use Rattle.std.specs.Option.{option_or}
 use Rattle.std.proofs.lemmas.Bool.{and_parts, eqb-true}
 use Rattle.std.proofs.lemmas.Bool.Decides.{nat_tests}
 use Rattle.std.proofs.lemmas.Str.{encode_ascii}
 use Rattle.hesc_specs.specs.Text.Ascii.{space, slash, backslash, lower_x}
 use Rattle.hesc_specs.specs.Text.Elements.{element_name}
 use Rattle.hesc_specs.specs.Strings.Encoding.{is_quote, line_separator, paragraph_separator}
-use Rattle.hesc_specs.specs.Strings.Tokens.{Escape, or_else, when, mark_escape, is_upper_hex, is_pair, pair_value, number_escape, separator_escape, ends_name_within, opening_escape, escape}
+use Rattle.hesc_specs.specs.Strings.Tokens.{Escape, when, mark_escape, is_upper_hex, is_pair, pair_value, number_escape, separator_escape, ends_name_within, opening_escape, escape}
 use Rattle.hesc_specs.specs.Text.Words.{begins, begins_in_any_case}
 use Rattle.hesc_specs.specs.declared.elements.Element.{Element}
 use Rattle.hesc_specs.specs.declared.elements.Element.TheVariants.{Script, Style}
@@ -30,9 +31,9 @@ Ends bytes found = (more character : ℕ) → found ≡ Some (more, character) �
 ends-none : (bytes : List ℕ) → Ends bytes None
 ends-none bytes more character is = cc
 
-ends-or_else : (bytes : List ℕ) (one other : Escape) → Ends bytes one → Ends bytes other → Ends bytes (or_else one other)
-ends-or_else bytes None other first second = second
-ends-or_else bytes (Some e) other first second = first
+ends-option_or : (bytes : List ℕ) (one other : Escape) → Ends bytes one → Ends bytes other → Ends bytes (option_or one other)
+ends-option_or bytes None other first second = second
+ends-option_or bytes (Some e) other first second = first
 
 ends-when : (bytes : List ℕ) (holds : Bool) (more character : ℕ) → (holds ≡ true → EndsWithin bytes more character) → Ends bytes (when holds more character)
 ends-when bytes true more character ends more' character' is =
@@ -83,7 +84,7 @@ begins-splits (w ∷ word) (b ∷ bytes) is =
     rw (eqb-true b w parts.0) (ap (λ rest. w ∷ rest) (begins-splits word bytes parts.1))
 
 ends-separator : (element : Element) (bytes : List ℕ) → Ends bytes (separator_escape element bytes)
-ends-separator Script bytes = ends-or_else bytes (when (begins (codes "u2028") bytes) 5 line_separator) (when (begins (codes "u2029") bytes) 5 paragraph_separator)
+ends-separator Script bytes = ends-option_or bytes (when (begins (codes "u2028") bytes) 5 line_separator) (when (begins (codes "u2029") bytes) 5 paragraph_separator)
     (ends-when bytes (begins (codes "u2028") bytes) 5 line_separator (λ is. rw (begins-splits (codes "u2028") bytes is) (record { some = omega arith; within = omega arith; ascii = omega arith; short = rw encode-line_separator (omega arith) })))
     (ends-when bytes (begins (codes "u2029") bytes) 5 paragraph_separator (λ is. rw (begins-splits (codes "u2029") bytes is) (record { some = omega arith; within = omega arith; ascii = omega arith; short = rw encode-paragraph_separator (omega arith) })))
 ends-separator Style bytes = ends-none bytes
@@ -98,7 +99,7 @@ first-slash word (b ∷ bytes) is =
     record { some = omega arith; within = omega arith; ascii = first; short = ascii-short slash 1 (omega arith) }
 
 ends-opening : (element : Element) (bytes : List ℕ) → Ends bytes (opening_escape element bytes)
-ends-opening element bytes = ends-or_else bytes (when (begins (codes "!--") bytes) 1 33) (when (begins_in_any_case (slash ∷ element_name element) ends_name_within bytes) 1 slash)
+ends-opening element bytes = ends-option_or bytes (when (begins (codes "!--") bytes) 1 33) (when (begins_in_any_case (slash ∷ element_name element) ends_name_within bytes) 1 slash)
     (ends-when bytes (begins (codes "!--") bytes) 1 33 (λ is. rw (begins-splits (codes "!--") bytes is) (record { some = omega arith; within = omega arith; ascii = omega arith; short = ascii-short 33 1 (omega arith) })))
     (ends-when bytes (begins_in_any_case (slash ∷ element_name element) ends_name_within bytes) 1 slash (first-slash (element_name element) bytes))
 
@@ -109,9 +110,9 @@ ends-after_less element false bytes = ends-none bytes
 pub escape-ends : (element : Element) (quotes : Quotes) (after_less : Bool) (bytes : List ℕ) (more character : ℕ)
     → escape element quotes after_less bytes ≡ Some (more, character) → EndsWithin bytes more character
 escape-ends element quotes after_less bytes =
-    ends-or_else bytes (mark_escape quotes bytes) (or_else (number_escape element bytes) (or_else (separator_escape element bytes) (if after_less then opening_escape element bytes else None)))
+    ends-option_or bytes (mark_escape quotes bytes) (option_or (number_escape element bytes) (option_or (separator_escape element bytes) (if after_less then opening_escape element bytes else None)))
     (ends-mark quotes bytes)
-    (ends-or_else bytes (number_escape element bytes) (or_else (separator_escape element bytes) (if after_less then opening_escape element bytes else None))
+    (ends-option_or bytes (number_escape element bytes) (option_or (separator_escape element bytes) (if after_less then opening_escape element bytes else None))
     (ends-number element bytes)
-    (ends-or_else bytes (separator_escape element bytes) (if after_less then opening_escape element bytes else None)
+    (ends-option_or bytes (separator_escape element bytes) (if after_less then opening_escape element bytes else None)
     (ends-separator element bytes) (ends-after_less element after_less bytes)))

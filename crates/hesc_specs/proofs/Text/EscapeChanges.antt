@@ -1,7 +1,7 @@
 -- The changes of the encoder of a class, made, are what it writes.
 use Rattle.std.proofs.Common.{◌≡◌, ℕ, List, Option, Some, None, IsUtf8, refl, ap}
 use Rattle.hesc_specs.specs.Text.Changes.{applied, html_changes}
-use Rattle.hesc_specs.specs.Text.Classes.{element_in, element_of, string_class, IsHtml}
+use Rattle.hesc_specs.specs.Text.Classes.{element_in, element_of, string_class}
 use Rattle.hesc_specs.specs.Text.Escaped.{by_class, escape_changes, escaped}
 use Rattle.hesc_specs.specs.Html.{encoding}
 use Rattle.hesc_specs.specs.Strings.Changes.{string_encoding_changes}

@@ -3,6 +3,7 @@ use Rattle.std.specs.Prelude.{ℕ, zero, suc, ◌-◌, Bool, false, not, ◌&&�
 use Rattle.std.specs.Char.{is_ascii_alphanumeric}
 use Rattle.std.specs.Cmp.Lexicographic.{slice_cmp}
 use Rattle.std.specs.List.{list_all}
+use Rattle.std.specs.Option.{option_or}
 use Rattle.std.specs.Ordering.{is_lt, nat_cmp}
 use Rattle.std.specs.Str.{bytes_eq}
 use Rattle.hesc_specs.specs.References.Rows.{Row, row_at, value_of, common_rows}
@@ -35,25 +36,21 @@ row_fault rows i =
     else (if is_wrong_common (row_at rows i) then Some (WrongCommon i)
     else None)))
 
-abbrev pub or_else : Option TableFault → Option TableFault → Option TableFault
-or_else None later = later
-or_else (Some fault) later = Some fault
-
 -- the first fault of the first n rows
 abbrev pub faults_below : List Row → ℕ → Option TableFault
 faults_below rows zero = None
-faults_below rows (suc n) = or_else (faults_below rows n) (row_fault rows n)
+faults_below rows (suc n) = option_or (faults_below rows n) (row_fault rows n)
 
 -- the first of the first n common names that no row has
 abbrev pub missing_below : List Row → ℕ → Option TableFault
 missing_below rows zero = None
 missing_below rows (suc n) =
-    or_else (missing_below rows n)
+    option_or (missing_below rows n)
     (if is_none (value_of rows (row_at common_rows n).0) then Some (MissingCommon n) else None)
 
 -- the first fault of the rows, in their order, and after them the first missing name
 abbrev pub first_fault : List Row → Option TableFault
-first_fault rows = or_else (faults_below rows (length rows)) (missing_below rows (length common_rows))
+first_fault rows = option_or (faults_below rows (length rows)) (missing_below rows (length common_rows))
 
 -- the rows have no fault
 abbrev pub is_table : List Row → Bool

@@ -1,5 +1,6 @@
 -- The tokens of an encoded string, and what a string decoder reads from them. A token is an escape at its place in the source, or one byte.
 use Rattle.std.specs.Prelude.{ℕ, zero, suc, ◌+◌, ◌-◌, ◌*◌, Bool, true, false, ◌&&◌, ◌||◌, List, [], ◌∷◌, ◌++◌, Option, Some, None, nat_lt, nat_le, ◌==◌, if◌then◌else◌, codes, encode_utf8}
+use Rattle.std.specs.Option.{option_or}
 use Rattle.hesc_specs.specs.Text.Ascii.{space, slash, less_than, backslash, lower_x}
 use Rattle.hesc_specs.specs.Text.Elements.{element_name}
 use Rattle.hesc_specs.specs.Bodies.Openings.{ends_name}
@@ -13,11 +14,6 @@ use Rattle.hesc_specs.specs.declared.quotes.Quotes.TheVariants.{Single, Double, 
 -- An escape: how many bytes it has after its `\`, and the character that it stands for.
 abbrev pub Escape : Type 0
 Escape = Option (ℕ × ℕ)
-
--- the first of the two that there is
-abbrev pub or_else : Escape → Escape → Escape
-or_else None other = other
-or_else (Some escape) other = Some escape
 
 abbrev pub when : Bool → ℕ → ℕ → Escape
 when holds more character = if holds then Some (more, character) else None
@@ -54,7 +50,7 @@ number_escape Style (a ∷ b ∷ c ∷ bytes) = when (c == space && is_pair 1 a 
 
 -- in a script `\u2028` and `\u2029`
 abbrev pub separator_escape : Element → List ℕ → Escape
-separator_escape Script bytes = or_else (when (begins (codes "u2028") bytes) 5 line_separator) (when (begins (codes "u2029") bytes) 5 paragraph_separator)
+separator_escape Script bytes = option_or (when (begins (codes "u2028") bytes) 5 line_separator) (when (begins (codes "u2029") bytes) 5 paragraph_separator)
 separator_escape Style bytes = None
 
 -- a name ends before the first byte; the end of the text does not count
@@ -65,13 +61,13 @@ ends_name_within (b ∷ bytes) = ends_name (b ∷ bytes)
 -- after a `<` also `\!` before `--`, and `\/` before the element's name in any ASCII case, which ends there
 abbrev pub opening_escape : Element → List ℕ → Escape
 opening_escape element bytes =
-    or_else (when (begins (codes "!--") bytes) 1 33)
+    option_or (when (begins (codes "!--") bytes) 1 33)
     (when (begins_in_any_case (slash ∷ element_name element) ends_name_within bytes) 1 slash)
 
 -- the escape that a `\` before these bytes begins, if any; after_less: the byte of the source right before the `\` is `<`
 abbrev pub escape : Element → Quotes → Bool → List ℕ → Escape
 escape element quotes after_less bytes =
-    or_else (mark_escape quotes bytes) (or_else (number_escape element bytes) (or_else (separator_escape element bytes)
+    option_or (mark_escape quotes bytes) (option_or (number_escape element bytes) (option_or (separator_escape element bytes)
     (if after_less then opening_escape element bytes else None)))
 
 -- the escape that begins with this byte, if any
