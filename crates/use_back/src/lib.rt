@@ -40,19 +40,3 @@ pub fn by_openings(alloc: Global, body: &str) -> Result<String, AllocError>
     laws::repeated_body(BodyKind::Script, body);
     decode_script(alloc, &encoded)?.into_owned(alloc)
 }
-
-#[cfg(test)]
-mod tests {
-    use super::{by_escapes, by_references};
-    use std::test::Fail;
-
-    #[test]
-    fn each_text_comes_back(rt: HostRuntime) -> Result<(), Fail> {
-        let text = "a'b\" </script> & \u{2028}";
-        let back = by_references(rt.alloc(), text)?;
-        assert!(rt; back.as_str() == text);
-        let back = by_escapes(rt.alloc(), text)?;
-        assert!(rt; back.as_str() == text);
-        Ok(())
-    }
-}

@@ -27,18 +27,3 @@ pub fn card(alloc: Global, title: &str, text: &str) -> Result<String, PlaceFault
     card.push_str("</b></figure>")?;
     Ok(card)
 }
-
-#[cfg(test)]
-mod tests {
-    use super::card;
-    use std::test::Fail;
-
-    #[test]
-    fn a_title_stays_in_its_place(rt: HostRuntime) -> Result<(), Fail> {
-        let made = card(rt.alloc(), "\"><script>", "<");
-        assert!(rt;
-            made.as_deref() == Ok("<figure title=\"&quot;&gt;&lt;script&gt;\"><b>&lt;</b></figure>")
-        );
-        Ok(())
-    }
-}

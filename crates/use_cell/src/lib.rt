@@ -20,16 +20,3 @@ pub fn cell(alloc: Global, title: &str, text: &str) -> Result<String, AllocError
     cell.push_str("</td>")?;
     Ok(cell)
 }
-
-#[cfg(test)]
-mod tests {
-    use super::cell;
-    use std::test::Fail;
-
-    #[test]
-    fn no_text_leaves_its_place(rt: HostRuntime) -> Result<(), Fail> {
-        let cell = cell(rt.alloc(), "a \"b\"", "</td>")?;
-        assert!(rt; cell.as_str() == "<td title=\"a &quot;b&quot;\">&lt;/td&gt;</td>");
-        Ok(())
-    }
-}

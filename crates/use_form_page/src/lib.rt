@@ -58,32 +58,3 @@ impl FormTemplate {
         Ok(page)
     }
 }
-
-#[cfg(test)]
-mod tests {
-    use super::{Draft, FormTemplate};
-    use std::test::Fail;
-
-    #[test]
-    fn a_draft_stays_in_its_form(rt: HostRuntime) -> Result<(), Fail> {
-        let draft = Draft {
-            id: "7\"</script>",
-            title: "\" autofocus onfocus=\"",
-            tags: "' a",
-            text: "</textarea>",
-        };
-        let Ok(template) = FormTemplate::new(rt.alloc()) else {
-            assert!(rt; false);
-            return Ok(());
-        };
-        let Ok(page) = template.page(rt.alloc(), draft) else {
-            assert!(rt; false);
-            return Ok(());
-        };
-        assert!(rt;
-            page.as_str()
-                == "<form method=post action=\"/notes/7&quot;&lt;/script&gt;\"><input name=title value=\"&quot; autofocus onfocus=&quot;\"><input name=tags value='&#x27; a'><textarea name=text>\n&lt;/textarea&gt;</textarea></form><script>restore(\"7\\\"\\x3C/script>\");</script>"
-        );
-        Ok(())
-    }
-}

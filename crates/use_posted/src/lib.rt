@@ -35,21 +35,3 @@ pub fn value_text(alloc: Global, source: &str) -> Result<Option<String>, AllocEr
         Err(_) => unreachable!(),
     }
 }
-
-#[cfg(test)]
-mod tests {
-    use super::{posted_script, value_text};
-    use std::test::Fail;
-
-    #[test]
-    fn a_strangers_form_is_read(rt: HostRuntime) -> Result<(), Fail> {
-        let posted = b"<input a=1 /><script>alert('\\x3C\\u0041');</script>rest";
-        let script = posted_script(rt.alloc(), posted.as_slice())?;
-        assert!(rt; script.as_deref() == Some(b"<A".as_slice()));
-        let other = posted_script(rt.alloc(), b"<p>hello</p>")?;
-        assert!(rt; other.as_deref().is_none());
-        let value = value_text(rt.alloc(), "é&lt;\" rest")?;
-        assert!(rt; value.as_deref() == Some("é<"));
-        Ok(())
-    }
-}

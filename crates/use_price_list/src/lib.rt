@@ -92,36 +92,3 @@ fn append_row(page: &mut String, row: &Template, item: Item) -> Result<(), FillF
     row.append(page, &[item.name, item.price])?;
     Ok(())
 }
-
-#[cfg(test)]
-mod tests {
-    use super::{Item, ListTemplates};
-    use std::test::Fail;
-
-    #[test]
-    fn no_text_leaves_its_row(rt: HostRuntime) -> Result<(), Fail> {
-        let items = [
-            Item {
-                name: "</table>",
-                price: "1\">",
-            },
-            Item {
-                name: "tea",
-                price: "2",
-            },
-        ];
-        let Ok(templates) = ListTemplates::new(rt.alloc()) else {
-            assert!(rt; false);
-            return Ok(());
-        };
-        let Ok(page) = templates.page(rt.alloc(), "</title>", &items) else {
-            assert!(rt; false);
-            return Ok(());
-        };
-        assert!(rt;
-            page.as_str()
-                == "<!DOCTYPE html><title>&lt;/title&gt;</title><table><tr><td>&lt;/table&gt;<td data-price=\"1&quot;&gt;\">&#8364;</tr><tr><td>tea<td data-price=\"2\">&#8364;</tr></table>"
-        );
-        Ok(())
-    }
-}

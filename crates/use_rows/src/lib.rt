@@ -39,29 +39,3 @@ pub fn append_row(page: &mut String, row: Row) -> Result<(), AllocError>
     page.push_str("</td></tr>")?;
     Ok(())
 }
-
-#[cfg(test)]
-mod tests {
-    use super::{Row, table};
-    use std::test::Fail;
-
-    #[test]
-    fn each_text_stays_in_its_row(rt: HostRuntime) -> Result<(), Fail> {
-        let rows = [
-            Row {
-                title: "\"a\"",
-                text: "</td>",
-            },
-            Row {
-                title: "",
-                text: "&",
-            },
-        ];
-        let page = table(rt.alloc(), &rows)?;
-        assert!(rt;
-            page.as_str()
-                == "<table><tr title=\"&quot;a&quot;\"><td>&lt;/td&gt;</td></tr><tr title=\"\"><td>&amp;</td></tr></table>"
-        );
-        Ok(())
-    }
-}

@@ -49,24 +49,3 @@ pub fn shown(alloc: Global, query: &str) -> Result<Vec<u8>, PlaceFault>
         None => unreachable!(),
     }
 }
-
-#[cfg(test)]
-mod tests {
-    use super::{search_page, shown};
-    use std::test::Fail;
-
-    #[test]
-    fn a_query_comes_back(rt: HostRuntime) -> Result<(), Fail> {
-        let query = "\"</script>";
-        let page = search_page(rt.alloc(), query);
-        assert!(rt;
-            page.as_deref()
-                == Ok(
-                    "<input value=\"&quot;&lt;/script&gt;\"><script>show(\"\\\"\\x3C/script>\")</script>"
-                )
-        );
-        let shown = shown(rt.alloc(), query);
-        assert!(rt; shown.as_deref() == Ok(query.as_bytes()));
-        Ok(())
-    }
-}

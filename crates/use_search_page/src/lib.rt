@@ -38,26 +38,3 @@ pub fn search_page(alloc: Global, template: &Template, query: &str) -> Result<St
     template.append(&mut page, &[query, query, query, query])?;
     Ok(page)
 }
-
-#[cfg(test)]
-mod tests {
-    use super::{search_page, search_template};
-    use std::test::Fail;
-
-    #[test]
-    fn no_query_leaves_its_place(rt: HostRuntime) -> Result<(), Fail> {
-        let Ok(template) = search_template(rt.alloc()) else {
-            assert!(rt; false);
-            return Ok(());
-        };
-        let Ok(page) = search_page(rt.alloc(), &template, "'\"</title></script>") else {
-            assert!(rt; false);
-            return Ok(());
-        };
-        assert!(rt;
-            page.as_str()
-                == "<!DOCTYPE html><title>'\"&lt;/title&gt;&lt;/script&gt;</title><form action=/search><input name=q value=\"'&quot;&lt;/title&gt;&lt;/script&gt;\"></form><script>log('\\'\"\\x3C/title>\\x3C/script>');</script><p>Nothing was found for '\"&lt;/title&gt;&lt;/script&gt;.</p>"
-        );
-        Ok(())
-    }
-}

@@ -36,16 +36,3 @@ pub fn decode<'t>(alloc: Global, text: &'t str) -> Result<CowStr<'t>, AllocError
 {
     decode_html_entities_with(alloc, &own_table(), text)
 }
-
-#[cfg(test)]
-mod tests {
-    use super::decode;
-    use std::test::Fail;
-
-    #[test]
-    fn a_name_of_the_rows_has_its_value(rt: HostRuntime) -> Result<(), Fail> {
-        let made = decode(rt.alloc(), "I &hearts; &lt;b&gt; &copy;")?;
-        assert!(rt; made.as_str() == "I \u{2665} <b> &copy;");
-        Ok(())
-    }
-}
