@@ -114,7 +114,7 @@ def by_character(text):
         f"//! {BY}",
         "",
         f"/// The code points of {len(named)} characters, each with a name of it, by rising code points.",
-        'pub const NAMES: &str = "\\',
+        'pub static NAMES: &str = "\\',
         *lines,
         f'{line[:-1]}";',
     ]

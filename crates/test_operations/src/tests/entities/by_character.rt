@@ -2,7 +2,7 @@
 //! Written by tools/named_references.py; not edited by hand.
 
 /// The code points of 1511 characters, each with a name of it, by rising code points.
-pub const NAMES: &str = "\
+pub static NAMES: &str = "\
     0009 Tab,000A NewLine,0021 excl,0022 quot,0023 num,0024 dollar,0025 percnt,0026 amp,0027 apos,\
      0028 lpar,0029 rpar,002A ast,002B plus,002C comma,002E period,002F sol,003A colon,003B semi,\
      003C lt,003C+20D2 nvlt,003D equals,003D+20E5 bne,003E gt,003E+20D2 nvgt,003F quest,\
