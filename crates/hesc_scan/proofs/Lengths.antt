@@ -1,4 +1,5 @@
 pub mod CountSteps
+pub mod EntrySums
 pub mod HtmlSums
 pub mod StringSums
 pub mod Bounds

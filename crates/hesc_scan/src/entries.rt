@@ -2,8 +2,9 @@
 //! bytes of such a class end in the same nibble. So a table has for each nibble the byte of the class
 //! that ends in it, and a byte is in the class exactly if it is its own entry.
 ghost use Rattle.std.specs.Prelude.{◌≡◌, ◌<◌, ◌+◌, ℕ, map, slice_index};
+ghost use Rattle.std.specs.List.{sum_by};
 ghost use Rattle.std.specs.Simd.Lanes.{Each1, mask_l};
-ghost use Rattle.hesc_scan.specs.Entries.{is_entry, table_of};
+ghost use Rattle.hesc_scan.specs.Entries.{added_to, entry, is_entry, table_of};
 
 use hesc_specs::Class;
 use std::simd::prelude::*;
@@ -43,6 +44,12 @@ const SAFE: [u8; 32] = [
     OTHER, 0, b'"', 0, 0, 0, b'&', b'\'', 0, 0, 0, 0, b'<', 0, b'>', b'/', //
 ];
 
+// How many bytes the reference to the byte that ends in each nibble has more than that byte.
+const ADDED: [u8; 32] = [
+    0, 0, 5, 0, 0, 0, 4, 5, 0, 0, 0, 0, 3, 0, 3, 5, //
+    0, 0, 5, 0, 0, 0, 4, 5, 0, 0, 0, 0, 3, 0, 3, 5, //
+];
+
 /// The table of a class, of unquoted values and of strings any.
 #[inline(always)]
 pub(crate) fn entries_of(class: Class) -> &'static [u8; 32]
@@ -58,6 +65,17 @@ pub(crate) fn entries_of(class: Class) -> &'static [u8; 32]
     }
 }
 
+// The entry of each byte's low nibble.
+#[inline(always)]
+fn entries(table: &[u8; 32], v: u8x32) -> u8x32
+    requires twice { (nibble : ℕ) → nibble < 16
+        → slice_index table.now (16 + nibble) ≡ slice_index table.now nibble }
+    requires below { Each1 (λ b. b < 256) v }
+    ensures { result ≡ map (entry table.now) v }
+{
+    u8x32::from_array(*table).swizzle_dyn_within::<16>(v & u8x32::splat(15))
+}
+
 /// Bit `k` of the answer is set exactly if byte `k` is its own entry.
 #[inline(always)]
 pub(crate) fn hits_of_entries(table: &[u8; 32], v: u8x32) -> u64
@@ -66,6 +84,19 @@ pub(crate) fn hits_of_entries(table: &[u8; 32], v: u8x32) -> u64
     requires below { Each1 (λ b. b < 256) v }
     ensures { result ≡ mask_l (map (is_entry table.now) v) }
 {
-    let entries = u8x32::from_array(*table).swizzle_dyn_within::<16>(v & u8x32::splat(15));
-    v.simd_eq(entries).to_bitmask()
+    v.simd_eq(entries(table, v)).to_bitmask()
+}
+
+/// How many bytes the references to the bytes that are their own entries have more than these.
+#[inline(always)]
+pub(crate) fn added_to_entries(table: &[u8; 32], v: u8x32) -> u8
+    requires twice { (nibble : ℕ) → nibble < 16
+        → slice_index table.now (16 + nibble) ≡ slice_index table.now nibble }
+    requires below { Each1 (λ b. b < 256) v }
+    ensures { result ≡ sum_by (added_to table.now) v }
+{
+    let added = entries(&ADDED, v);
+    v.simd_eq(entries(table, v))
+        .select(added, u8x32::splat(0))
+        .strict_reduce_sum()
 }
