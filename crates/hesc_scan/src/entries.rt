@@ -1,7 +1,7 @@
 //! The classes of the HTML encoders, but for that of unquoted values, looked up by low nibbles: no two
 //! bytes of such a class end in the same nibble. So a table has for each nibble the byte of the class
 //! that ends in it, and a byte is in the class exactly if it is its own entry.
-ghost use Rattle.std.specs.Prelude.{◌≡◌, ◌≤◌, ◌<◌, ◌+◌, ◌*◌, ℕ, length, map, slice_index};
+ghost use Rattle.std.specs.Prelude.{◌≡◌, ◌<◌, ◌+◌, ℕ, map, slice_index};
 ghost use Rattle.std.specs.List.{sum_by};
 ghost use Rattle.std.specs.Simd.Lanes.{Each1, mask_l};
 ghost use Rattle.hesc_scan.specs.Entries.{added_to, entry, is_entry, table_of};
@@ -87,32 +87,16 @@ pub(crate) fn hits_of_entries(table: &[u8; 32], v: u8x32) -> u64
     v.simd_eq(entries(table, v)).to_bitmask()
 }
 
-// How many bytes the reference to each byte that is its own entry has more than the byte.
+/// How many bytes the references to the bytes that are their own entries have more than these.
 #[inline(always)]
-fn added(table: &[u8; 32], v: u8x32) -> u8x32
+pub(crate) fn added_to_entries(table: &[u8; 32], v: u8x32) -> u8
     requires twice { (nibble : ℕ) → nibble < 16
         → slice_index table.now (16 + nibble) ≡ slice_index table.now nibble }
     requires below { Each1 (λ b. b < 256) v }
-    ensures { result ≡ map (added_to table.now) v }
+    ensures { result ≡ sum_by (added_to table.now) v }
 {
     let added = entries(&ADDED, v);
-    v.simd_eq(entries(table, v)).select(added, u8x32::splat(0))
-}
-
-/// The same, summed over at most 48 times 32 bytes, so that each lane's sum is a byte.
-#[inline(always)]
-pub(crate) fn added_to_blocks(table: &[u8; 32], bytes: &[u8], blocks: usize) -> u16
-    requires twice { (nibble : ℕ) → nibble < 16
-        → slice_index table.now (16 + nibble) ≡ slice_index table.now nibble }
-    requires whole { length bytes.now ≡ 32 * blocks }
-    requires few { blocks ≤ 48 }
-    ensures { result ≡ sum_by (added_to table.now) bytes.now }
-{
-    let mut sums = u8x32::splat(0);
-    let mut block = 0;
-    'summing: while block < blocks {
-        sums = sums.strict_add(added(table, u8x32::from_slice(&bytes[32 * block..])));
-        block += 1;
-    }
-    sums.cast::<u16>().strict_reduce_sum()
+    v.simd_eq(entries(table, v))
+        .select(added, u8x32::splat(0))
+        .strict_reduce_sum()
 }

@@ -6,7 +6,7 @@ ghost use Rattle.hesc_specs.specs.Text.EscapedPlaces.{
   escapes_at,
 };
 ghost use Rattle.hesc_specs.specs.Text.FirstPlace.{IsFirstAt, IsFirstPlace};
-ghost use Rattle.hesc_scan.specs.Blocks.{IsFirstBlock, IsPassed};
+ghost use Rattle.hesc_scan.specs.Blocks.{IsFirstBlock};
 
 use crate::block::Block;
 use crate::flags::is_in;
@@ -73,41 +73,6 @@ pub fn first_block(class: Class, bytes: &[u8], from: usize) -> (usize, u64)
 
 #[inline(always)]
 fn first_by_lanes(class: Class, bytes: &[u8], from: usize) -> (usize, u64)
-    requires { from ≤ length bytes.now }
-    ensures { IsFirstBlock (in_class class) bytes.now from result.0 result.1 }
-{
-    let mut place = from;
-    if bytes.len() - from >= 32 {
-        // Where something is replaced, the next often stands near.
-        let mask = hits(class, u8x32::from_slice(&bytes[from..]));
-        if mask != 0 {
-            return (from, mask);
-        }
-        place = past_pairs(class, bytes, from + 32);
-    }
-    first_by_chunks(class, bytes, place)
-}
-
-// As far as no byte is in the class, 64 bytes at a time.
-#[inline(always)]
-fn past_pairs(class: Class, bytes: &[u8], from: usize) -> usize
-    requires { from ≤ length bytes.now }
-    ensures { IsPassed (in_class class) bytes.now from result }
-{
-    let mut place = from;
-    'pairs: while bytes.len() - place >= 64 {
-        let first = hits(class, u8x32::from_slice(&bytes[place..]));
-        let second = hits(class, u8x32::from_slice(&bytes[place + 32..]));
-        if first | second != 0 {
-            return place;
-        }
-        place += 64;
-    }
-    place
-}
-
-#[inline(always)]
-fn first_by_chunks(class: Class, bytes: &[u8], from: usize) -> (usize, u64)
     requires { from ≤ length bytes.now }
     ensures { IsFirstBlock (in_class class) bytes.now from result.0 result.1 }
 {

@@ -14,6 +14,11 @@ pub(crate) trait AddedLength {
     fn of_block(&self, block: &Block) -> usize
         requires { Each1 (λ b. b < 256) (block_bytes block.now) }
         ensures { result ≡ sum_by (of_byte self.now) (block_bytes block.now) };
+
+    /// How many it adds to 32 bytes.
+    fn of_chunk(&self, chunk: &[u8; 32]) -> usize
+        requires { Each1 (λ b. b < 256) chunk.now }
+        ensures { result ≡ sum_by (of_byte self.now) chunk.now };
 }
 
 /// The length of the bytes and of what is added to them, or `None` where it would pass the greatest
@@ -28,7 +33,7 @@ pub(crate) fn total_length<L: AddedLength>(added: &L, bytes: &[u8]) -> Option<us
     let (chunks, rest) = bytes.as_chunks::<32>();
     let mut count = bytes.len();
     for chunk in chunks {
-        count = count.checked_add(added.of_block(&Block::full(chunk)))?;
+        count = count.checked_add(added.of_chunk(chunk))?;
     }
     if rest.is_empty() {
         return Some(count);

@@ -31,4 +31,9 @@ impl AddedLength for OneForEachLess {
     fn of_block(&self, block: &Block) -> usize {
         count(block, b'<')
     }
+
+    #[inline(always)]
+    fn of_chunk(&self, chunk: &[u8; 32]) -> usize {
+        self.of_block(&Block::full(chunk))
+    }
 }

@@ -4,10 +4,12 @@ ghost use Rattle.hesc_specs.specs.Text.Classes.{IsHtml};
 ghost use Rattle.hesc_specs.specs.Html.{image};
 
 use crate::block::Block;
+use crate::entries::{added_to_entries, entries_of};
 use crate::lanes::block_hits;
 use crate::length::added::AddedLength;
 use crate::length::counts::{count, count_in};
 use hesc_specs::Class;
+use std::simd::prelude::*;
 
 /// How many bytes the reference to a byte of the class has more than the byte.
 #[derive(Clone, Copy)]
@@ -32,5 +34,14 @@ impl AddedLength for HtmlAddedLength {
             - count(block, b'&')
             - 2 * count(block, b'<')
             - 2 * count_in(self.class, block, b'>')
+    }
+
+    // No branch tells whether anything is replaced, which would often be guessed wrongly.
+    #[inline(always)]
+    fn of_chunk(&self, chunk: &[u8; 32]) -> usize {
+        match self.class {
+            Class::UnquotedAttribute => self.of_block(&Block::full(chunk)),
+            _ => added_to_entries(entries_of(self.class), u8x32::from_array(*chunk)) as usize,
+        }
     }
 }

@@ -66,4 +66,9 @@ impl AddedLength for StringAddedLength {
             - 2 * count_in(self.class, block, b'\'')
             - 2 * count_in(self.class, block, b'"')
     }
+
+    #[inline(always)]
+    fn of_chunk(&self, chunk: &[u8; 32]) -> usize {
+        self.of_block(&Block::full(chunk))
+    }
 }

@@ -1,29 +1,69 @@
-use Rattle.std.proofs.Common.{◌+◌, refl, arith, inl, inr}
-use Rattle.std.proofs.lemmas.Bool.{cases_lt}
+use Rattle.std.proofs.Common.{ap, ◌∙◌, ◌+◌, ◌<◌, drop, length, map, refl, sym, take, arith}
+use Rattle.std.proofs.lemmas.List.{length-drop, take_all}
+use Rattle.std.proofs.Math.Seq.{drop-length}
+use Rattle.std.specs.Simd.Lanes.{mask_l}
 use Rattle.hesc_specs.specs.Text.Classes.{in_class}
-use Rattle.hesc_scan.proofs.ChunkSearch.{below_256, first_block_from, none_by_mask}
+use Rattle.hesc_scan.proofs.ChunkSearch.{below_256, chunk_stands, none_by_mask, none_by_part, slice_rest}
 use Rattle.hesc_scan.proofs.scan.first_by_lanes.Goals as goal
-use Rattle.hesc_scan.proofs.scan.first_by_lanes.Goals.{then-bytes-from-ge32+else-mask-ne0, else-bytes-from-ge32}
 
 pub hits-mask-requires : goal.hits-mask-requires
-hits-mask-requires c = below_256 c.args.bytes.now _ c.args.from c.type_inv.bytes (record { room = omega arith; bytes_there = refl })
+hits-mask-requires c =
+    let chunks = c.as_chunks.ensures in
+    below_256 c.args.bytes.now _ c.loop-chunk.place c.type_inv.bytes
+    (chunk_stands c.args.bytes.now _ c.args.from c.as_chunks.result.0.now c.loop-chunk.chunk-index c.requires (slice_rest c.args.bytes.now c.args.from c.requires) chunks.front chunks.front_len (omega arith) c.loop-chunk.place c.loop-chunk.invariant.place)
+
+pub returns-then-mask-ne0 : goal.returns-then-mask-ne0
+returns-then-mask-ne0 c =
+    let chunks = c.as_chunks.ensures in
+    let before = c.loop-chunk.invariant in
+    let stands =
+    chunk_stands c.args.bytes.now _ c.args.from c.as_chunks.result.0.now c.loop-chunk.chunk-index c.requires (slice_rest c.args.bytes.now c.args.from c.requires) chunks.front chunks.front_len (omega arith) c.loop-chunk.place before.place in
+    record {
+      ordered = omega (arith, before.place);
+      within = omega (arith, stands.room);
+      before = before.none;
+      is_mask = c.hits-mask.ensures ∙ ap (λ l. mask_l (map (in_class c.args.class) l)) stands.bytes_there;
+      none = λ empty. absurd (omega (arith, empty));
+    }
+
+pub returns-then-mask-eq0 : goal.returns-then-mask-eq0
+returns-then-mask-eq0 c =
+    let bytes = c.args.bytes.now in
+    let place = c.loop-chunk.place in
+    let before = c.loop-chunk.invariant in
+    let few : length bytes < place + 32 = omega (arith, before.place, c.as_chunks.ensures.front_len) in
+    record {
+      ordered = c.requires;
+      within = omega arith;
+      before = λ k from_k below. none_by_part (in_class c.args.class) bytes c.args.from place 32 c.block_hits-mask.result (omega arith) before.within (omega (arith, before.place)) before.none
+          (c.block_hits-mask.ensures ∙ ap (λ l. mask_l (map (in_class c.args.class) l)) (c.rest.ensures ∙ sym (take_all 32 (drop place bytes) (omega (arith, few, length-drop place bytes)))))
+          c.if-mask-eq0.true k from_k below (omega (arith, few));
+      is_mask = ap (λ l. mask_l (map (in_class c.args.class) (take 32 l))) (sym (drop-length bytes));
+      none = λ _. refl;
+    }
 
 pub returns : goal.returns
 returns c =
-    elim c.if-bytes-from-ge32.branch [
-      | then-bytes-from-ge32+else-mask-ne0 w ↦
-          let passed = w.past_pairs-place.ensures in
-          let near =
-          none_by_mask (in_class c.args.class) c.args.bytes.now _ c.args.from c.args.from w.hits-mask.result (omega arith) (λ k from_k below. absurd (omega arith)) (record { room = omega arith; bytes_there = refl }) w.hits-mask.ensures (omega (arith, w.if-mask-ne0.false)) in
-          first_block_from (in_class c.args.class) c.args.bytes.now c.args.from _ _ _
-          (rw w.place-is (record {
-            ordered = omega (arith, passed.ordered);
-            within = passed.within;
-            none = λ k from_k below. elim (cases_lt k (c.args.from + 32)) [
-              | inl here ↦ near k from_k here
-              | inr later ↦ passed.none k later below
-            ];
-          }))
-          c.first_by_chunks.ensures
-      | else-bytes-from-ge32 w ↦ rw w.place-is at c.first_by_chunks.ensures
-    ]
+    let bytes = c.args.bytes.now in
+    let place = c.loop-chunk.place in
+    let before = c.loop-chunk.invariant in
+    let few : length bytes < place + 32 = omega (arith, before.place, c.as_chunks.ensures.front_len) in
+    record {
+      ordered = omega (arith, before.place);
+      within = before.within;
+      before = before.none;
+      is_mask = c.block_hits-mask.ensures ∙ ap (λ l. mask_l (map (in_class c.args.class) l)) (c.rest.ensures ∙ sym (take_all 32 (drop place bytes) (omega (arith, few, length-drop place bytes))));
+      none = λ empty. absurd (omega (arith, empty));
+    }
+
+pub loop-chunk-preserved : goal.loop-chunk-preserved
+loop-chunk-preserved c =
+    let chunks = c.as_chunks.ensures in
+    let before = c.loop-chunk.invariant in
+    let stands =
+    chunk_stands c.args.bytes.now _ c.args.from c.as_chunks.result.0.now c.loop-chunk.chunk-index c.requires (slice_rest c.args.bytes.now c.args.from c.requires) chunks.front chunks.front_len (omega arith) c.loop-chunk.place before.place in
+    record {
+      place = omega (arith, before.place);
+      within = omega (arith, stands.room);
+      none = none_by_mask (in_class c.args.class) c.args.bytes.now _ c.args.from c.loop-chunk.place c.hits-mask.result (omega (arith, before.place)) before.none stands c.hits-mask.ensures (omega arith);
+    }

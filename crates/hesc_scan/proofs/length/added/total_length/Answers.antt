@@ -22,14 +22,14 @@ sum_whole f bytes rest chunks many following =
     ap (λ l. sum_by f (take (32 * chunks) bytes) + sum_by f l) (following ∙ ap (λ n. drop n bytes) place)
     ∙ sum_by-take-drop f bytes (32 * chunks)
 
-pub full-requires : goal.full-requires
-full-requires g c =
+pub of_chunk-requires : goal.of_chunk-requires
+of_chunk-requires g c =
     let chunks = c.as_chunks.ensures in
     below_256 c.args.bytes.now _ (32 * c.loop-chunk.chunk-index) c.type_inv.bytes
     (chunk_stands c.args.bytes.now _ 0 c.as_chunks.result.0.now c.loop-chunk.chunk-index (omega arith) refl chunks.front chunks.front_len (omega arith) _ (omega arith))
 
-pub of_block-requires-2 : goal.of_block-requires-2
-of_block-requires-2 g c = rw c.rest.ensures (rest_below_256 c.args.bytes.now _ (omega arith) c.type_inv.bytes)
+pub of_block-requires : goal.of_block-requires
+of_block-requires g c = rw c.rest.ensures (rest_below_256 c.args.bytes.now _ (omega arith) c.type_inv.bytes)
 
 pub returns-in_err-count-clause-fits : goal.returns-in_err-count-clause-fits
 returns-in_err-count-clause-fits g c =
@@ -38,7 +38,7 @@ returns-in_err-count-clause-fits g c =
     let chunks = c.as_chunks.ensures in
     let here = sum_chunk f c.args.bytes.now _ c.loop-chunk.chunk-index (chunk_stands c.args.bytes.now _ 0 c.as_chunks.result.0.now c.loop-chunk.chunk-index (omega arith) refl chunks.front chunks.front_len (omega arith) _ (omega arith)) in
     let part = sum_by-take-le f c.args.bytes.now (32 * (c.loop-chunk.chunk-index + 1)) in
-    let room : c.loop-chunk.count + c.of_block.result < 2 ^ 64 = omega (arith, fits, here, part, c.loop-chunk.invariant, c.of_block.ensures, ap (sum_by f) c.full.ensures) in
+    let room : c.loop-chunk.count + c.of_chunk.result < 2 ^ 64 = omega (arith, fits, here, part, c.loop-chunk.invariant, c.of_chunk.ensures) in
     search rules
 
 pub loop-chunk-preserved : goal.loop-chunk-preserved
@@ -46,16 +46,16 @@ loop-chunk-preserved g c =
     let f = g.L.AddedLength.of_byte c.args.added.now in
     let chunks = c.as_chunks.ensures in
     let here = sum_chunk f c.args.bytes.now _ c.loop-chunk.chunk-index (chunk_stands c.args.bytes.now _ 0 c.as_chunks.result.0.now c.loop-chunk.chunk-index (omega arith) refl chunks.front chunks.front_len (omega arith) _ (omega arith)) in
-    omega (arith, here, c.loop-chunk.invariant, c.of_block.ensures, ap (sum_by f) c.full.ensures)
+    omega (arith, here, c.loop-chunk.invariant, c.of_chunk.ensures)
 
-all_counted : (g : _) (c : goal.After-checked_add-2 g) → c.loop-chunk.count + c.of_block-2.result ≡ length c.args.bytes.now + sum_by (g.L.AddedLength.of_byte c.args.added.now) c.args.bytes.now
+all_counted : (g : _) (c : goal.After-checked_add-2 g) → c.loop-chunk.count + c.of_block.result ≡ length c.args.bytes.now + sum_by (g.L.AddedLength.of_byte c.args.added.now) c.args.bytes.now
 all_counted g c =
     let f = g.L.AddedLength.of_byte c.args.added.now in
     let chunks = c.as_chunks.ensures in
     let whole = sum_whole f c.args.bytes.now _ c.loop-chunk.chunk-index (omega arith) chunks.back in
     let place : length c.args.bytes.now - length c.as_chunks.result.1.now ≡ length c.args.bytes.now / 32 * 32 = omega (arith, chunks.back_len) in
     let rest = c.rest.ensures ∙ ap (λ n. drop n c.args.bytes.now) place ∙ sym chunks.back in
-    omega (arith, whole, c.loop-chunk.invariant, c.of_block-2.ensures, ap (sum_by f) rest)
+    omega (arith, whole, c.loop-chunk.invariant, c.of_block.ensures, ap (sum_by f) rest)
 
 pub returns-clause-count : goal.returns-clause-count
 returns-clause-count g c = let all = all_counted g c in search rules

@@ -1,6 +1,6 @@
 use Rattle.std.proofs.Common.{◌≡◌, ◌≤◌, ◌<◌, ◌+◌, ◌*◌, ℕ, false, length, slice_index}
 use Rattle.hesc_specs.specs.Text.Classes.{in_class}
-use Rattle.hesc_scan.proofs.scan.first_by_chunks.Given as goal
+use Rattle.hesc_scan.proofs.scan.first_by_lanes.Given as goal
 
 -- no byte of the chunks so far is in the class
 abbrev pub invariant-loop-chunk : goal.invariant-loop-chunk
