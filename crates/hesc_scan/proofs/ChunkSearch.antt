@@ -10,7 +10,7 @@ use Rattle.std.specs.Simd.Lanes.{Each1, mask_l}
 use Rattle.std.specs.Simd.{first_chunks}
 use lib.Lanes.{chunk}
 use Rattle.hesc_specs.specs.Text.FirstPlace.{IsFirstPlace}
-use Rattle.hesc_scan.specs.Blocks.{IsFirstBlock}
+use Rattle.hesc_scan.specs.Blocks.{IsFirstBlock, IsPassed}
 
 get_or-first_chunks : (n k i : ℕ) (xs : List ℕ) → i < k → get_or (first_chunks n k xs) i [] ≡ chunk (n * i) n xs
 get_or-first_chunks n zero i xs within = absurd (omega arith)
@@ -134,3 +134,35 @@ first_of_block test bytes from reached place mask later none first some =
 
 pub inside_of_block : (test : ℕ → Bool) (bytes : List ℕ) (from place mask : ℕ) → IsFirstBlock test bytes from place mask → 0 < mask → place + count_trailing_zeros 64 mask < length bytes
 inside_of_block test bytes from place mask first some = inside_by_part test bytes from place 32 mask (omega arith) first.within first.ordered first.before first.is_mask some
+
+-- the first block from a place on is that from an earlier one, where no byte between them passes the test
+pub first_block_from : (test : ℕ → Bool) (bytes : List ℕ) (from reached place mask : ℕ) → IsPassed test bytes from reached → IsFirstBlock test bytes reached place mask
+    → IsFirstBlock test bytes from place mask
+first_block_from test bytes from reached place mask passed first = record {
+  ordered = omega (arith, passed.ordered, first.ordered);
+  within = first.within;
+  before = λ k from_k below. elim (cases_lt k reached) [
+    | inl earlier ↦ passed.none k from_k earlier
+    | inr later ↦ first.before k later below
+  ];
+  is_mask = first.is_mask;
+  none = first.none;
+}
+
+pub passed_more : (test : ℕ → Bool) (bytes : List ℕ) (from middle reached : ℕ) → IsPassed test bytes from middle → IsPassed test bytes middle reached → IsPassed test bytes from reached
+passed_more test bytes from middle reached first second = record {
+  ordered = omega (arith, first.ordered, second.ordered);
+  within = second.within;
+  none = λ k from_k below. elim (cases_lt k middle) [
+    | inl earlier ↦ first.none k from_k earlier
+    | inr later ↦ second.none k later below
+  ];
+}
+
+-- what an empty mask of 32 bytes tells
+pub passed_by_mask : (test : ℕ → Bool) (bytes found : List ℕ) (place mask : ℕ) → StandsAt bytes place found → mask ≡ mask_l (map test found) → mask ≡ 0 → IsPassed test bytes place (place + 32)
+passed_by_mask test bytes found place mask stands masks empty = record {
+  ordered = omega arith;
+  within = omega (arith, stands.room);
+  none = none_by_mask test bytes found place place mask (omega arith) (λ k from_k below. absurd (omega arith)) stands masks empty;
+}

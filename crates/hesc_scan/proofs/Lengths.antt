@@ -1,6 +1,5 @@
-pub mod CountSteps
-pub mod EntrySums
 pub mod HtmlSums
+pub mod LaneSums
 pub mod StringSums
 pub mod Bounds
 pub mod Longest

@@ -1,9 +1,12 @@
 pub mod ChunkSearch
 pub mod ClassEntries
+pub mod ClassGroups
 pub mod EscapeSearch
 pub mod FlagTable
 pub mod FoundBytes
+pub mod KeptLanes
 pub mod LaneLemmas
+pub mod LaneMaps
 pub mod Lengths
 pub mod Lookups
 pub mod Masks

@@ -21,3 +21,9 @@ pub record IsFirstBlock (test : ℕ → Bool) (bytes : List ℕ) (from place mas
   pub before : (k : ℕ) → from ≤ k → k < place → test (slice_index bytes k) ≡ false
   pub is_mask : mask ≡ mask_from test bytes place
   pub none : mask ≡ 0 → place ≡ length bytes
+
+-- no byte from one place up to another passes the test
+pub record IsPassed (test : ℕ → Bool) (bytes : List ℕ) (from place : ℕ) : Type 0 where
+  pub ordered : from ≤ place
+  pub within : place ≤ length bytes
+  pub none : (k : ℕ) → from ≤ k → k < place → test (slice_index bytes k) ≡ false

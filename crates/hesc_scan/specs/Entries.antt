@@ -2,7 +2,7 @@
 use Rattle.std.specs.Prelude.{ℕ, List, Bool, ◌==◌, bit_and, slice_index, if◌then◌else◌}
 use Rattle.hesc_specs.specs.declared.classes.Class.{Class}
 use Rattle.hesc_specs.specs.declared.classes.Class.TheVariants as class
-use Rattle.hesc_scan.specs.declared.entries.TheConstants.{ADDED, DOUBLE_QUOTED, QUOTED, SAFE, SINGLE_QUOTED, TEXT, TEXT_MINIMAL}
+use Rattle.hesc_scan.specs.declared.lookup.entries.TheConstants.{ADDED, DOUBLE_QUOTED, QUOTED, SAFE, SINGLE_QUOTED, TEXT, TEXT_MINIMAL}
 
 -- the entry of a byte's low nibble
 abbrev pub entry : List ℕ → ℕ → ℕ

@@ -10,13 +10,14 @@ pub(crate) struct Block {
     front: usize,
     skip: usize,
     ghost long: { length lanes ≡ 32 },
-    ghost within: { (front ≤ 32) × (skip ≤ 32) },
+    ghost within: { (front ≤ skip) × (skip ≤ 32) },
     ghost below: { (k : ℕ) → slice_index lanes k < 256 },
 }
 
 impl Block {
     ghost use Rattle.std.specs.Prelude.{Bool, map};
-    ghost use Rattle.std.specs.Simd.Lanes.{Each1, mask_l};
+    ghost use Rattle.std.specs.List.{sum_by};
+    ghost use Rattle.std.specs.Simd.Lanes.{Each1, mask_l, sum_l};
     ghost use Rattle.hesc_scan.specs.Blocks.{block_bytes, block_lanes};
 
     /// The 32 bytes of a chunk.
@@ -105,7 +106,25 @@ impl Block {
         let front = mask & ((1 << self.front) - 1);
         ((mask >> self.skip) << self.front) | front
     }
+
+    /// The values of the lanes that hold the bytes, and 0 for the other lanes.
+    #[inline(always)]
+    pub(crate) fn kept(&self, values: u8x32) -> u8x32
+        ensures sum { (f : ℕ → ℕ) → values ≡ map f (block_lanes self.now)
+            → sum_l result ≡ sum_by f (block_bytes self.now) }
+        ensures few { (most : ℕ) → Each1 (λ a. a ≤ most) values → Each1 (λ a. a ≤ most) result }
+    {
+        let lane = u8x32::from_array(LANES);
+        let held = lane.simd_lt(u8x32::splat(self.front as u8))
+            | lane.simd_ge(u8x32::splat(self.skip as u8));
+        held.select(values, u8x32::splat(0))
+    }
 }
+
+const LANES: [u8; 32] = [
+    0, 1, 2, 3, 4, 5, 6, 7, 8, 9, 10, 11, 12, 13, 14, 15, //
+    16, 17, 18, 19, 20, 21, 22, 23, 24, 25, 26, 27, 28, 29, 30, 31, //
+];
 
 // The first bytes at the front and the last ones at the back, as many as a half has of each.
 #[inline(always)]

@@ -1,9 +1,7 @@
 //! How long an encoding is, or how long at most, counted 32 bytes at a time.
-mod added;
+pub(crate) mod added;
 pub mod bodies;
-mod counts;
 pub mod html;
-mod html_added;
 pub mod longest;
 pub mod strings;
 

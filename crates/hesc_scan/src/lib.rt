@@ -7,11 +7,10 @@
 
 mod block;
 pub mod byte_block;
-mod entries;
 pub mod find;
 mod flags;
-mod groups;
 mod lanes;
 pub mod length;
+mod lookup;
 pub mod openings;
 pub mod scan;

@@ -1,17 +1,20 @@
 //! The search for the next place at which an encoder may change something, and at which it does.
-ghost use Rattle.std.specs.Prelude.{◌≡◌, ◌≤◌, length};
+ghost use Rattle.std.specs.Prelude.{◌≡◌, ◌≢◌, ◌≤◌, length};
 ghost use Rattle.hesc_specs.specs.Text.Classes.{in_class};
 ghost use Rattle.hesc_specs.specs.Text.EscapedPlaces.{
   completes_separator as completes,
   escapes_at,
 };
 ghost use Rattle.hesc_specs.specs.Text.FirstPlace.{IsFirstAt, IsFirstPlace};
-ghost use Rattle.hesc_scan.specs.Blocks.{IsFirstBlock};
+ghost use Rattle.hesc_scan.specs.Blocks.{IsFirstBlock, IsPassed, mask_from};
 
 use crate::block::Block;
 use crate::flags::is_in;
 pub use crate::flags::{FLAGS, flags_agree};
-use crate::lanes::{block_hits, hits};
+use crate::lookup::entries::Entries;
+use crate::lookup::groups::Groups;
+use crate::lookup::symbols::Symbols;
+use crate::lookup::{Lookup, hits_in};
 use hesc_specs::Class;
 use std::simd::prelude::*;
 
@@ -53,39 +56,83 @@ pub fn first_block(class: Class, bytes: &[u8], from: usize) -> (usize, u64)
     requires { from ≤ length bytes.now }
     ensures { IsFirstBlock (in_class class) bytes.now from result.0 result.1 }
 {
-    // Each arm is a loop of the comparisons of its class alone.
+    // Each arm is a loop of one kind of look-up.
     match class {
-        Class::TextMinimal => first_by_lanes(Class::TextMinimal, bytes, from),
-        Class::Text => first_by_lanes(Class::Text, bytes, from),
-        Class::DoubleQuotedAttribute => first_by_lanes(Class::DoubleQuotedAttribute, bytes, from),
-        Class::SingleQuotedAttribute => first_by_lanes(Class::SingleQuotedAttribute, bytes, from),
-        Class::QuotedAttribute => first_by_lanes(Class::QuotedAttribute, bytes, from),
-        Class::Safe => first_by_lanes(Class::Safe, bytes, from),
-        Class::UnquotedAttribute => first_by_lanes(Class::UnquotedAttribute, bytes, from),
-        Class::ScriptSingleQuoted => first_by_lanes(Class::ScriptSingleQuoted, bytes, from),
-        Class::ScriptDoubleQuoted => first_by_lanes(Class::ScriptDoubleQuoted, bytes, from),
-        Class::ScriptQuoted => first_by_lanes(Class::ScriptQuoted, bytes, from),
-        Class::StyleSingleQuoted => first_by_lanes(Class::StyleSingleQuoted, bytes, from),
-        Class::StyleDoubleQuoted => first_by_lanes(Class::StyleDoubleQuoted, bytes, from),
-        Class::StyleQuoted => first_by_lanes(Class::StyleQuoted, bytes, from),
+        Class::TextMinimal
+        | Class::Text
+        | Class::DoubleQuotedAttribute
+        | Class::SingleQuotedAttribute
+        | Class::QuotedAttribute
+        | Class::Safe => first_by_lanes(&Entries::of(class), bytes, from),
+        Class::UnquotedAttribute => first_by_lanes(&Symbols, bytes, from),
+        Class::ScriptSingleQuoted
+        | Class::ScriptDoubleQuoted
+        | Class::ScriptQuoted
+        | Class::StyleSingleQuoted
+        | Class::StyleDoubleQuoted
+        | Class::StyleQuoted => first_by_lanes(&Groups::of(class), bytes, from),
     }
 }
 
 #[inline(always)]
-fn first_by_lanes(class: Class, bytes: &[u8], from: usize) -> (usize, u64)
+fn first_by_lanes<L: Lookup>(lookup: &L, bytes: &[u8], from: usize) -> (usize, u64)
     requires { from ≤ length bytes.now }
-    ensures { IsFirstBlock (in_class class) bytes.now from result.0 result.1 }
+    ensures { IsFirstBlock (L.has lookup.now) bytes.now from result.0 result.1 }
+{
+    let mut place = from;
+    if bytes.len() - from >= 32 {
+        // Where something is replaced, the next often stands near.
+        let mask = lookup.hits(u8x32::from_slice(&bytes[from..]));
+        if mask != 0 {
+            return (from, mask);
+        }
+        let (reached, mask) = first_by_pairs(lookup, bytes, from + 32);
+        if mask != 0 {
+            return (reached, mask);
+        }
+        place = reached;
+    }
+    first_by_chunks(lookup, bytes, place)
+}
+
+// The same by 64 bytes at a time, as long as there are so many: an empty mask tells that fewer are
+// left.
+#[inline(always)]
+fn first_by_pairs<L: Lookup>(lookup: &L, bytes: &[u8], from: usize) -> (usize, u64)
+    requires { from ≤ length bytes.now }
+    ensures passed { IsPassed (L.has lookup.now) bytes.now from result.0 }
+    ensures mask { result.1 ≢ 0 → result.1 ≡ mask_from (L.has lookup.now) bytes.now result.0 }
+{
+    let mut place = from;
+    'pairs: while bytes.len() - place >= 64 {
+        let first = lookup.hits(u8x32::from_slice(&bytes[place..]));
+        let second = lookup.hits(u8x32::from_slice(&bytes[place + 32..]));
+        if first | second != 0 {
+            if first != 0 {
+                return (place, first);
+            }
+            return (place + 32, second);
+        }
+        place += 64;
+    }
+    (place, 0)
+}
+
+#[inline(always)]
+fn first_by_chunks<L: Lookup>(lookup: &L, bytes: &[u8], from: usize) -> (usize, u64)
+    requires { from ≤ length bytes.now }
+    ensures { IsFirstBlock (L.has lookup.now) bytes.now from result.0 result.1 }
 {
     let (chunks, _) = bytes[from..].as_chunks::<32>();
     let mut place = from;
     for chunk in chunks {
-        let mask = hits(class, u8x32::from_array(*chunk));
+        let mask = lookup.hits(u8x32::from_array(*chunk));
         if mask != 0 {
             return (place, mask);
         }
         place += 32;
     }
-    let mask = block_hits(class, &Block::rest(bytes, place));
+    let mask = hits_in(lookup, &Block::rest(bytes, place));
     if mask == 0 {
         return (bytes.len(), 0);
     }

@@ -1,18 +1,19 @@
 -- How long an encoding is at most, by the length of its text.
 use Rattle.std.proofs.Common.{◌≡◌, ℕ, ◌*◌, ◌≤◌, ◌<◌, List, [], Option, Some, None, length, IfSome, IsUtf8, refl, sym, ap, ◌∙◌, arith}
 use Rattle.std.specs.Prelude.{SomeIff}
-use Rattle.std.proofs.lemmas.List.Sums.{count_by-le-length}
 use Rattle.std.specs.Simd.Lanes.{Each1}
 use Rattle.hesc_specs.specs.Html.{encoding}
 use Rattle.hesc_specs.specs.Strings.Encoding.{string_encoding}
-use Rattle.hesc_specs.specs.Text.Classes.{in_class, string_class}
+use Rattle.hesc_specs.specs.Text.Classes.{string_class}
 use Rattle.hesc_specs.specs.Text.Escaped.{by_class, escaped}
 use Rattle.hesc_specs.specs.declared.classes.Class.{Class}
 use Rattle.hesc_specs.specs.declared.elements.Element.{Element}
 use Rattle.hesc_specs.specs.declared.quotes.Quotes.{Quotes}
 use Rattle.hesc_specs.proofs.Strings.Bound.{empty-string_encoding, length-string_encoding}
-use Rattle.hesc_scan.proofs.Lengths.HtmlSums.{adds_up-all, length-encoding}
-use Rattle.hesc_scan.proofs.Lengths.StringSums.{adds_up-all as string-adds_up}
+use Rattle.hesc_scan.proofs.Lengths.HtmlSums.{added_length, few_added, length-encoding}
+use Rattle.hesc_scan.proofs.Lengths.StringSums.{few_added as few_in_string}
+use Rattle.hesc_specs.proofs.Strings.Bound.{added_length as added_in_string}
+use Rattle.hesc_scan.proofs.LaneMaps.{few_in_all}
 
 -- a product that was checked
 pub product : (r : Option ℕ) (P : Type 0) (n : ℕ) → SomeIff r P n → IfSome r (λ count. count ≡ n)
@@ -21,12 +22,12 @@ product (Some count) P n checked = omega (arith, checked.1)
 
 longest_html : (class : Class) → string_class class ≡ None → (text : List ℕ) → Each1 (λ b. b < 256) text → length (encoding class text) ≤ length text * 6
 longest_html class html text below =
-    omega (arith, length-encoding class text, adds_up-all class html text below, count_by-le-length (in_class class) text)
+    omega (arith, length-encoding class text, few_in_all (added_length class) text (few_added class html) below)
 
 longest_string : (class : Class) (element : Element) (quotes : Quotes) → string_class class ≡ Some (element, quotes) → (text : List ℕ) → IsUtf8 text → Each1 (λ b. b < 256) text
     → length (string_encoding element quotes text) ≤ length text * 6
 longest_string class element quotes is text utf8 below =
-    omega (arith, length-string_encoding class element quotes is text utf8, string-adds_up class (λ none. cc (sym is ∙ none)) text below, count_by-le-length (in_class class) text)
+    omega (arith, length-string_encoding class element quotes is text utf8, few_in_all (added_in_string class) text (few_in_string class (λ none. cc (sym is ∙ none))) below)
 
 longest_by : (class : Class) (string : Option (Element × Quotes)) → string_class class ≡ string → (text : List ℕ) → IsUtf8 text → Each1 (λ b. b < 256) text
     → length (by_class string (encoding class) string_encoding text) ≤ length text * 6

@@ -1,12 +1,11 @@
-//! An upper bound of the length of a body encoding, counted 32 bytes at a time.
+//! An upper bound of the length of a body encoding.
 ghost use Rattle.std.specs.Prelude.{◌≡◌, ◌≤◌, ◌==◌, [], length, if◌then◌else◌, IfSome};
 ghost use Rattle.hesc_specs.specs.Text.Ascii.{less_than};
 ghost use Rattle.hesc_specs.specs.Bodies.Encoding.{body_encoding};
 ghost use Rattle.hesc_specs.specs.declared.elements.Element.{Element};
 
-use crate::block::Block;
 use crate::length::added::{AddedLength, total_length};
-use crate::length::counts::count;
+use std::simd::prelude::*;
 
 /// As many bytes as the body encoding of these bytes has or more, for each element, and 0 where it
 /// has none; `None` where the count would pass the greatest `usize`.
@@ -28,12 +27,8 @@ impl AddedLength for OneForEachLess {
     ghost of_byte = { λ added b. if b == less_than then 1 else 0 };
 
     #[inline(always)]
-    fn of_block(&self, block: &Block) -> usize {
-        count(block, b'<')
-    }
-
-    #[inline(always)]
-    fn of_chunk(&self, chunk: &[u8; 32]) -> usize {
-        self.of_block(&Block::full(chunk))
+    fn of_lanes(&self, v: u8x32) -> u8x32 {
+        v.simd_eq(u8x32::splat(b'<'))
+            .select(u8x32::splat(1), u8x32::splat(0))
     }
 }

@@ -1,69 +1,33 @@
-use Rattle.std.proofs.Common.{ap, ◌∙◌, ◌+◌, ◌<◌, drop, length, map, refl, sym, take, arith}
-use Rattle.std.proofs.lemmas.List.{length-drop, take_all}
-use Rattle.std.proofs.Math.Seq.{drop-length}
-use Rattle.std.specs.Simd.Lanes.{mask_l}
-use Rattle.hesc_specs.specs.Text.Classes.{in_class}
-use Rattle.hesc_scan.proofs.ChunkSearch.{below_256, chunk_stands, none_by_mask, none_by_part, slice_rest}
+use Rattle.std.proofs.Common.{◌+◌, refl, arith}
+use Rattle.hesc_scan.proofs.ChunkSearch.{below_256, first_block_from, passed_by_mask, passed_more}
 use Rattle.hesc_scan.proofs.scan.first_by_lanes.Goals as goal
+use Rattle.hesc_scan.proofs.scan.first_by_lanes.Goals.{then-bytes-from-ge32+else-mask-ne0+else-mask-ne0-2, else-bytes-from-ge32}
 
 pub hits-mask-requires : goal.hits-mask-requires
-hits-mask-requires c =
-    let chunks = c.as_chunks.ensures in
-    below_256 c.args.bytes.now _ c.loop-chunk.place c.type_inv.bytes
-    (chunk_stands c.args.bytes.now _ c.args.from c.as_chunks.result.0.now c.loop-chunk.chunk-index c.requires (slice_rest c.args.bytes.now c.args.from c.requires) chunks.front chunks.front_len (omega arith) c.loop-chunk.place c.loop-chunk.invariant.place)
+hits-mask-requires g c = below_256 c.args.bytes.now _ c.args.from c.type_inv.bytes (record { room = omega arith; bytes_there = refl })
 
-pub returns-then-mask-ne0 : goal.returns-then-mask-ne0
-returns-then-mask-ne0 c =
-    let chunks = c.as_chunks.ensures in
-    let before = c.loop-chunk.invariant in
-    let stands =
-    chunk_stands c.args.bytes.now _ c.args.from c.as_chunks.result.0.now c.loop-chunk.chunk-index c.requires (slice_rest c.args.bytes.now c.args.from c.requires) chunks.front chunks.front_len (omega arith) c.loop-chunk.place before.place in
+pub returns-then-mask-ne0-2 : goal.returns-then-mask-ne0-2
+returns-then-mask-ne0-2 g c =
+    let test = g.L.Lookup.has c.args.lookup.now in
+    let near = passed_by_mask test c.args.bytes.now _ c.args.from c.hits-mask.result (record { room = omega arith; bytes_there = refl }) c.hits-mask.ensures (omega (arith, c.if-mask-ne0.false)) in
+    let pairs = c.first_by_pairs-reached.ensures in
+    let passed = passed_more test c.args.bytes.now c.args.from (c.args.from + 32) _ near pairs.passed in
     record {
-      ordered = omega (arith, before.place);
-      within = omega (arith, stands.room);
-      before = before.none;
-      is_mask = c.hits-mask.ensures ∙ ap (λ l. mask_l (map (in_class c.args.class) l)) stands.bytes_there;
-      none = λ empty. absurd (omega (arith, empty));
-    }
-
-pub returns-then-mask-eq0 : goal.returns-then-mask-eq0
-returns-then-mask-eq0 c =
-    let bytes = c.args.bytes.now in
-    let place = c.loop-chunk.place in
-    let before = c.loop-chunk.invariant in
-    let few : length bytes < place + 32 = omega (arith, before.place, c.as_chunks.ensures.front_len) in
-    record {
-      ordered = c.requires;
-      within = omega arith;
-      before = λ k from_k below. none_by_part (in_class c.args.class) bytes c.args.from place 32 c.block_hits-mask.result (omega arith) before.within (omega (arith, before.place)) before.none
-          (c.block_hits-mask.ensures ∙ ap (λ l. mask_l (map (in_class c.args.class) l)) (c.rest.ensures ∙ sym (take_all 32 (drop place bytes) (omega (arith, few, length-drop place bytes)))))
-          c.if-mask-eq0.true k from_k below (omega (arith, few));
-      is_mask = ap (λ l. mask_l (map (in_class c.args.class) (take 32 l))) (sym (drop-length bytes));
-      none = λ _. refl;
+      ordered = passed.ordered;
+      within = passed.within;
+      before = passed.none;
+      is_mask = pairs.mask c.if-mask-ne0-2.true;
+      none = λ empty. absurd (c.if-mask-ne0-2.true empty);
     }
 
 pub returns : goal.returns
-returns c =
+returns g c =
+    let test = g.L.Lookup.has c.args.lookup.now in
     let bytes = c.args.bytes.now in
-    let place = c.loop-chunk.place in
-    let before = c.loop-chunk.invariant in
-    let few : length bytes < place + 32 = omega (arith, before.place, c.as_chunks.ensures.front_len) in
-    record {
-      ordered = omega (arith, before.place);
-      within = before.within;
-      before = before.none;
-      is_mask = c.block_hits-mask.ensures ∙ ap (λ l. mask_l (map (in_class c.args.class) l)) (c.rest.ensures ∙ sym (take_all 32 (drop place bytes) (omega (arith, few, length-drop place bytes))));
-      none = λ empty. absurd (omega (arith, empty));
-    }
-
-pub loop-chunk-preserved : goal.loop-chunk-preserved
-loop-chunk-preserved c =
-    let chunks = c.as_chunks.ensures in
-    let before = c.loop-chunk.invariant in
-    let stands =
-    chunk_stands c.args.bytes.now _ c.args.from c.as_chunks.result.0.now c.loop-chunk.chunk-index c.requires (slice_rest c.args.bytes.now c.args.from c.requires) chunks.front chunks.front_len (omega arith) c.loop-chunk.place before.place in
-    record {
-      place = omega (arith, before.place);
-      within = omega (arith, stands.room);
-      none = none_by_mask (in_class c.args.class) c.args.bytes.now _ c.args.from c.loop-chunk.place c.hits-mask.result (omega (arith, before.place)) before.none stands c.hits-mask.ensures (omega arith);
-    }
+    elim c.if-bytes-from-ge32.branch [
+      | then-bytes-from-ge32+else-mask-ne0+else-mask-ne0-2 w ↦
+          let near = passed_by_mask test bytes _ c.args.from w.hits-mask.result (record { room = omega arith; bytes_there = refl }) w.hits-mask.ensures (omega (arith, w.if-mask-ne0.false)) in
+          let passed = passed_more test bytes c.args.from (c.args.from + 32) _ near w.first_by_pairs-reached.ensures.passed in
+          first_block_from test bytes c.args.from _ _ _ (rw w.place-is passed) c.first_by_chunks.ensures
+      | else-bytes-from-ge32 w ↦ rw w.place-is at c.first_by_chunks.ensures
+    ]
