@@ -1,7 +1,7 @@
+mod AsciiTables
 mod CommonNames
 pub mod ClassWords
 pub mod ElementWords
 pub mod HandsOnConstant
 pub mod HandsOnTable
-mod ReferenceTable
 mod StringEscapes

@@ -1,5 +1,6 @@
 //! The rules of the operations.
 pub(crate) mod ahead;
+mod ascii_rows;
 pub mod bodies;
 pub mod escape;
 pub mod html;

@@ -1,8 +1,9 @@
 //! The references to the ASCII bytes.
-ghost use Rattle.std.specs.Prelude.{◌≡◌, ◌<◌, [], length, slice_index_or};
+ghost use Rattle.std.specs.Prelude.{◌≡◌, ◌<◌};
 ghost use Rattle.hesc_specs.specs.Html.{reference_to};
 ghost use Rattle.hesc_engine.specs.Text.{small_text_bytes};
 
+use crate::rules::ascii_rows::row_at;
 use hesc_engine::small_text::SmallText;
 
 /// The reference that stands for each ASCII byte, and its length; after it padding.
@@ -145,12 +146,4 @@ pub(crate) fn reference(byte: u8) -> SmallText
 {
     let (bytes, len) = row_at(&REFERENCES, byte as usize);
     SmallText::from_ascii(bytes, len)
-}
-
-#[inline(always)]
-fn row_at(rows: &'static [([u8; 8], usize)], place: usize) -> ([u8; 8], usize)
-    requires { place < length rows.now }
-    ensures { result ≡ slice_index_or rows.now place ([], 0) }
-{
-    rows[place]
 }

@@ -9,17 +9,16 @@ ghost use Rattle.hesc_engine.specs.Ahead.{IsAhead};
 ghost use Rattle.hesc_specs.specs.Text.Escaped.{escape_changes, escaped};
 ghost use Rattle.hesc_specs.proofs.Text.EscapeChanges.{applied-escape_changes};
 ghost use Rattle.hesc_specs.specs.Strings.Encoding.{
-  is_mark as is_mark_of,
   line_separator,
   paragraph_separator,
   string_escape,
 };
-ghost use Rattle.hesc_specs.specs.declared.elements.Element.TheVariants.{Script, Style};
+ghost use Rattle.hesc_specs.specs.declared.elements.Element.TheVariants.{Script};
 ghost use Rattle.hesc_engine.specs.Next.{IsNext};
 ghost use Rattle.hesc_engine.specs.Text.{replacement_bytes};
 
 use crate::rules::ahead::{Sought, next_hit_or_end};
-use crate::rules::strings::hex_digits::upper_hex_digit;
+use crate::rules::strings::escapes::{script_escape, style_escape};
 use hesc_engine::ahead::Ahead;
 use hesc_engine::found::{Found, Replacement};
 use hesc_engine::rule::Rule;
@@ -162,14 +161,6 @@ fn string_escape_at(
     })
 }
 
-// Whether the byte is written after a `\`.
-#[inline(always)]
-fn is_mark(byte: u8) -> bool
-    ensures { result ≡ is_mark_of byte }
-{
-    matches!(byte, b'\\' | b'\'' | b'"')
-}
-
 #[inline(always)]
 fn ascii(bytes: [u8; 8], len: usize) -> Replacement<'static>
     requires short { len ≤ 6 }
@@ -197,36 +188,8 @@ fn ascii_escape(element: Element, byte: u8) -> Replacement<'static>
     ensures { replacement_bytes result ≡ string_escape element byte }
 {
     match element {
-        Element::Script => script_escape(byte),
-        Element::Style => style_escape(byte),
+        Element::Script => Replacement::Small(script_escape(byte)),
+        Element::Style if byte == 0 => Replacement::Borrowed("\u{FFFD}"),
+        Element::Style => Replacement::Small(style_escape(byte)),
     }
-}
-
-#[inline(always)]
-fn script_escape(byte: u8) -> Replacement<'static>
-    requires { byte < 128 }
-    ensures { replacement_bytes result ≡ string_escape Script byte }
-{
-    if is_mark(byte) {
-        return ascii([b'\\', byte, 0, 0, 0, 0, 0, 0], 2);
-    }
-    let high = upper_hex_digit(byte / 16);
-    let low = upper_hex_digit(byte % 16);
-    ascii([b'\\', b'x', high, low, 0, 0, 0, 0], 4)
-}
-
-#[inline(always)]
-fn style_escape(byte: u8) -> Replacement<'static>
-    requires { byte < 128 }
-    ensures { replacement_bytes result ≡ string_escape Style byte }
-{
-    if byte == 0 {
-        return Replacement::Borrowed("\u{FFFD}");
-    }
-    if is_mark(byte) {
-        return ascii([b'\\', byte, 0, 0, 0, 0, 0, 0], 2);
-    }
-    let high = upper_hex_digit(byte / 16);
-    let low = upper_hex_digit(byte % 16);
-    ascii([b'\\', high, low, b' ', 0, 0, 0, 0], 4)
 }
