@@ -36,4 +36,4 @@ agrees StyleQuoted html quoted = cc
 -- the mask by the table of a class
 pub mask_by_table : (class : Class) → IsHtml class → class ≢ UnquotedAttribute → (v : List ℕ) (mask : ℕ) → Each1 (λ b. b < 256) v → mask ≡ mask_l (map (is_entry (table_of class)) v)
     → mask ≡ mask_l (map (in_class class) v)
-mask_by_table class html quoted v mask below = mask_as_class class class (is_entry (table_of class)) v mask refl below (agrees class html quoted)
+mask_by_table class html quoted v mask below = mask_as_class class (is_entry (table_of class)) v mask below (agrees class html quoted)

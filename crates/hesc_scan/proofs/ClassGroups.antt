@@ -26,4 +26,4 @@ agrees StyleQuoted string = refl
 -- the mask by the groups of a class
 pub mask_by_groups : (class : Class) → string_class class ≢ None → (v : List ℕ) (mask : ℕ) → Each1 (λ b. b < 256) v → mask ≡ mask_l (map (in_groups (groups_in class)) v)
     → mask ≡ mask_l (map (in_class class) v)
-mask_by_groups class string v mask below = mask_as_class class class (in_groups (groups_in class)) v mask refl below (agrees class string)
+mask_by_groups class string v mask below = mask_as_class class (in_groups (groups_in class)) v mask below (agrees class string)

@@ -1,5 +1,5 @@
 -- From comparisons of whole vectors to a test of each of their bytes.
-use Rattle.std.proofs.Common.{◌≡◌, ℕ, ◌%◌, ◌^◌, ◌≤◌, ◌<◌, Bool, true, false, ◌||◌, cond, bit_or, refl, List, [], ◌∷◌, map, length, sym, ap, ◌∙◌, arith}
+use Rattle.std.proofs.Common.{◌≡◌, ℕ, ◌%◌, ◌^◌, ◌≤◌, ◌<◌, Bool, true, false, ◌||◌, cond, bit_or, refl, List, [], ◌∷◌, map, length, ap, ◌∙◌, arith}
 use Rattle.std.proofs.lemmas.Bool.{agree_below, agree_below_at}
 use Rattle.std.proofs.lemmas.List.{length-map}
 use Rattle.std.proofs.lemmas.Simd.{map-map, mask_l-mod}
@@ -7,17 +7,10 @@ use Rattle.std.specs.Simd.Lanes.{Each1, mask_l, top}
 use Rattle.hesc_specs.specs.Text.Classes.{in_class}
 use Rattle.hesc_specs.specs.declared.classes.Class.{Class}
 
-agree-map : (f g : ℕ → Bool) (v : List ℕ) → Each1 (λ b. b < 256) v → agree_below f g 256 ≡ true → map f v ≡ map g v
-agree-map f g [] below all = λ i. []
-agree-map f g (b ∷ v) below all = λ i. agree_below_at f g 256 b all below.0 i ∷ agree-map f g v below.1 all i
-
--- the mask of comparisons that agree with a class at each of the 256 bytes
-pub mask_of : (class named : Class) (f : ℕ → ℕ) (v compared : List ℕ) → class ≡ named → length v ≡ 32 → Each1 (λ b. b < 256) v → compared ≡ map f v
-    → agree_below (λ b. top 7 (f b)) (in_class named) 256 ≡ true → mask_l (map (top 7) compared) % 2 ^ 64 ≡ mask_l (map (in_class class) v)
-mask_of class named f v compared same long below each all =
-    ap (λ l. mask_l l % 2 ^ 64) (ap (map (top 7)) each ∙ map-map (top 7) f v ∙ agree-map (λ b. top 7 (f b)) (in_class named) v below all)
-    ∙ mask_l-mod (map (in_class named) v) 64 (omega (arith, length-map v (in_class named)))
-    ∙ ap (λ k. mask_l (map (in_class k) v)) (sym same)
+-- lists by two functions are the same that agree at each of the 256 bytes
+pub same_below : {X : Type 0} (f g : ℕ → X) (v : List ℕ) → Each1 (λ b. b < 256) v → ((b : ℕ) → b < 256 → f b ≡ g b) → map f v ≡ map g v
+same_below f g [] below all = λ i. []
+same_below f g (b ∷ v) below all = λ i. all b below.0 i ∷ same_below f g v below.1 all i
 
 -- the mask of comparisons that agree with a test at each byte
 pub mask_by : (test : ℕ → Bool) (f : ℕ → ℕ) (v compared : List ℕ) → length v ≤ 64 → compared ≡ map f v → ((b : ℕ) → top 7 (f b) ≡ test b)
@@ -37,7 +30,7 @@ either_set false true = refl
 either_set false false = refl
 
 -- a mask by a test that agrees with a class at each of the 256 bytes
-pub mask_as_class : (class named : Class) (test : ℕ → Bool) (v : List ℕ) (mask : ℕ) → class ≡ named → Each1 (λ b. b < 256) v
-    → agree_below test (in_class named) 256 ≡ true → mask ≡ mask_l (map test v) → mask ≡ mask_l (map (in_class class) v)
-mask_as_class class named test v mask same below all is =
-    is ∙ ap mask_l (agree-map test (in_class named) v below all) ∙ ap (λ k. mask_l (map (in_class k) v)) (sym same)
+pub mask_as_class : (class : Class) (test : ℕ → Bool) (v : List ℕ) (mask : ℕ) → Each1 (λ b. b < 256) v
+    → agree_below test (in_class class) 256 ≡ true → mask ≡ mask_l (map test v) → mask ≡ mask_l (map (in_class class) v)
+mask_as_class class test v mask below all is =
+    is ∙ ap mask_l (same_below test (in_class class) v below (λ b small. agree_below_at test (in_class class) 256 b all small))

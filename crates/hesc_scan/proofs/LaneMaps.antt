@@ -7,12 +7,12 @@ use Rattle.std.proofs.lemmas.Simd.{sum_bound}
 use Rattle.std.specs.List.{sum_by}
 use Rattle.std.specs.Prelude.{nat_le}
 use Rattle.std.specs.Simd.Lanes.{Each1, sum_l, top}
+use Rattle.hesc_scan.proofs.LaneLemmas.{same_below}
 use lib.Lanes.{sel_l}
 
 -- two lanes are the same that agree at each of the 256 bytes
 pub same_lanes : (f g : ℕ → ℕ) (v : List ℕ) → Each1 (λ b. b < 256) v → agree_below (λ b. f b == g b) (λ _. true) 256 ≡ true → map f v ≡ map g v
-same_lanes f g [] below all = λ i. []
-same_lanes f g (b ∷ v) below all = λ i. eqb-true _ _ (agree_below_at (λ k. f k == g k) (λ _. true) 256 b all below.0) i ∷ same_lanes f g v below.1 all i
+same_lanes f g v below all = same_below f g v below (λ b small. eqb-true _ _ (agree_below_at (λ k. f k == g k) (λ _. true) 256 b all small))
 
 selected_maps : (mask f g : ℕ → ℕ) (v : List ℕ) → sel_l (map (top 7) (map mask v)) (map f v) (map g v) ≡ map (λ b. cond (top 7 (mask b)) (f b) (g b)) v
 selected_maps mask f g [] = λ i. []

@@ -15,6 +15,7 @@ by_high b = slice_index BY_HIGH_NIBBLE (b / 16)
 abbrev pub wanted_of : ℕ → ℕ → ℕ
 wanted_of wanted b = bit_and (bit_and (by_low b) (by_high b)) wanted
 
+-- the byte is in one of the wanted groups
 abbrev pub in_groups : ℕ → ℕ → Bool
 in_groups wanted b = not (wanted_of wanted b == 0)
 

@@ -13,7 +13,7 @@ pub overflow_add-result : goal.overflow_add-result
 overflow_add-result g c =
     let kept = c.kept-kept.result in
     subst (Steps (λ s x. Fits w16 (s + x)) (λ s x. s + x) 0) (sym (map-id kept))
-    (sum_fits w16 0 kept (omega (arith, sum_bound 5 kept (c.kept-kept.ensures.few 5 c.of_lanes.ensures.few), c.kept-kept.type_inv.0)))
+    (sum_fits w16 0 kept (omega (arith, sum_bound 5 kept (c.kept-kept.ensures.few 5 c.of_lanes.ensures.few))))
 
 pub returns : goal.returns
 returns g c =
