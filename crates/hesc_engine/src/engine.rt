@@ -1,9 +1,13 @@
 //! The engine: each piece of a rule's text goes to a sink.
 ghost use Rattle.std.specs.Prelude.{◌≡◌, ◌≢◌, ◌≤◌, ◌<◌, ◌+◌, [], ◌++◌, length, IsOk, OnOk, OnErr};
+ghost use Rattle.std.specs.Str.{IsCharBoundary};
 ghost use Rattle.hesc_specs.specs.Text.Beginning.{TookBeginning};
+ghost use Rattle.hesc_specs.specs.Text.Changes.{applied};
 ghost use Rattle.hesc_specs.specs.Text.Parts.{joined};
+ghost use Rattle.hesc_engine.specs.Ahead.{IsAhead};
 ghost use Rattle.hesc_engine.specs.Pieces.{IsBeforeRest, parts_left};
 
+use crate::ahead::Ahead;
 use crate::forms::made::Made;
 use crate::pieces::Pieces;
 use crate::rule::Rule;
@@ -30,7 +34,7 @@ pub fn run<R: Rule, S: Sink>(rule: &R, text: &str, sink: &mut S) -> Result<(), S
     ensures same_reference { S.reference sink.new ≡ S.reference sink.old }
     ensures same_before { S.before sink.new ≡ S.before sink.old }
 {
-    put_left(&mut Pieces::new(rule, text), sink)
+    run_from(rule, text, 0, Ahead::nothing(text), sink)
 }
 
 /// The same of a text whose first change was found.
@@ -52,9 +56,43 @@ pub fn run_made<R: Rule, S: Sink>(made: &Made<'_, R>, sink: &mut S) -> Result<()
     ensures same_reference { S.reference sink.new ≡ S.reference sink.old }
     ensures same_before { S.before sink.new ≡ S.before sink.old }
 {
-    let (segment, mut pieces) = Pieces::after_first(made.rule, made.text, made.first, made.ahead);
-    sink.put_segment(segment)?;
-    put_left(&mut pieces, sink)
+    // What the rest takes is read first, so that it stays in registers.
+    let (rule, text, from, ahead) = (made.rule, made.text, made.first.end, made.ahead);
+    sink.put_segment(made.first_segment())?;
+    run_from(rule, text, from, ahead, sink)
+}
+
+/// Hands what `rule` makes of `text` from `from` on, a character boundary, to the sink, where something
+/// is known of the bytes ahead.
+///
+/// Of the encoder of text and `a<b` from 1 the sink takes `&lt;b`.
+#[inline(always)]
+pub fn run_from<R: Rule, S: Sink>(
+    rule: &R,
+    text: &str,
+    from: usize,
+    ahead: Ahead,
+    sink: &mut S,
+) -> Result<(), S::Fault>
+    requires boundary { IsCharBoundary text.now from }
+    requires ahead { IsAhead (R.is_sought rule.now) text.now ahead }
+    ensures ok_taken { OnOk result (S.taken sink.new ≡ S.taken sink.old
+        ++ applied text.now from (R.changes_from rule.now text.now from)) }
+    ensures ok_failures { OnOk result (S.failures sink.new ≡ S.failures sink.old) }
+    ensures err_taken { OnErr result (TookBeginning (S.taken sink.old) (S.taken sink.new)
+        (applied text.now from (R.changes_from rule.now text.now from))) }
+    ensures err_failures { OnErr result (S.failures sink.old < S.failures sink.new) }
+    ensures fits { length (applied text.now from (R.changes_from rule.now text.now from))
+        ≤ S.room sink.old → IsOk result }
+    ensures room { OnOk result (S.room sink.old ≤ S.room sink.new
+        + length (applied text.now from (R.changes_from rule.now text.now from))) }
+    ensures same_reference { S.reference sink.new ≡ S.reference sink.old }
+    ensures same_before { S.before sink.new ≡ S.before sink.old }
+{
+    match rule.dispatch(text, from, ahead, sink) {
+        Some(outcome) => outcome,
+        None => put_left(&mut Pieces::from_place(rule, text, from, ahead), sink),
+    }
 }
 
 // Hands all segments that are left to the sink.

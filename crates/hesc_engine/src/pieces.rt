@@ -66,8 +66,8 @@ impl<'t, R: Rule> Pieces<'t, R> {
       IfSome,
       None,
     };
+    ghost use Rattle.hesc_specs.specs.Text.Changes.{applied};
     ghost use Rattle.hesc_specs.specs.Text.Parts.{joined, parts, renewed};
-    ghost use Rattle.hesc_engine.specs.Next.{IsNext};
     ghost use Rattle.hesc_engine.specs.Pieces.{
       IsAtSegment,
       IsBeforeRest,
@@ -77,7 +77,7 @@ impl<'t, R: Rule> Pieces<'t, R> {
       stretch_of,
       segments_left,
     };
-    ghost use Rattle.hesc_sinks.specs.Text.{replacement_bytes, segment_bytes};
+    ghost use Rattle.hesc_sinks.specs.Text.{replacement_bytes};
 
     /// The pieces of what `rule` makes of `text`.
     ///
@@ -92,50 +92,29 @@ impl<'t, R: Rule> Pieces<'t, R> {
         ensures at_segment { IsAtSegment result }
         ensures before_rest { IsBeforeRest result }
     {
-        Pieces::knowing(rule, text, Ahead::nothing(text))
+        Pieces::from_place(rule, text, 0, Ahead::nothing(text))
     }
 
-    /// The same, where something is known of the first bytes.
+    /// The pieces from `from` on, a character boundary, where something is known of the bytes ahead.
     #[inline(always)]
-    fn knowing(rule: &'t R, text: &'t str, ahead: Ahead) -> Pieces<'t, R>
-        requires { IsAhead (R.is_sought rule.now) text.now ahead }
-        ensures pieces { parts_left result ≡ parts text.now 0 (R.changes_from rule.now text.now 0) }
-        ensures joined { joined (parts text.now 0 (R.changes_from rule.now text.now 0))
-            ≡ R.made rule.now text.now }
-        ensures few { length (parts text.now 0 (R.changes_from rule.now text.now 0))
-            ≤ 2 * length (R.changes_from rule.now text.now 0) + 1 }
-        ensures begins { (found : Found) → IsNext text.now 0 (R.changes_from rule.now text.now) found
-            → IsFoundNext result found }
+    pub(crate) fn from_place(rule: &'t R, text: &'t str, from: usize, ahead: Ahead) -> Pieces<'t, R>
+        requires boundary { IsCharBoundary text.now from }
+        requires ahead { IsAhead (R.is_sought rule.now) text.now ahead }
+        ensures pieces { parts_left result
+            ≡ parts text.now from (R.changes_from rule.now text.now from) }
+        ensures joined { joined (parts_left result)
+            ≡ applied text.now from (R.changes_from rule.now text.now from) }
         ensures at_segment { IsAtSegment result }
         ensures before_rest { IsBeforeRest result }
     {
         Pieces {
             rule,
             text,
-            from: 0,
+            from,
             pending: None,
             is_done: false,
             ahead,
         }
-    }
-
-    /// The segment of the first change, which was found, and the pieces after it.
-    #[inline(always)]
-    pub(crate) fn after_first(
-        rule: &'t R,
-        text: &'t str,
-        first: Found<'t>,
-        ahead: Ahead,
-    ) -> (Segment<'t>, Pieces<'t, R>)
-        requires first { IsNext text.now 0 (R.changes_from rule.now text.now) first }
-        requires ahead { IsAhead (R.is_sought rule.now) text.now ahead }
-        ensures made { R.made rule.now text.now
-            ≡ segment_bytes result.0 ++ joined (parts_left result.1) }
-        ensures before_rest { IsBeforeRest result.1 }
-    {
-        let mut pieces = Pieces::knowing(rule, text, ahead);
-        let segment = pieces.segment_before(first);
-        (segment, pieces)
     }
 
     /// The next change and the stretch before it, or at last the stretch after all changes. `None`

@@ -1,12 +1,14 @@
 //! Rules: an operation as the changes that it makes, one after another.
-ghost use Rattle.std.specs.Prelude.{◌≡◌, ◌≤◌, ◌<◌, ◌^◌, ℕ, Bool, List, [], false, length, IfNone, IfSome, IsSome};
+ghost use Rattle.std.specs.Prelude.{◌≡◌, ◌≤◌, ◌<◌, ◌^◌, ◌+◌, ℕ, Bool, List, [], ◌++◌, false, length, IfNone, IfSome, IsOk, IsSome, OnErr, OnOk};
 ghost use Rattle.std.specs.Str.{IsCharBoundary, IsUtf8};
+ghost use Rattle.hesc_specs.specs.Text.Beginning.{TookBeginning};
 ghost use Rattle.hesc_specs.specs.Text.Changes.{Change, applied};
 ghost use Rattle.hesc_engine.specs.Ahead.{IsAhead};
 ghost use Rattle.hesc_engine.specs.Next.{IsNext};
 
 use crate::ahead::Ahead;
 use hesc_sinks::found::Found;
+use hesc_sinks::sink::Sink;
 
 /// An operation on texts. It holds no state and takes no memory.
 ///
@@ -95,6 +97,41 @@ pub trait Rule {
         ensures empty { IfSome result (λ longest. made self.now text.now ≡ [] → longest ≡ 0) }
     {
         self.bound(text)
+    }
+
+    /// Where the rule stands for another one, such as an encoder by its name: runs that one from `from`
+    /// on, a character boundary, so that it is chosen once and not for each change. `None` where it
+    /// stands for itself.
+    ///
+    /// Of the encoder of text by its name, in `a<b` from 1, the sink takes `&lt;b`.
+    #[inline(always)]
+    fn dispatch<S: Sink>(
+        &self,
+        text: &str,
+        from: usize,
+        ahead: Ahead,
+        sink: &mut S,
+    ) -> Option<Result<(), S::Fault>>
+        requires boundary { IsCharBoundary text.now from }
+        requires ahead { IsAhead (is_sought self.now) text.now ahead }
+        ensures none { IfNone result (sink.new ≡ sink.old) }
+        ensures ok_taken { IfSome result (λ outcome. OnOk outcome (S.taken sink.new
+            ≡ S.taken sink.old ++ applied text.now from (changes_from self.now text.now from))) }
+        ensures ok_failures { IfSome result
+            (λ outcome. OnOk outcome (S.failures sink.new ≡ S.failures sink.old)) }
+        ensures err_taken { IfSome result (λ outcome. OnErr outcome
+            (TookBeginning (S.taken sink.old) (S.taken sink.new)
+            (applied text.now from (changes_from self.now text.now from)))) }
+        ensures err_failures { IfSome result
+            (λ outcome. OnErr outcome (S.failures sink.old < S.failures sink.new)) }
+        ensures fits { length (applied text.now from (changes_from self.now text.now from))
+            ≤ S.room sink.old → IfSome result (λ outcome. IsOk outcome) }
+        ensures room { IfSome result (λ outcome. OnOk outcome (S.room sink.old ≤ S.room sink.new
+            + length (applied text.now from (changes_from self.now text.now from)))) }
+        ensures same_reference { S.reference sink.new ≡ S.reference sink.old }
+        ensures same_before { S.before sink.new ≡ S.before sink.old }
+    {
+        None
     }
 
     // The changes, made, are the rule's text.

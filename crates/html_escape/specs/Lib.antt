@@ -1,5 +1,6 @@
 pub mod Encoders
 pub mod Replaced
+pub mod Restored
 pub mod Decoders
 pub mod Operations
 pub mod Held

@@ -9,12 +9,14 @@ ghost use Rattle.html_escape.specs.Decoders.{
   decoder_sought,
   decoder_text,
 };
+ghost use Rattle.html_escape.specs.Restored.{restored_changes, restored_sought, restored_text};
 
-use hesc_core::rules::next_body_unescape;
 use hesc_core::rules::references::next_references_ahead;
 use hesc_core::rules::unescape::next_unescape_ahead;
-use hesc_core::{Class, Element, EntityTable, Found, Rule};
+use hesc_core::rules::{DecodeScript, DecodeStyle, References, Unescape, next_body_unescape};
+use hesc_core::{Class, Element, EntityTable, Found, Rule, Sink};
 use hesc_engine::ahead::Ahead;
+use hesc_engine::engine::run_from;
 
 /// A decoder by its name.
 #[derive(Clone, Copy, Debug, PartialEq, Eq)]
@@ -54,12 +56,60 @@ impl Rule for Decoder {
         next_decoded_ahead(*self, text, from, ahead)
     }
 
+    fn dispatch<S: Sink>(
+        &self,
+        text: &str,
+        from: usize,
+        ahead: Ahead,
+        sink: &mut S,
+    ) -> Option<Result<(), S::Fault>> {
+        Some(match restored_by(*self) {
+            Restored::References => {
+                let table = EntityTable::built_in();
+                run_from(&References(&table), text, from, ahead, sink)
+            }
+            Restored::Openings(Element::Script) => {
+                run_from(&DecodeScript, text, from, ahead, sink)
+            }
+            Restored::Openings(Element::Style) => run_from(&DecodeStyle, text, from, ahead, sink),
+            Restored::Characters(class) => run_from(&Unescape(class), text, from, ahead, sink),
+        })
+    }
+
     /// The source's length: no decoder lengthens a text.
     fn bound(&self, text: &str) -> Option<usize> {
         Some(text.len())
     }
 
     ghost makes = { λ decoder source _. applied-decoder_changes decoder source };
+}
+
+// What a decoder restores: characters from references, the openings of a body, or the characters of
+// a class.
+#[derive(Clone, Copy)]
+enum Restored {
+    References,
+    Openings(Element),
+    Characters(Class),
+}
+
+// What the decoder restores.
+fn restored_by(decoder: Decoder) -> Restored
+    ensures text { decoder_text decoder ≡ restored_text result }
+    ensures changes { decoder_changes decoder ≡ restored_changes result }
+    ensures sought { decoder_sought decoder ≡ restored_sought result }
+{
+    match decoder {
+        Decoder::HtmlEntities => Restored::References,
+        Decoder::Script => Restored::Openings(Element::Script),
+        Decoder::Style => Restored::Openings(Element::Style),
+        Decoder::ScriptSingleQuoted => Restored::Characters(Class::ScriptSingleQuoted),
+        Decoder::ScriptDoubleQuoted => Restored::Characters(Class::ScriptDoubleQuoted),
+        Decoder::ScriptQuoted => Restored::Characters(Class::ScriptQuoted),
+        Decoder::StyleSingleQuoted => Restored::Characters(Class::StyleSingleQuoted),
+        Decoder::StyleDoubleQuoted => Restored::Characters(Class::StyleDoubleQuoted),
+        Decoder::StyleQuoted => Restored::Characters(Class::StyleQuoted),
+    }
 }
 
 /// The first change of the decoder at or after `from`, a character boundary, where a string
@@ -88,35 +138,9 @@ fn next_decoded_ahead(
     ensures found { IfSome result (IsNext text.now from (decoder_changes decoder text.now)) }
     ensures ahead { IsAhead (decoder_sought decoder) text.now ahead.new }
 {
-    match decoder {
-        Decoder::HtmlEntities => next_references_ahead(&EntityTable::built_in(), text, from, ahead),
-        Decoder::Script => next_body_unescape(Element::Script, text, from),
-        Decoder::Style => next_body_unescape(Element::Style, text, from),
-        Decoder::ScriptSingleQuoted => next_unescape_ahead(
-            Class::ScriptSingleQuoted,
-            text,
-            from,
-            ahead,
-        ),
-        Decoder::ScriptDoubleQuoted => next_unescape_ahead(
-            Class::ScriptDoubleQuoted,
-            text,
-            from,
-            ahead,
-        ),
-        Decoder::ScriptQuoted => next_unescape_ahead(Class::ScriptQuoted, text, from, ahead),
-        Decoder::StyleSingleQuoted => next_unescape_ahead(
-            Class::StyleSingleQuoted,
-            text,
-            from,
-            ahead,
-        ),
-        Decoder::StyleDoubleQuoted => next_unescape_ahead(
-            Class::StyleDoubleQuoted,
-            text,
-            from,
-            ahead,
-        ),
-        Decoder::StyleQuoted => next_unescape_ahead(Class::StyleQuoted, text, from, ahead),
+    match restored_by(decoder) {
+        Restored::References => next_references_ahead(&EntityTable::built_in(), text, from, ahead),
+        Restored::Openings(element) => next_body_unescape(element, text, from),
+        Restored::Characters(class) => next_unescape_ahead(class, text, from, ahead),
     }
 }

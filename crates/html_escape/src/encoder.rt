@@ -1,5 +1,5 @@
 //! The encoders by name.
-ghost use Rattle.std.specs.Prelude.{◌≡◌, ℕ, List, [], IfNone, IfSome};
+ghost use Rattle.std.specs.Prelude.{◌≡◌, [], IfNone, IfSome};
 ghost use Rattle.std.specs.Str.{IsCharBoundary};
 ghost use Rattle.hesc_engine.specs.Ahead.{IsAhead};
 ghost use Rattle.hesc_engine.specs.Next.{IsNext};
@@ -12,9 +12,10 @@ ghost use Rattle.html_escape.specs.Encoders.{
 ghost use Rattle.html_escape.specs.Replaced.{replaced_changes, replaced_sought, replaced_text};
 
 use hesc_core::rules::escape::next_escape_ahead;
-use hesc_core::rules::{Escape, next_body_escape};
-use hesc_core::{Class, Element, Found, Rule};
+use hesc_core::rules::{EncodeScript, EncodeStyle, Escape, next_body_escape};
+use hesc_core::{Class, Element, Found, Rule, Sink};
 use hesc_engine::ahead::Ahead;
+use hesc_engine::engine::run_from;
 use hesc_scan::length::{body_bound, longest_body};
 
 /// An encoder by its name.
@@ -67,6 +68,22 @@ impl Rule for Encoder {
         next_encoded_ahead(*self, text, from, ahead)
     }
 
+    fn dispatch<S: Sink>(
+        &self,
+        text: &str,
+        from: usize,
+        ahead: Ahead,
+        sink: &mut S,
+    ) -> Option<Result<(), S::Fault>> {
+        Some(match replaced_by(*self) {
+            Replaced::Characters(class) => run_from(&Escape(class), text, from, ahead, sink),
+            Replaced::Openings(Element::Script) => {
+                run_from(&EncodeScript, text, from, ahead, sink)
+            }
+            Replaced::Openings(Element::Style) => run_from(&EncodeStyle, text, from, ahead, sink),
+        })
+    }
+
     // That of the rule that the name stands for.
     fn total(&self, text: &str) -> Option<usize> {
         match replaced_by(*self) {
@@ -101,9 +118,8 @@ enum Replaced {
 
 // What the encoder replaces.
 fn replaced_by(encoder: Encoder) -> Replaced
-    ensures text { (text : List ℕ) → encoded encoder text ≡ replaced_text result text }
-    ensures changes { (text : List ℕ) (from : ℕ) →
-        encoder_changes encoder text from ≡ replaced_changes result text from }
+    ensures text { encoded encoder ≡ replaced_text result }
+    ensures changes { encoder_changes encoder ≡ replaced_changes result }
     ensures sought { encoder_sought encoder ≡ replaced_sought result }
 {
     match encoder {

@@ -11,8 +11,9 @@ ghost use Rattle.html_escape.specs.Operations.{
 
 use crate::decoder::{Decoder, next_decoded};
 use crate::encoder::{Encoder, next_encoded};
-use hesc_core::{Found, Pieces, Rule};
+use hesc_core::{Found, Pieces, Rule, Sink};
 use hesc_engine::ahead::Ahead;
+use hesc_engine::engine::run_from;
 
 /// An operation: an encoder or a decoder. References are decoded by the built-in table.
 #[derive(Clone, Copy, Debug, PartialEq, Eq)]
@@ -40,6 +41,19 @@ impl Rule for Operation {
             Operation::Encode(encoder) => encoder.next_ahead(text, from, ahead),
             Operation::Decode(decoder) => decoder.next_ahead(text, from, ahead),
         }
+    }
+
+    fn dispatch<S: Sink>(
+        &self,
+        text: &str,
+        from: usize,
+        ahead: Ahead,
+        sink: &mut S,
+    ) -> Option<Result<(), S::Fault>> {
+        Some(match self {
+            Operation::Encode(encoder) => run_from(encoder, text, from, ahead, sink),
+            Operation::Decode(decoder) => run_from(decoder, text, from, ahead, sink),
+        })
     }
 
     fn total(&self, text: &str) -> Option<usize> {

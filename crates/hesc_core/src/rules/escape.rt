@@ -7,12 +7,14 @@ ghost use Rattle.hesc_specs.proofs.Text.EscapeChanges.{applied-escape_changes};
 ghost use Rattle.hesc_engine.specs.Ahead.{IsAhead};
 ghost use Rattle.hesc_engine.specs.Next.{IsNext};
 
-use crate::rules::html::escape::{next_html_escape, next_html_escape_ahead};
+use crate::rules::html::escape::{HtmlEscape, next_html_escape, next_html_escape_ahead};
 use crate::rules::strings::classes::string_class;
-use crate::rules::strings::escape::{next_string_escape, next_string_escape_ahead};
+use crate::rules::strings::escape::{StringEscape, next_string_escape, next_string_escape_ahead};
 use hesc_engine::ahead::Ahead;
+use hesc_engine::engine::run_from;
 use hesc_engine::found::Found;
 use hesc_engine::rule::Rule;
+use hesc_engine::sink::Sink;
 use hesc_scan::length::{encoded_length, longest_escaped, string_bound};
 use hesc_specs::{Class, Element};
 
@@ -35,6 +37,26 @@ impl Rule for Escape {
     #[inline(always)]
     fn next_ahead(&self, text: &str, from: usize, ahead: &mut Ahead) -> Option<Found<'_>> {
         next_escape_ahead(self.0, text, from, ahead)
+    }
+
+    #[inline(always)]
+    fn dispatch<S: Sink>(
+        &self,
+        text: &str,
+        from: usize,
+        ahead: Ahead,
+        sink: &mut S,
+    ) -> Option<Result<(), S::Fault>> {
+        match element_of(self.0) {
+            Some(element) => {
+                let rule = StringEscape {
+                    class: self.0,
+                    element,
+                };
+                Some(run_from(&rule, text, from, ahead, sink))
+            }
+            None => Some(run_from(&HtmlEscape { class: self.0 }, text, from, ahead, sink)),
+        }
     }
 
     // That of an HTML encoding needs no search.

@@ -9,10 +9,12 @@ ghost use Rattle.hesc_engine.specs.Ahead.{IsAhead};
 ghost use Rattle.hesc_engine.specs.Next.{IsNext};
 
 use crate::rules::strings::classes::string_class;
-use crate::rules::strings::unescape::next_string_unescape_ahead;
+use crate::rules::strings::unescape::{StringUnescape, next_string_unescape_ahead};
 use hesc_engine::ahead::Ahead;
+use hesc_engine::engine::run_from;
 use hesc_engine::found::Found;
 use hesc_engine::rule::Rule;
+use hesc_engine::sink::Sink;
 use hesc_specs::Class;
 
 /// The decoder of a class. That of an HTML encoder's class changes nothing.
@@ -34,6 +36,19 @@ impl Rule for Unescape {
     #[inline(always)]
     fn next_ahead(&self, text: &str, from: usize, ahead: &mut Ahead) -> Option<Found<'_>> {
         next_unescape_ahead(self.0, text, from, ahead)
+    }
+
+    #[inline(always)]
+    fn dispatch<S: Sink>(
+        &self,
+        text: &str,
+        from: usize,
+        ahead: Ahead,
+        sink: &mut S,
+    ) -> Option<Result<(), S::Fault>> {
+        let (element, quotes) = string_class(self.0)?;
+        let rule = StringUnescape(element, quotes);
+        Some(run_from(&rule, text, from, ahead, sink))
     }
 
     /// The source's length: no escape is shorter than its character.

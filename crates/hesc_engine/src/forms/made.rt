@@ -8,6 +8,7 @@ use crate::forms::measure::room_for;
 use crate::forms::parts::{Parts, STACK_BOUND};
 use crate::rule::Rule;
 use hesc_sinks::found::Found;
+use hesc_sinks::segment::Segment;
 use hesc_sinks::sink::Sink;
 use hesc_sinks::sinks::counter::CountOverflow;
 
@@ -24,7 +25,9 @@ pub struct Made<'m, R: Rule> {
 }
 
 impl<'m, R: Rule> Made<'m, R> {
-    ghost use Rattle.std.specs.Prelude.{◌≡◌, ◌≢◌, [], IfNone, IfSome};
+    ghost use Rattle.std.specs.Prelude.{◌≡◌, ◌≢◌, [], ◌++◌, IfNone, IfSome};
+    ghost use Rattle.hesc_specs.specs.Text.Changes.{applied};
+    ghost use Rattle.hesc_sinks.specs.Text.{segment_bytes};
 
     /// What `rule` makes of `text`, or `None` where nothing changes.
     ///
@@ -45,6 +48,21 @@ impl<'m, R: Rule> Made<'m, R> {
                 ahead,
             }),
             None => None,
+        }
+    }
+
+    /// The first change and the stretch before it.
+    #[inline(always)]
+    pub(crate) fn first_segment(&self) -> Segment<'m>
+        ensures { R.made self.now.rule.now self.now.text.now ≡ segment_bytes result
+            ++ applied self.now.text.now self.now.first.end
+            (R.changes_from self.now.rule.now self.now.text.now self.now.first.end) }
+    {
+        Segment {
+            start: 0,
+            rest: self.text.as_bytes(),
+            kept: &self.text[..self.first.start],
+            new: self.first.replacement,
         }
     }
 }

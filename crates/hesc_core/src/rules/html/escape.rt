@@ -18,7 +18,7 @@ use hesc_scan::length::{encoded_length, longest_escaped};
 use hesc_scan::scan::first_in;
 use hesc_specs::Class;
 
-/// The encoder of an HTML class. `Escape` takes any class, and asks at each change which kind it is.
+/// The encoder of an HTML class. `Escape` takes any class.
 ///
 /// Of `Class::Text` it changes the byte 1 of `a<b` to `&lt;`.
 #[derive(Clone, Copy)]

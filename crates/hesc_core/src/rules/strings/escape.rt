@@ -27,8 +27,7 @@ use hesc_scan::length::{longest_escaped, string_bound};
 use hesc_scan::scan::{completes_separator, first_escaped};
 use hesc_specs::{Class, Element};
 
-/// The encoder of a string encoder's class, with its element. `Escape` takes any class, and asks at
-/// each change which kind it is.
+/// The encoder of a string encoder's class, with its element. `Escape` takes any class.
 ///
 /// Of `Class::ScriptQuoted` it changes the byte 2 of `it's` to `\'`.
 #[derive(Clone, Copy)]

@@ -18,8 +18,7 @@ use hesc_engine::rule::Rule;
 use hesc_engine::small_text::SmallText;
 use hesc_specs::{Element, Quotes};
 
-/// The decoder of an element's strings with these quote marks. `Unescape` takes any class, and asks
-/// for both at each escape.
+/// The decoder of an element's strings with these quote marks. `Unescape` takes any class.
 ///
 /// Of a script and both marks it changes the bytes 2 to 4 of `it\'s` to `'`.
 #[derive(Clone, Copy)]
