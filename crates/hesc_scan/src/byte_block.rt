@@ -6,7 +6,26 @@ ghost use Rattle.hesc_scan.specs.Blocks.{IsFirstBlock, mask_from};
 use crate::block::Block;
 use crate::find::first_byte_far;
 use crate::lanes::{block_hits_of_one, half_hits_of_one, hits_of_one};
+use crate::lookup::Lookup;
+use crate::scan::{first_by_chunks, first_by_pairs};
 use std::simd::prelude::*;
+
+/// The class of this byte alone.
+#[derive(Clone, Copy)]
+struct OneByte(u8);
+
+impl Lookup for OneByte {
+    ghost has = { λ lookup. is_byte lookup.0 };
+
+    #[inline(always)]
+    fn hits(&self, v: u8x32) -> u64 {
+        hits_of_one(self.0, v)
+    }
+}
+
+/// How far 64 bytes at a time are searched before `memchr` is called, which is faster on long ways and
+/// slower on short ones.
+const NEAR: usize = 256;
 
 /// The mask of the first bytes at or after `from` among which one is this byte, 32 of them or as
 /// many as there are, and the place where they begin. Where there is none, the length and an empty
@@ -26,24 +45,28 @@ pub fn first_byte_block(byte: u8, bytes: &[u8], from: usize) -> (usize, u64)
     if mask != 0 {
         return (from, mask);
     }
-    if bytes.len() - from <= 64 {
-        return last_byte_block(byte, bytes, from + 32);
-    }
-    far_byte_block(byte, bytes, from)
+    later_byte_block(byte, bytes, from + 32)
 }
 
-// Where 32 bytes or fewer are left.
+// A call of its own: most blocks are found among the first bytes.
 #[inline(never)]
-fn last_byte_block(byte: u8, bytes: &[u8], from: usize) -> (usize, u64)
-    requires within { from ≤ length bytes.now }
-    requires few { length bytes.now ≤ from + 32 }
+fn later_byte_block(byte: u8, bytes: &[u8], from: usize) -> (usize, u64)
+    requires { from ≤ length bytes.now }
     ensures { IsFirstBlock (is_byte byte) bytes.now from result.0 result.1 }
 {
-    let mask = mask_of_rest(byte, bytes, from);
-    if mask == 0 {
-        return (bytes.len(), 0);
+    if bytes.len() - from <= 32 {
+        return last_byte_block(byte, bytes, from);
     }
-    (from, mask)
+    let lookup = OneByte(byte);
+    let near = from + (bytes.len() - from).min(NEAR);
+    let (reached, mask) = first_by_pairs(&lookup, bytes, from, near);
+    if mask != 0 {
+        return (reached, mask);
+    }
+    if bytes.len() - reached < 64 {
+        return first_by_chunks(&lookup, bytes, reached);
+    }
+    far_byte_block(byte, bytes, reached)
 }
 
 #[inline(never)]
@@ -68,6 +91,20 @@ fn mask_at(byte: u8, bytes: &[u8], place: usize) -> u64
         return mask_of_rest(byte, bytes, place);
     }
     hits_of_one(byte, u8x32::from_array(chunks[0]))
+}
+
+// Where 32 bytes or fewer are left.
+#[inline(never)]
+fn last_byte_block(byte: u8, bytes: &[u8], from: usize) -> (usize, u64)
+    requires within { from ≤ length bytes.now }
+    requires few { length bytes.now ≤ from + 32 }
+    ensures { IsFirstBlock (is_byte byte) bytes.now from result.0 result.1 }
+{
+    let mask = mask_of_rest(byte, bytes, from);
+    if mask == 0 {
+        return (bytes.len(), 0);
+    }
+    (from, mask)
 }
 
 // Of 32 bytes or fewer.

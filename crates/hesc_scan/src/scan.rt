@@ -86,7 +86,7 @@ fn first_by_lanes<L: Lookup>(lookup: &L, bytes: &[u8], from: usize) -> (usize, u
         if mask != 0 {
             return (from, mask);
         }
-        let (reached, mask) = first_by_pairs(lookup, bytes, from + 32);
+        let (reached, mask) = first_by_pairs(lookup, bytes, from + 32, bytes.len());
         if mask != 0 {
             return (reached, mask);
         }
@@ -95,16 +95,22 @@ fn first_by_lanes<L: Lookup>(lookup: &L, bytes: &[u8], from: usize) -> (usize, u
     first_by_chunks(lookup, bytes, place)
 }
 
-// The same by 64 bytes at a time, as long as there are so many: an empty mask tells that fewer are
-// left.
+/// The same up to `end`, by 64 bytes at a time as long as there are so many: an empty mask tells that
+/// none of these is in the class.
 #[inline(always)]
-fn first_by_pairs<L: Lookup>(lookup: &L, bytes: &[u8], from: usize) -> (usize, u64)
-    requires { from ≤ length bytes.now }
+pub(crate) fn first_by_pairs<L: Lookup>(
+    lookup: &L,
+    bytes: &[u8],
+    from: usize,
+    end: usize,
+) -> (usize, u64)
+    requires ordered { from ≤ end }
+    requires within { end ≤ length bytes.now }
     ensures passed { IsPassed (L.has lookup.now) bytes.now from result.0 }
     ensures mask { result.1 ≢ 0 → result.1 ≡ mask_from (L.has lookup.now) bytes.now result.0 }
 {
     let mut place = from;
-    'pairs: while bytes.len() - place >= 64 {
+    'pairs: while end - place >= 64 {
         let first = lookup.hits(u8x32::from_slice(&bytes[place..]));
         let second = lookup.hits(u8x32::from_slice(&bytes[place + 32..]));
         if first | second != 0 {
@@ -118,8 +124,9 @@ fn first_by_pairs<L: Lookup>(lookup: &L, bytes: &[u8], from: usize) -> (usize, u
     (place, 0)
 }
 
+/// The same by 32 bytes at a time, up to the end.
 #[inline(always)]
-fn first_by_chunks<L: Lookup>(lookup: &L, bytes: &[u8], from: usize) -> (usize, u64)
+pub(crate) fn first_by_chunks<L: Lookup>(lookup: &L, bytes: &[u8], from: usize) -> (usize, u64)
     requires { from ≤ length bytes.now }
     ensures { IsFirstBlock (L.has lookup.now) bytes.now from result.0 result.1 }
 {

@@ -10,10 +10,10 @@ hits_of_one-mask-requires c =
     below_256 c.args.bytes.now _ c.args.from c.type_inv.bytes
     (chunk_stands c.args.bytes.now _ c.args.from c.as_chunks.result.0.now 0 c.requires (slice_rest c.args.bytes.now c.args.from c.requires) chunks.front chunks.front_len (omega (arith, eqb-false _ _ (sym c.if-is_empty.ensures))) c.args.from (omega arith))
 
-pub returns-then-bytes-from-le64 : goal.returns-then-bytes-from-le64
-returns-then-bytes-from-le64 c =
+pub returns : goal.returns
+returns c =
     let chunks = c.as_chunks.ensures in
-    let later = c.last_byte_block-then-bytes-from-le64.ensures in
+    let later = c.later_byte_block.ensures in
     record {
       ordered = omega (arith, later.ordered);
       within = later.within;
