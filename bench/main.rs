@@ -3,6 +3,7 @@
 mod corpora;
 mod ours;
 mod page;
+mod values;
 
 use corpora::Corpus;
 use html_escape as theirs;
@@ -71,6 +72,9 @@ fn main() {
     let wanted: Vec<String> = std::env::args().skip(1).collect();
     if wanted == ["page"] {
         return page::print();
+    }
+    if wanted == ["values"] {
+        return values::print();
     }
     let corpora = corpora::all();
     println!("Their time / ours, at 16 B, 64 B, 1 KB, 16 KB, 16 MB; least of {TURNS} turns.");

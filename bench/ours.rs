@@ -3,6 +3,7 @@
 unsafe extern "C" {
     fn hesc_cow(operation: u32, text: *const u8, length: usize) -> usize;
     fn hesc_string(operation: u32, text: *const u8, length: usize) -> usize;
+    fn hesc_value(operation: u32, text: *const u8, length: usize) -> usize;
     fn hesc_append(operation: u32, times: usize, text: *const u8, length: usize) -> usize;
     fn hesc_copy(
         operation: u32,
@@ -41,6 +42,11 @@ pub fn cow(operation: u32, text: &str) -> usize {
 
 pub fn string(operation: u32, text: &str) -> usize {
     checked(unsafe { hesc_string(operation, text.as_ptr(), text.len()) })
+}
+
+/// By the operation as a value.
+pub fn value(operation: u32, text: &str) -> usize {
+    checked(unsafe { hesc_value(operation, text.as_ptr(), text.len()) })
 }
 
 pub fn append(operation: u32, times: usize, text: &str) -> usize {

@@ -93,6 +93,20 @@ pub extern "C" fn hesc_string(alloc: Global, number: u32, text: &[u8]) -> usize
     }
 }
 
+/// Appends to a new string by the operation as a value.
+#[unsafe(no_mangle)]
+pub extern "C" fn hesc_value(alloc: Global, number: u32, text: &[u8]) -> usize
+    requires { IsUtf8 text.now }
+    ensures length { AnswersLength (operation_of number) text.now result }
+    ensures empty { AnswersEmpty (operation_of number) text.now result }
+{
+    let Some(operation) = measured(number) else {
+        return REFUSED;
+    };
+    let text = unsafe { str::from_utf8_unchecked(text) };
+    string::by_value(alloc, operation, text)
+}
+
 /// Appends so many times to one output, which grows, and answers the sum of the parts' lengths.
 #[unsafe(no_mangle)]
 pub extern "C" fn hesc_append(alloc: Global, number: u32, times: usize, text: &[u8]) -> usize

@@ -1,9 +1,10 @@
 //! How long each operation's part of a new string is. Each is a function of its own, so that a call
 //! costs what the operation does.
-ghost use Rattle.std.specs.Prelude.{◌≡◌, MatchResult, length};
+ghost use Rattle.std.specs.Prelude.{◌≡◌, MatchResult, Some, length};
 ghost use Rattle.hesc_speed.specs.Measured.{AnswersEmpty, AnswersLength, operation_of, refused};
 
 use crate::REFUSED;
+use html_escape::Operation;
 use std::alloc::{AllocError, Global};
 
 #[inline(never)]
@@ -85,6 +86,16 @@ pub(crate) fn decode_script_quoted_text(alloc: Global, text: &str) -> usize
 {
     let mut output = String::new(alloc);
     length_of(html_escape::decode_script_quoted_text_to_string(text, &mut output))
+}
+
+/// The same by the operation as a value.
+#[inline(never)]
+pub(crate) fn by_value(alloc: Global, operation: Operation, text: &str) -> usize
+    ensures length { AnswersLength (Some operation) text.now result }
+    ensures empty { AnswersEmpty (Some operation) text.now result }
+{
+    let mut output = String::new(alloc);
+    length_of(html_escape::append(&mut output, &operation, text))
 }
 
 #[inline(always)]
