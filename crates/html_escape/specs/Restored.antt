@@ -1,21 +1,14 @@
--- What a decoder of references, of openings or of the characters of a class reads from a text, and where it changes it.
+-- Where a decoder of references, of openings or of the characters of a class changes a text.
 use Rattle.std.specs.Prelude.{ℕ, Bool, false, List}
 use Rattle.memchr.specs.Find.{is_byte}
-use Rattle.hesc_specs.specs.Bodies.Encoding.{body_decoding}
 use Rattle.hesc_specs.specs.Bodies.Changes.{body_decoding_changes}
 use Rattle.hesc_specs.specs.References.Changes.{reference_changes}
-use Rattle.hesc_specs.specs.References.Decoding.{decoded}
 use Rattle.hesc_specs.specs.Text.Ascii.{ampersand, backslash}
 use Rattle.hesc_specs.specs.Text.Changes.{Change}
-use Rattle.hesc_specs.specs.Text.Escaped.{unescape_changes, unescaped}
+use Rattle.hesc_specs.specs.Text.Escaped.{unescape_changes}
 use Rattle.hesc_table.specs.NamedRows.{named_rows}
 use Rattle.html_escape.specs.declared.decoder.Restored.{Restored}
 use Rattle.html_escape.specs.declared.decoder.Restored.TheVariants.{Characters, Openings, References}
-
-abbrev pub restored_text : Restored → List ℕ → List ℕ
-restored_text References = decoded named_rows
-restored_text (Openings element) = body_decoding element
-restored_text (Characters class) = unescaped class
 
 abbrev pub restored_changes : Restored → List ℕ → ℕ → List Change
 restored_changes References = reference_changes named_rows

@@ -9,7 +9,7 @@ ghost use Rattle.html_escape.specs.Decoders.{
   decoder_sought,
   decoder_text,
 };
-ghost use Rattle.html_escape.specs.Restored.{restored_changes, restored_sought, restored_text};
+ghost use Rattle.html_escape.specs.Restored.{restored_changes, restored_sought};
 
 use hesc_core::rules::references::next_references_ahead;
 use hesc_core::rules::unescape::next_unescape_ahead;
@@ -95,7 +95,6 @@ enum Restored {
 
 // What the decoder restores.
 fn restored_by(decoder: Decoder) -> Restored
-    ensures text { decoder_text decoder ≡ restored_text result }
     ensures changes { decoder_changes decoder ≡ restored_changes result }
     ensures sought { decoder_sought decoder ≡ restored_sought result }
 {

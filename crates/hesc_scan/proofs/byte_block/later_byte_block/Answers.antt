@@ -1,4 +1,3 @@
-use Rattle.std.proofs.Common.{arith}
 use Rattle.memchr.specs.Find.{is_byte}
 use Rattle.hesc_scan.proofs.ChunkSearch.{first_block_from}
 use Rattle.hesc_scan.proofs.byte_block.later_byte_block.Goals as goal
