@@ -75,6 +75,7 @@ pub fn decode_html_entities_to_writer<W: Write>(text: &str, output: &mut W) -> R
     to_writer(&References(&EntityTable::built_in()), text, output)
 }
 
+#[inline(always)]
 fn decode_html_entities_onto_string<'o, A: Allocator>(
     output: &'o mut String<A>,
     text: &str,
@@ -87,6 +88,7 @@ fn decode_html_entities_onto_string<'o, A: Allocator>(
     onto_string(output, &References(&EntityTable::built_in()), text)
 }
 
+#[inline(always)]
 fn decode_html_entities_onto_vec<'o, A: Allocator>(
     output: &'o mut Vec<u8, A>,
     text: &str,
@@ -172,6 +174,7 @@ pub fn decode_html_entities_with_to_writer<W: Write>(
 }
 
 // The table is lent again, since the answer borrows from `output` alone.
+#[inline(always)]
 fn decode_html_entities_with_onto_string<'o, A: Allocator>(
     output: &'o mut String<A>,
     table: &EntityTable<'_>,
@@ -186,6 +189,7 @@ fn decode_html_entities_with_onto_string<'o, A: Allocator>(
 }
 
 // The table is lent again, since the answer borrows from `output` alone.
+#[inline(always)]
 fn decode_html_entities_with_onto_vec<'o, A: Allocator>(
     output: &'o mut Vec<u8, A>,
     table: &EntityTable<'_>,

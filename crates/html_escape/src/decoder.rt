@@ -48,14 +48,17 @@ impl Rule for Decoder {
 
     ghost is_sought = { decoder_sought };
 
+    #[inline(always)]
     fn next(&self, text: &str, from: usize) -> Option<Found<'_>> {
         next_decoded(*self, text, from)
     }
 
+    #[inline(always)]
     fn next_ahead(&self, text: &str, from: usize, ahead: &mut Ahead) -> Option<Found<'_>> {
         next_decoded_ahead(*self, text, from, ahead)
     }
 
+    #[inline(always)]
     fn dispatch<S: Sink>(
         &self,
         text: &str,
@@ -77,6 +80,7 @@ impl Rule for Decoder {
     }
 
     /// The source's length: no decoder lengthens a text.
+    #[inline(always)]
     fn bound(&self, text: &str) -> Option<usize> {
         Some(text.len())
     }

@@ -60,14 +60,17 @@ impl Rule for Encoder {
 
     ghost is_sought = { encoder_sought };
 
+    #[inline(always)]
     fn next(&self, text: &str, from: usize) -> Option<Found<'_>> {
         next_encoded(*self, text, from)
     }
 
+    #[inline(always)]
     fn next_ahead(&self, text: &str, from: usize, ahead: &mut Ahead) -> Option<Found<'_>> {
         next_encoded_ahead(*self, text, from, ahead)
     }
 
+    #[inline(always)]
     fn dispatch<S: Sink>(
         &self,
         text: &str,
@@ -85,6 +88,7 @@ impl Rule for Encoder {
     }
 
     // That of the rule that the name stands for.
+    #[inline(always)]
     fn total(&self, text: &str) -> Option<usize> {
         match replaced_by(*self) {
             Replaced::Characters(class) => Escape(class).total(text),
@@ -92,6 +96,7 @@ impl Rule for Encoder {
         }
     }
 
+    #[inline(always)]
     fn bound(&self, text: &str) -> Option<usize> {
         match replaced_by(*self) {
             Replaced::Characters(class) => Escape(class).bound(text),
@@ -99,6 +104,7 @@ impl Rule for Encoder {
         }
     }
 
+    #[inline(always)]
     fn longest(&self, text: &str) -> Option<usize> {
         match replaced_by(*self) {
             Replaced::Characters(class) => Escape(class).longest(text),

@@ -29,6 +29,7 @@ impl Rule for Operation {
 
     ghost is_sought = { operation_sought };
 
+    #[inline(always)]
     fn next(&self, text: &str, from: usize) -> Option<Found<'_>> {
         match *self {
             Operation::Encode(encoder) => next_encoded(encoder, text, from),
@@ -36,6 +37,7 @@ impl Rule for Operation {
         }
     }
 
+    #[inline(always)]
     fn next_ahead(&self, text: &str, from: usize, ahead: &mut Ahead) -> Option<Found<'_>> {
         match self {
             Operation::Encode(encoder) => encoder.next_ahead(text, from, ahead),
@@ -43,6 +45,7 @@ impl Rule for Operation {
         }
     }
 
+    #[inline(always)]
     fn dispatch<S: Sink>(
         &self,
         text: &str,
@@ -56,6 +59,7 @@ impl Rule for Operation {
         })
     }
 
+    #[inline(always)]
     fn total(&self, text: &str) -> Option<usize> {
         match *self {
             Operation::Encode(encoder) => encoder.total(text),
@@ -63,6 +67,7 @@ impl Rule for Operation {
         }
     }
 
+    #[inline(always)]
     fn bound(&self, text: &str) -> Option<usize> {
         match *self {
             Operation::Encode(encoder) => encoder.bound(text),
@@ -70,6 +75,7 @@ impl Rule for Operation {
         }
     }
 
+    #[inline(always)]
     fn longest(&self, text: &str) -> Option<usize> {
         match *self {
             Operation::Encode(encoder) => encoder.longest(text),
