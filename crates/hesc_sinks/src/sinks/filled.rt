@@ -106,6 +106,21 @@ impl<'a, A: Allocator> FilledSink<'a, A> {
         let _appended = self.output.extend_from_slice(&ZEROS[..step]);
     }
 
+    // Appends more zeros where there are too few for a stretch and a text.
+    #[inline(always)]
+    fn refill(&mut self)
+        ensures taken { filled_sink_taken self.new ≡ filled_sink_taken self.old }
+        ensures failures { filled_sink_failures self.new ≡ filled_sink_failures self.old }
+        ensures room { filled_sink_room self.new ≡ filled_sink_room self.old }
+        ensures same_reference { (filled_sink_output self.new).ghost_name
+            ≡ (filled_sink_output self.old).ghost_name }
+        ensures same_start { filled_sink_start self.new ≡ filled_sink_start self.old }
+    {
+        if self.left() < 24 {
+            self.fill();
+        }
+    }
+
     // A short stretch and a short text, where there are zeros for a block of each.
     #[inline(always)]
     fn put_both(&mut self, segment: Segment<'_>, text: SmallText)
@@ -132,30 +147,25 @@ impl<'a, A: Allocator> FilledSink<'a, A> {
         self.log = log.after_taking(text.as_str().as_bytes());
     }
 
-    // A stretch and a short text, where there are too few zeros.
+    // A short text after a long stretch, or where there are few zeros.
     #[inline(never)]
-    fn fill_and_put(&mut self, segment: Segment<'_>, text: SmallText) -> Result<(), AllocError>
+    fn put_small(&mut self, text: SmallText) -> Result<(), AllocError>
         ensures ok_taken { OnOk result
-            (filled_sink_taken self.new ≡ filled_sink_taken self.old ++ (segment.entry.kept.now ++ small_text_bytes text)) }
+            (filled_sink_taken self.new ≡ filled_sink_taken self.old ++ small_text_bytes text) }
         ensures ok_failures { OnOk result
             (filled_sink_failures self.new ≡ filled_sink_failures self.old) }
         ensures err_taken { OnErr result (TookBeginning (filled_sink_taken self.old)
-            (filled_sink_taken self.new) (segment.entry.kept.now ++ small_text_bytes text)) }
+            (filled_sink_taken self.new) (small_text_bytes text)) }
         ensures err_failures { OnErr result
             (filled_sink_failures self.new ≡ filled_sink_failures self.old + 1) }
-        ensures fits { length (segment.entry.kept.now ++ small_text_bytes text) ≤ filled_sink_room self.old → IsOk result }
+        ensures fits { length (small_text_bytes text) ≤ filled_sink_room self.old → IsOk result }
         ensures room { OnOk result (filled_sink_room self.old
-            ≤ filled_sink_room self.new + length (segment.entry.kept.now ++ small_text_bytes text)) }
+            ≤ filled_sink_room self.new + length (small_text_bytes text)) }
         ensures same_reference { (filled_sink_output self.new).ghost_name
             ≡ (filled_sink_output self.old).ghost_name }
         ensures same_start { filled_sink_start self.new ≡ filled_sink_start self.old }
     {
-        self.fill();
-        if segment.kept.len() <= 16 && self.left() >= 24 {
-            self.put_both(segment, text);
-            return Ok(());
-        }
-        self.put_some(segment.kept)?;
+        self.refill();
         self.put_some(text.as_str())
     }
 
@@ -235,15 +245,12 @@ impl<A: Allocator> Sink for FilledSink<'_, A> {
     fn put_segment(&mut self, segment: Segment<'_>) -> Result<(), AllocError> {
         match segment.new {
             Replacement::Small(text) => {
-                if self.left() < 24 {
-                    return self.fill_and_put(segment, text);
-                }
-                if segment.kept.len() <= 16 {
+                if segment.kept.len() <= 16 && self.left() >= 24 {
                     self.put_both(segment, text);
                     return Ok(());
                 }
                 self.put_some(segment.kept)?;
-                self.put_some(text.as_str())
+                self.put_small(text)
             }
             Replacement::Borrowed(text) => {
                 self.put_some(segment.kept)?;

@@ -18,4 +18,4 @@ returns-in_err-put_some-in-Small-clause-err_taken g c =
 pub returns-in_ok-put_some-in-Small-clause-err_taken : goal.returns-in_ok-put_some-in-Small-clause-err_taken
 returns-in_ok-put_some-in-Small-clause-err_taken g c =
     rw c.in-Small.is
-    (then_on_err c.put_some-in-Small.result (TookBeginning-following _ _ _ c.args.segment.kept.now (small_text_bytes c.in-Small.text) c.in_ok-put_some-in-Small.ensures.ok_taken) (rw c.as_str.ensures at c.put_some-in-Small.ensures.err_taken))
+    (then_on_err c.put_small.result (TookBeginning-following _ _ _ c.args.segment.kept.now (small_text_bytes c.in-Small.text) c.in_ok-put_some-in-Small.ensures.ok_taken) c.put_small.ensures.err_taken)
