@@ -106,21 +106,6 @@ impl<'a, A: Allocator> FilledSink<'a, A> {
         let _appended = self.output.extend_from_slice(&ZEROS[..step]);
     }
 
-    // Appends more zeros where there are too few for a stretch and a text.
-    #[inline(always)]
-    fn refill(&mut self)
-        ensures taken { filled_sink_taken self.new ≡ filled_sink_taken self.old }
-        ensures failures { filled_sink_failures self.new ≡ filled_sink_failures self.old }
-        ensures room { filled_sink_room self.new ≡ filled_sink_room self.old }
-        ensures same_reference { (filled_sink_output self.new).ghost_name
-            ≡ (filled_sink_output self.old).ghost_name }
-        ensures same_start { filled_sink_start self.new ≡ filled_sink_start self.old }
-    {
-        if self.left() < 24 {
-            self.fill();
-        }
-    }
-
     // A short stretch and a short text, where there are zeros for a block of each.
     #[inline(always)]
     fn put_both(&mut self, segment: Segment<'_>, text: SmallText)
@@ -165,7 +150,9 @@ impl<'a, A: Allocator> FilledSink<'a, A> {
             ≡ (filled_sink_output self.old).ghost_name }
         ensures same_start { filled_sink_start self.new ≡ filled_sink_start self.old }
     {
-        self.refill();
+        if self.left() < 24 {
+            self.fill();
+        }
         self.put_some(text.as_str())
     }
 
