@@ -61,13 +61,15 @@ impl<'a, A: Allocator> FilledSink<'a, A> {
     {
         let start = Snapshot::of(&*output);
         let end = output.len();
-        FilledSink {
+        let mut sink = FilledSink {
             output,
             start,
             end,
             limit: end + room,
             log: Log::new(),
-        }
+        };
+        sink.fill();
+        sink
     }
 
     /// The output without the zeros that were not written over.
