@@ -1,5 +1,6 @@
-use Rattle.std.proofs.Common.{◌∙◌, sym}
+use Rattle.std.proofs.Common.{◌∙◌, sym, arith, append-nil}
 use Rattle.std.proofs.lemmas.List.{take-append-drop, take_rest}
+use Rattle.std.proofs.lemmas.Grind.{common_steps}
 use Rattle.hesc_sinks.proofs.Progress.{Progress-more}
 use Rattle.hesc_sinks.proofs.Told.{told-more, told-kept}
 use Rattle.hesc_sinks.proofs.sinks.writer.WriterSinkSink.put.Goals as goal
@@ -17,3 +18,15 @@ offering-preserved g c = record {
   reference = c.offering.invariant.reference;
   start = c.offering.invariant.start;
 }
+
+pub invariant_of-self : goal.invariant_of-self
+invariant_of-self g c = record { told = told-more _ _ _ _ _ _ (c.after_failing-self.ensures.taken ∙ sym (rw c.in-Ok-eq0.field-0-test (append-nil c.offering.self.log.taken))) c.in-Ok-eq0.ensures.bytes c.offering.self.told }
+
+pub returns-in-Ok-eq0-clause-fits : goal.returns-in-Ok-eq0-clause-fits
+returns-in-Ok-eq0-clause-fits g c = grind (arith, common_steps)
+
+pub returns-in-Err-clause-fits : goal.returns-in-Err-clause-fits
+returns-in-Err-clause-fits g c = grind (arith, common_steps)
+
+pub returns-clause-ok_taken : goal.returns-clause-ok_taken
+returns-clause-ok_taken g c = grind (arith, common_steps)

@@ -1,4 +1,4 @@
-use Rattle.std.proofs.Common.{rules, ◌≡◌, List, ℕ, true, ◌++◌, length, take, drop, refl, sym, ap, ◌∙◌}
+use Rattle.std.proofs.Common.{rules, ◌≡◌, List, ℕ, true, ◌++◌, length, take, drop, refl, sym, ap, ◌∙◌, arith}
 use Rattle.std.proofs.lemmas.List.{append-nil, take_rest}
 use Rattle.hesc_specs.specs.Text.FirstPlace.{IsFirstAt}
 use Rattle.hesc_specs.specs.Bodies.Sessions.{is_partial}
@@ -6,6 +6,7 @@ use Rattle.hesc_specs.specs.Bodies.DecidedChanges.{partial_at}
 use Rattle.hesc_specs.proofs.Bodies.Held.{partial-ascii, partial-front, flushed-front, partial_end-front}
 use Rattle.hesc_specs.proofs.Bodies.Decided.{decided-step, partial-whole, partial-nothing}
 use Rattle.hesc_specs.proofs.Bodies.DecidedChanges.{partial_end-place}
+use Rattle.std.proofs.lemmas.Grind.{common_steps}
 use Rattle.html_escape.specs.Held.{carry_bytes}
 use Rattle.html_escape.specs.BodyEncoders.{held_by, kind_of}
 use Rattle.html_escape.proofs.Sessions.{pushed_more}
@@ -83,3 +84,12 @@ returns-clause-goes_on g c element given added = pushed_more _ _ element given a
 
 pub returns-then-is_partial-clause-kind : goal.returns-then-is_partial-clause-kind
 returns-then-is_partial-clause-kind g c = search rules
+
+pub invariant_of-self-2 : goal.invariant_of-self-2
+invariant_of-self-2 g c = grind (arith, common_steps)
+
+pub returns-clause-few : goal.returns-clause-few
+returns-clause-few g c = grind (arith, common_steps)
+
+pub returns-in_err-append_parts-clause-few : goal.returns-in_err-append_parts-clause-few
+returns-in_err-append_parts-clause-few g c = grind (arith, common_steps)
