@@ -5,6 +5,8 @@ use Rattle.html_escape.specs.declared.encoder.Encoder.{Encoder}
 use Rattle.html_escape.specs.declared.encoder.Encoder.TheVariants as encoder
 use Rattle.html_escape.specs.Encoders.{encoded}
 use Rattle.hesc_places.specs.Places.ReadBack.{read_back}
+use Rattle.html_template.specs.declared.stored.Stored.{Stored}
+use Rattle.html_template.specs.declared.stored.Stored.TheVariants as stored
 use Rattle.html_template.specs.declared.parts.Part.{Part}
 use Rattle.html_template.specs.declared.parts.Part.TheVariants as part
 use Rattle.html_template.specs.declared.parts.Piece.{Piece}
@@ -70,6 +72,11 @@ Fill (Slot p ∷ chunks) (text ∷ texts) = MayFill p text × Fill chunks texts
 abbrev pub kept : Piece → Chunk
 kept (piece.Markup text) = Markup text.now
 kept (piece.Slot p) = Slot p
+
+-- a piece as a template stores it
+abbrev pub chunk_of : Stored → Chunk
+chunk_of (stored.Markup markup) = Markup markup.text.now
+chunk_of (stored.Slot p) = Slot p
 
 abbrev pub texts_of : List (Bor (List ℕ)) → List (List ℕ)
 texts_of texts = map (λ text. text.now) texts

@@ -4,10 +4,10 @@ ghost use Rattle.std.specs.List.{AllByRecursion};
 ghost use Rattle.std.specs.Result.{result_err};
 ghost use Rattle.std.specs.Str.{IsUtf8};
 ghost use Rattle.html_template.specs.FillFaults.{fill_fault, has_unquoted, may_fill, slot_count};
-ghost use Rattle.html_template.specs.Templates.{Fill, MayFill, kept, texts_of};
+ghost use Rattle.html_template.specs.Templates.{Fill, MayFill, chunk_of, texts_of};
 
 use crate::faults::FillFault;
-use crate::parts::Piece;
+use crate::stored::Stored;
 use html_tokenizer::SlotPlace;
 
 // Whether the text may fill a slot at this place.
@@ -23,15 +23,15 @@ fn may_fill(place: SlotPlace, text: &str) -> bool
 pub(crate) struct Summary {
     slots: usize,
     has_unquoted: bool,
-    // The length of all markup.
-    markup: usize,
+    /// The length of all markup.
+    pub(crate) markup: usize,
 }
 
 impl Summary {
     /// The summary of these pieces.
-    pub(crate) fn of(pieces: &[Piece]) -> Summary
-        ensures slots { result.slots ≡ slot_count (map kept pieces.now) }
-        ensures unquoted { result.has_unquoted ≡ has_unquoted (map kept pieces.now) }
+    pub(crate) fn of(pieces: &[Stored]) -> Summary
+        ensures slots { result.slots ≡ slot_count (map chunk_of pieces.now) }
+        ensures unquoted { result.has_unquoted ≡ has_unquoted (map chunk_of pieces.now) }
     {
         let mut slots: usize = 0;
         let mut has_unquoted = false;
@@ -39,11 +39,11 @@ impl Summary {
         let mut rest = pieces;
         'pieces: while let [piece, others @ ..] = rest {
             rest = others;
-            match *piece {
-                Piece::Markup(text) => markup = markup.saturating_add(text.len()),
-                Piece::Slot(place) => {
+            match piece {
+                Stored::Markup(piece) => markup = markup.saturating_add(piece.text.len()),
+                Stored::Slot(place) => {
                     slots += 1;
-                    has_unquoted = has_unquoted || place == SlotPlace::Unquoted;
+                    has_unquoted = has_unquoted || *place == SlotPlace::Unquoted;
                 }
             }
         }
@@ -55,25 +55,27 @@ impl Summary {
     }
 }
 
-/// The lengths of the markup and the texts together, if the texts fill the slots of these pieces.
+/// Whether the texts fill the slots of these pieces.
 #[inline(always)]
-pub(crate) fn check(pieces: &[Piece], summary: Summary, texts: &[&str]) -> Result<usize, FillFault>
-    requires slots { summary.slots ≡ slot_count (map kept pieces.now) }
-    requires unquoted { summary.has_unquoted ≡ has_unquoted (map kept pieces.now) }
-    ensures full { OnOk result (Fill (map kept pieces.now) (texts_of texts.now)) }
+pub(crate) fn check(pieces: &[Stored], summary: Summary, texts: &[&str]) -> Result<(), FillFault>
+    requires slots { summary.slots ≡ slot_count (map chunk_of pieces.now) }
+    requires unquoted { summary.has_unquoted ≡ has_unquoted (map chunk_of pieces.now) }
+    ensures full { OnOk result (Fill (map chunk_of pieces.now) (texts_of texts.now)) }
     ensures utf8 { OnOk result (AllByRecursion IsUtf8 (texts_of texts.now)) }
     ensures faults { result_err result
-        ≡ fill_fault 0 (map kept pieces.now) (texts_of texts.now) }
+        ≡ fill_fault 0 (map chunk_of pieces.now) (texts_of texts.now) }
 {
-    let sum = summary.markup.saturating_add(total_length(texts));
+    // For the proof alone that all are UTF-8: no code is left of a sum that no one reads.
+    let _length = total_length(texts);
     if !summary.has_unquoted && texts.len() == summary.slots {
-        return Ok(sum);
+        return Ok(());
     }
-    check_each(pieces, texts)?;
-    Ok(sum)
+    check_each(pieces, texts)
 }
 
-fn total_length(texts: &[&str]) -> usize
+/// The lengths of the texts together.
+#[inline(always)]
+pub(crate) fn total_length(texts: &[&str]) -> usize
     ensures { AllByRecursion IsUtf8 (texts_of texts.now) }
 {
     let mut sum: usize = 0;
@@ -86,6 +88,7 @@ fn total_length(texts: &[&str]) -> usize
 }
 
 // A `str` is UTF-8.
+#[inline(always)]
 fn length_of(text: &str) -> usize
     ensures { IsUtf8 text.now }
 {
@@ -93,16 +96,16 @@ fn length_of(text: &str) -> usize
 }
 
 // Whether the texts fill the slots, slot by slot.
-fn check_each(pieces: &[Piece], texts: &[&str]) -> Result<(), FillFault>
-    ensures full { OnOk result (Fill (map kept pieces.now) (texts_of texts.now)) }
+fn check_each(pieces: &[Stored], texts: &[&str]) -> Result<(), FillFault>
+    ensures full { OnOk result (Fill (map chunk_of pieces.now) (texts_of texts.now)) }
     ensures faults { result_err result
-        ≡ fill_fault 0 (map kept pieces.now) (texts_of texts.now) }
+        ≡ fill_fault 0 (map chunk_of pieces.now) (texts_of texts.now) }
 {
     let mut rest = pieces;
     let mut left = texts;
     'pieces: while let [piece, others @ ..] = rest {
         rest = others;
-        let Piece::Slot(place) = *piece else {
+        let Stored::Slot(place) = *piece else {
             continue 'pieces;
         };
         let [text, more @ ..] = left else {

@@ -10,6 +10,7 @@ mod fill;
 pub mod laws;
 mod page;
 mod parts;
+mod stored;
 mod template;
 
 pub use crate::faults::{FillFault, TemplateFault};

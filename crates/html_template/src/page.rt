@@ -4,9 +4,10 @@ ghost use Rattle.std.specs.String.{string_bytes};
 ghost use Rattle.hesc_specs.specs.Text.Escaped.{escaped};
 ghost use Rattle.hesc_engine.specs.Forms.{Appended, string_room};
 ghost use Rattle.html_escape.specs.Encoders.{encoded};
-ghost use Rattle.html_template.specs.Templates.{encoder_for, kept, page, texts_of};
+ghost use Rattle.html_template.specs.Templates.{encoder_for, chunk_of, page, texts_of};
 
-use crate::parts::Piece;
+use crate::fill::total_length;
+use crate::stored::{Stored, StoredMarkup};
 use hesc_core::forms::{Parts, append_parts, append_to_string};
 use hesc_core::rules::{Escape, Unchanged};
 use hesc_core::{Class, CountOverflow, Rule, Sink};
@@ -39,28 +40,37 @@ fn class_for(place: SlotPlace) -> Class
 /// The page of these texts. Whether they fill the pieces is the caller's to know.
 #[derive(Drop)]
 pub(crate) struct Page<'p> {
-    pub(crate) pieces: &'p [Piece<'p>],
+    pub(crate) pieces: &'p [Stored<'p>],
     pub(crate) texts: &'p [&'p str],
-    // About how long the page is at least.
-    pub(crate) least: usize,
+    // The length of all markup.
+    pub(crate) markup: usize,
 }
 
 impl Parts for Page<'_> {
-    ghost text = { λ parts. page (map kept parts.pieces.now) (texts_of parts.texts.now) };
+    ghost text = { λ parts. page (map chunk_of parts.pieces.now) (texts_of parts.texts.now) };
 
     fn put_into<S: Sink>(&self, sink: &mut S) -> Result<(), S::Fault> {
         put_pieces(self.pieces, self.texts, sink)
     }
 
     // A page that is made again and again mostly fits, and is then not measured.
+    #[inline(always)]
     fn may_fit(&self, spare: usize) -> bool {
-        self.least <= spare
+        self.markup < spare
     }
 
     // Counted by lanes, in place of writing each text twice.
     fn room_for(&self, spare: usize) -> Result<usize, CountOverflow> {
         let _spare = spare;
         page_length(self.pieces, self.texts).ok_or(CountOverflow)
+    }
+}
+
+impl Page<'_> {
+    // About how long the page is at least.
+    #[inline(always)]
+    fn least(&self) -> usize {
+        self.markup.saturating_add(total_length(self.texts))
     }
 }
 
@@ -71,14 +81,14 @@ pub(crate) fn append_page<B: Allocator>(
     made: &Page<'_>,
 ) -> Result<(), AllocError>
     ensures appended { Appended (string_bytes output.old) (string_bytes output.new)
-        (page (map kept made.now.pieces.now) (texts_of made.now.texts.now)) result }
-    ensures fits { length (page (map kept made.now.pieces.now) (texts_of made.now.texts.now))
+        (page (map chunk_of made.now.pieces.now) (texts_of made.now.texts.now)) result }
+    ensures fits { length (page (map chunk_of made.now.pieces.now) (texts_of made.now.texts.now))
         ≤ string_room output.old → IsOk result }
 {
-    if made.least <= SHORT && made.least > output.capacity() - output.len() {
-        return append_short_page(output, made);
+    if made.may_fit(output.capacity() - output.len()) || made.least() > SHORT {
+        return append_long_page(output, made);
     }
-    append_long_page(output, made)
+    append_short_page(output, made)
 }
 
 // By the stack, which is set up in this function and no other.
@@ -88,8 +98,8 @@ fn append_short_page<B: Allocator>(
     made: &Page<'_>,
 ) -> Result<(), AllocError>
     ensures appended { Appended (string_bytes output.old) (string_bytes output.new)
-        (page (map kept made.now.pieces.now) (texts_of made.now.texts.now)) result }
-    ensures fits { length (page (map kept made.now.pieces.now) (texts_of made.now.texts.now))
+        (page (map chunk_of made.now.pieces.now) (texts_of made.now.texts.now)) result }
+    ensures fits { length (page (map chunk_of made.now.pieces.now) (texts_of made.now.texts.now))
         ≤ string_room output.old → IsOk result }
 {
     let mut short = StackSink::<SHORT>::new();
@@ -103,17 +113,17 @@ fn append_short_page<B: Allocator>(
 #[inline(never)]
 fn append_long_page<B: Allocator>(output: &mut String<B>, made: &Page<'_>) -> Result<(), AllocError>
     ensures appended { Appended (string_bytes output.old) (string_bytes output.new)
-        (page (map kept made.now.pieces.now) (texts_of made.now.texts.now)) result }
-    ensures fits { length (page (map kept made.now.pieces.now) (texts_of made.now.texts.now))
+        (page (map chunk_of made.now.pieces.now) (texts_of made.now.texts.now)) result }
+    ensures fits { length (page (map chunk_of made.now.pieces.now) (texts_of made.now.texts.now))
         ≤ string_room output.old → IsOk result }
 {
     append_parts(output, made)
 }
 
-fn page_length(pieces: &[Piece], texts: &[&str]) -> Option<usize>
+fn page_length(pieces: &[Stored], texts: &[&str]) -> Option<usize>
     ensures count { IfSome result (λ count. count
-        ≡ length (page (map kept pieces.now) (texts_of texts.now))) }
-    ensures fits { length (page (map kept pieces.now) (texts_of texts.now)) < 2 ^ 64
+        ≡ length (page (map chunk_of pieces.now) (texts_of texts.now))) }
+    ensures fits { length (page (map chunk_of pieces.now) (texts_of texts.now)) < 2 ^ 64
         → IsSome result }
 {
     let mut count: usize = 0;
@@ -121,12 +131,12 @@ fn page_length(pieces: &[Piece], texts: &[&str]) -> Option<usize>
     let mut left = texts;
     'pieces: while let [piece, others @ ..] = rest {
         rest = others;
-        let place = match *piece {
-            Piece::Markup(text) => {
-                count = count.checked_add(text.len())?;
+        let place = match piece {
+            Stored::Markup(markup) => {
+                count = count.checked_add(markup.text.len())?;
                 continue 'pieces;
             }
-            Piece::Slot(place) => place,
+            Stored::Slot(place) => *place,
         };
         let [text, more @ ..] = left else {
             continue 'pieces;
@@ -138,11 +148,11 @@ fn page_length(pieces: &[Piece], texts: &[&str]) -> Option<usize>
     Some(count)
 }
 
-fn put_pieces<S: Sink>(pieces: &[Piece], texts: &[&str], sink: &mut S) -> Result<(), S::Fault>
+fn put_pieces<S: Sink>(pieces: &[Stored], texts: &[&str], sink: &mut S) -> Result<(), S::Fault>
     ensures ok_taken { OnOk result (S.taken sink.new
-        ≡ S.taken sink.old ++ page (map kept pieces.now) (texts_of texts.now)) }
+        ≡ S.taken sink.old ++ page (map chunk_of pieces.now) (texts_of texts.now)) }
     ensures ok_failures { OnOk result (S.failures sink.new ≡ S.failures sink.old) }
-    ensures fits { length (page (map kept pieces.now) (texts_of texts.now))
+    ensures fits { length (page (map chunk_of pieces.now) (texts_of texts.now))
         ≤ S.room sink.old → IsOk result }
     ensures same_reference { S.reference sink.new ≡ S.reference sink.old }
     ensures same_before { S.before sink.new ≡ S.before sink.old }
@@ -151,12 +161,12 @@ fn put_pieces<S: Sink>(pieces: &[Piece], texts: &[&str], sink: &mut S) -> Result
     let mut left = texts;
     'pieces: while let [piece, others @ ..] = rest {
         rest = others;
-        let place = match *piece {
-            Piece::Markup(text) => {
-                sink.put(text)?;
+        let place = match piece {
+            Stored::Markup(markup) => {
+                put_markup(markup, sink)?;
                 continue 'pieces;
             }
-            Piece::Slot(place) => place,
+            Stored::Slot(place) => *place,
         };
         let [text, more @ ..] = left else {
             continue 'pieces;
@@ -165,6 +175,23 @@ fn put_pieces<S: Sink>(pieces: &[Piece], texts: &[&str], sink: &mut S) -> Result
         left = more;
     }
     Ok(())
+}
+
+// Puts markup, by one block where it is short.
+#[inline(always)]
+fn put_markup<S: Sink>(markup: &StoredMarkup<'_>, sink: &mut S) -> Result<(), S::Fault>
+    ensures ok_taken { OnOk result (S.taken sink.new ≡ S.taken sink.old ++ markup.now.text.now) }
+    ensures ok_failures { OnOk result (S.failures sink.new ≡ S.failures sink.old) }
+    ensures fits { length markup.now.text.now ≤ S.room sink.old → IsOk result }
+    ensures room { OnOk result
+        (S.room sink.old ≤ S.room sink.new + length markup.now.text.now) }
+    ensures same_reference { S.reference sink.new ≡ S.reference sink.old }
+    ensures same_before { S.before sink.new ≡ S.before sink.old }
+{
+    match markup.as_segment() {
+        Some(segment) => sink.put_segment(segment),
+        None => sink.put(markup.text),
+    }
 }
 
 // Puts what the rule makes of the text.

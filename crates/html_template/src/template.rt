@@ -11,7 +11,7 @@ ghost use Rattle.html_template.specs.Templates.{
   Fill,
   Given,
   given,
-  kept,
+  chunk_of,
   page,
   part_of,
   state_after_all,
@@ -21,18 +21,19 @@ ghost use Rattle.html_template.specs.Templates.{
 use crate::faults::{FillFault, TemplateFault};
 use crate::fill::{Summary, check};
 use crate::page::{Page, append_page};
-use crate::parts::{Part, Piece};
+use crate::parts::Part;
+use crate::stored::{Stored, StoredMarkup};
 use html_tokenizer::{Reader, Standing};
 use std::alloc::{Allocator, Global};
 
 /// A page with slots, each of which stands where a text may stand.
 #[derive(Drop)]
 pub struct Template<'a, A: Allocator = Global> {
-    pieces: Vec<Piece<'a>, A>,
+    pieces: Vec<Stored<'a>, A>,
     summary: Summary,
-    ghost slots: { summary.slots ≡ slot_count (map kept pieces.items) },
-    ghost unquoted: { summary.has_unquoted ≡ has_unquoted (map kept pieces.items) },
-    ghost sound: { state_after_all data_state (map kept pieces.items) ≡ data_state },
+    ghost slots: { summary.slots ≡ slot_count (map chunk_of pieces.items) },
+    ghost unquoted: { summary.has_unquoted ≡ has_unquoted (map chunk_of pieces.items) },
+    ghost sound: { state_after_all data_state (map chunk_of pieces.items) ≡ data_state },
 }
 
 impl<'a, A: Allocator + Copy> Template<'a, A> {
@@ -89,14 +90,13 @@ impl<'a, A: Allocator + Copy> Template<'a, A> {
             → IsPageOf (parts ++ map part_of (pieces_of self.now)) (before ++ texts_of texts.now)
             (string_bytes output.new)) }
     {
-        let least = match check(&self.pieces, self.summary, texts) {
-            Ok(least) => least,
-            Err(fault) => return Err(fault),
-        };
+        if let Err(fault) = check(&self.pieces, self.summary, texts) {
+            return Err(fault);
+        }
         let page = Page {
             pieces: &self.pieces,
             texts,
-            least,
+            markup: self.summary.markup,
         };
         append_page(output, &page)?;
         Ok(())
@@ -107,15 +107,15 @@ impl<'a, A: Allocator + Copy> Template<'a, A> {
 #[tactic(auto, using(crate::proofs::Pieces::after_markup, crate::proofs::Pieces::after_slot, crate::proofs::Pieces::part_more))]
 fn take_part<'a, A: Allocator>(
     reader: &mut Reader<A>,
-    pieces: &mut Vec<Piece<'a>, A>,
+    pieces: &mut Vec<Stored<'a>, A>,
     part: Part<'a>,
     number: usize,
 ) -> Result<(), TemplateFault>
-    ensures read { OnOk result (state_after_all data_state (map kept pieces.old.items)
+    ensures read { OnOk result (state_after_all data_state (map chunk_of pieces.old.items)
         ≡ tokenizer_of reader.old
-        → state_after_all data_state (map kept pieces.new.items) ≡ tokenizer_of reader.new) }
-    ensures same { OnOk result (map part_of (map kept pieces.new.items)
-        ≡ map part_of (map kept pieces.old.items) ++ given part.entry ∷ []) }
+        → state_after_all data_state (map chunk_of pieces.new.items) ≡ tokenizer_of reader.new) }
+    ensures same { OnOk result (map part_of (map chunk_of pieces.new.items)
+        ≡ map part_of (map chunk_of pieces.old.items) ++ given part.entry ∷ []) }
     ensures faults { TakesPart number (tokenizer_of reader.old) (given part.entry)
         (tokenizer_of reader.new) result }
 {
@@ -125,10 +125,10 @@ fn take_part<'a, A: Allocator>(
             if reader.is_refused() {
                 return Err(TemplateFault::Malformed(number));
             }
-            Piece::Markup(text)
+            Stored::Markup(StoredMarkup::new(text))
         }
         Part::Slot => match reader.slot() {
-            Standing::Stands(place) => Piece::Slot(place),
+            Standing::Stands(place) => Stored::Slot(place),
             Standing::Barred => return Err(TemplateFault::Forbidden(number)),
             Standing::Nowhere => return Err(TemplateFault::NoPlace(number)),
         },
