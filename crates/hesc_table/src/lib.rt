@@ -78,8 +78,8 @@ impl<'a> EntityTable<'a> {
 
     /// The table of rows that are shown to have no fault: nothing is checked when this is called.
     ///
-    /// A crate `use_table` has a caller: with the row `(b"hearts", "\u{2665}")` among the common ones,
-    /// `I &hearts; &lt;b&gt;` is decoded to `I \u{2665} <b>`.
+    /// The crate `uses` has a caller, `table`: with the row `(b"hearts", "\u{2665}")` among the common
+    /// ones, `I &hearts; &lt;b&gt;` is decoded to `I \u{2665} <b>`.
     pub fn of(rows: &'a [(&'a [u8], &'a str)]) -> EntityTable<'a>
         requires { IsTrue (is_table (rows_in rows.now)) }
         ensures { rows_of result ≡ rows_in rows.now }

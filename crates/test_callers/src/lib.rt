@@ -1,4 +1,4 @@
-//! Tests of the callers `use_*`: what each makes of hostile texts.
+//! Tests of the callers in `uses`: what each makes of hostile texts.
 #![tactic(auto)]
 
 #[cfg(test)]

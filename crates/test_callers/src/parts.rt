@@ -1,10 +1,10 @@
 //! The callers of encoders and decoders.
 
 use std::test::Fail;
-use use_back::{by_escapes, by_references};
-use use_cell::cell;
-use use_rows::{Row, table};
-use use_table::decode;
+use uses::back::{by_escapes, by_references};
+use uses::cell::cell;
+use uses::rows::{Row, table};
+use uses::table::decode;
 
 #[test]
 fn no_text_leaves_its_place(rt: HostRuntime) -> Result<(), Fail> {

@@ -1,9 +1,9 @@
 //! The callers of places.
 
 use std::test::Fail;
-use use_card::card;
-use use_posted::{posted_script, value_text};
-use use_search::{search_page, shown};
+use uses::card::card;
+use uses::posted::{posted_script, value_text};
+use uses::search::{search_page, shown};
 
 #[test]
 fn a_title_stays_in_its_place(rt: HostRuntime) -> Result<(), Fail> {

@@ -1,9 +1,9 @@
 //! The callers of templates.
 
 use std::test::Fail;
-use use_form_page::{Draft, FormTemplate};
-use use_price_list::{Item, ListTemplates};
-use use_search_page::{search_page, search_template};
+use uses::form_page::{Draft, FormTemplate};
+use uses::price_list::{Item, ListTemplates};
+use uses::search_page::{search_page, search_template};
 
 #[test]
 fn no_query_leaves_its_place(rt: HostRuntime) -> Result<(), Fail> {

@@ -1,0 +1,13 @@
+//! Callers of the libraries, each as a user writes it, with what it can state of its result.
+#![tactic(auto)]
+
+pub mod back;
+pub mod card;
+pub mod cell;
+pub mod form_page;
+pub mod posted;
+pub mod price_list;
+pub mod rows;
+pub mod search;
+pub mod search_page;
+pub mod table;

@@ -1,0 +1,35 @@
+//! A caller: a form that a stranger posted, read.
+ghost use Rattle.std.specs.Prelude.{◌≡◌, IfOk};
+ghost use Rattle.std.specs.Option.{option_map};
+ghost use Rattle.std.specs.String.{string_bytes};
+ghost use Rattle.hesc_places.specs.Pages.FormReadings.{form_reading};
+ghost use Rattle.hesc_grammars.specs.Places.{reading};
+ghost use Rattle.hesc_grammars.specs.declared.place.Place.TheVariants.{DoubleAttribute};
+
+use hesc_places::{Place, read_form, read_place};
+use std::alloc::{AllocError, Global};
+
+/// The string that the posted form's script hands to `alert`, if the bytes begin with a form.
+pub fn posted_script(alloc: Global, posted: &[u8]) -> Result<Option<Vec<u8>>, AllocError>
+    ensures { IfOk result (λ script. option_map (λ s. s.items) script
+        ≡ option_map (λ form. form.script) (form_reading posted.now)) }
+{
+    match read_form(alloc, posted)? {
+        Some(form) => Ok(Some(form.script)),
+        None => Ok(None),
+    }
+}
+
+/// The value of an attribute whose opening `"` stands right before the source, as a text.
+pub fn value_text(alloc: Global, source: &str) -> Result<Option<String>, AllocError>
+    ensures { IfOk result (λ value. option_map (λ v. string_bytes v) value
+        ≡ option_map (λ read. read.0) (reading DoubleAttribute source.now)) }
+{
+    let Some(reading) = read_place(alloc, Place::DoubleAttribute, source.as_bytes())? else {
+        return Ok(None);
+    };
+    match String::from_utf8(reading.value) {
+        Ok(value) => Ok(Some(value)),
+        Err(_) => unreachable!(),
+    }
+}
