@@ -1,14 +1,14 @@
 -- A template with one piece more.
 use Rattle.std.proofs.Common.{ℕ, ◌≡◌, List, [], ◌∷◌, ◌++◌, map, refl, sym, ap, ◌∙◌, append_assoc, append-nil}
 use Rattle.std.proofs.lemmas.List.{map-append}
-use Rattle.html_template.specs.declared.stored.StoredMarkup.{StoredMarkup}
 use Rattle.html_template.specs.declared.parts.Part.{Part}
 use Rattle.html_template.specs.declared.stored.Stored.{Stored}
-use Rattle.html_template.specs.declared.stored.Stored.TheVariants as piece
+use Rattle.html_template.specs.declared.stored.Stored.TheVariants as stored
+use Rattle.html_template.specs.declared.stored.StoredMarkup.{StoredMarkup}
 use Rattle.html_tokenizer.specs.declared.slot_place.SlotPlace.{SlotPlace}
 use Rattle.html_tokenizer.specs.Tokenizer.States.{Tokenizer, data_state}
 use Rattle.html_tokenizer.specs.Standing.{state_after_slot}
-use Rattle.html_template.specs.Templates.{Chunk, Markup, Slot, Given, given, chunk_of, part_of, state_after_all}
+use Rattle.html_template.specs.Templates.{Chunk, Markup, Slot, Given, chunk_of, given, part_of, state_after_all}
 use Rattle.html_tokenizer.specs.Tokenizer.Tokenization.{state_after}
 
 pub state_after_all-append : (t : Tokenizer) (first second : List Chunk) →
@@ -25,14 +25,14 @@ after_piece pieces p =
 pub after_markup : (pieces : List Stored) (m : StoredMarkup) (text : List ℕ) {old new : Tokenizer} →
     m.text.now ≡ text →
     state_after_all data_state (map chunk_of pieces) ≡ old → new ≡ state_after old text →
-    state_after_all data_state (map chunk_of (pieces ++ piece.Markup m ∷ [])) ≡ new
+    state_after_all data_state (map chunk_of (pieces ++ stored.Markup m ∷ [])) ≡ new
 after_markup pieces m text same was read =
-    after_piece pieces (piece.Markup m) ∙ ap (λ t. state_after t m.text.now) was ∙ ap (state_after _) same ∙ sym read
+    after_piece pieces (stored.Markup m) ∙ ap (λ t. state_after t m.text.now) was ∙ ap (state_after _) same ∙ sym read
 
 pub after_slot : (pieces : List Stored) (p : SlotPlace) {old new : Tokenizer} →
     state_after_all data_state (map chunk_of pieces) ≡ old → new ≡ state_after_slot p old →
-    state_after_all data_state (map chunk_of (pieces ++ piece.Slot p ∷ [])) ≡ new
-after_slot pieces p was read = after_piece pieces (piece.Slot p) ∙ ap (state_after_slot p) was ∙ sym read
+    state_after_all data_state (map chunk_of (pieces ++ stored.Slot p ∷ [])) ≡ new
+after_slot pieces p was read = after_piece pieces (stored.Slot p) ∙ ap (state_after_slot p) was ∙ sym read
 
 pub part_more : (pieces : List Stored) (p : Stored) →
     map part_of (map chunk_of (pieces ++ p ∷ [])) ≡ map part_of (map chunk_of pieces) ++ part_of (chunk_of p) ∷ []

@@ -68,16 +68,17 @@ Fill (Markup bytes ∷ chunks) texts = Fill chunks texts
 Fill (Slot p ∷ chunks) [] = ⊥
 Fill (Slot p ∷ chunks) (text ∷ texts) = MayFill p text × Fill chunks texts
 
--- the pieces as they are kept, and the texts as they are handed in
+-- a piece, as the laws take it
 abbrev pub kept : Piece → Chunk
 kept (piece.Markup text) = Markup text.now
 kept (piece.Slot p) = Slot p
 
--- a piece as a template stores it
+-- the same, as a template stores it
 abbrev pub chunk_of : Stored → Chunk
 chunk_of (stored.Markup markup) = Markup markup.text.now
 chunk_of (stored.Slot p) = Slot p
 
+-- the texts as they are handed in
 abbrev pub texts_of : List (Bor (List ℕ)) → List (List ℕ)
 texts_of texts = map (λ text. text.now) texts
 

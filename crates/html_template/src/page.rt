@@ -4,7 +4,7 @@ ghost use Rattle.std.specs.String.{string_bytes};
 ghost use Rattle.hesc_specs.specs.Text.Escaped.{escaped};
 ghost use Rattle.hesc_engine.specs.Forms.{Appended, string_room};
 ghost use Rattle.html_escape.specs.Encoders.{encoded};
-ghost use Rattle.html_template.specs.Templates.{encoder_for, chunk_of, page, texts_of};
+ghost use Rattle.html_template.specs.Templates.{chunk_of, encoder_for, page, texts_of};
 
 use crate::fill::total_length;
 use crate::stored::{Stored, StoredMarkup};

@@ -1,4 +1,4 @@
-//! What a template is made of, and what it keeps.
+//! What a template is made of, and what its laws speak of.
 use html_tokenizer::SlotPlace;
 
 /// A part of a template.

@@ -4,7 +4,7 @@ ghost use Rattle.std.specs.Prelude.{◌≡◌, ◌≤◌, length, take};
 use hesc_core::{Replacement, Segment, SmallText};
 use html_tokenizer::SlotPlace;
 
-/// A part that has been read: of a slot it is known where it stands.
+/// A piece, as a template stores it.
 #[derive(Clone, Copy)]
 pub(crate) enum Stored<'a> {
     Markup(StoredMarkup<'a>),

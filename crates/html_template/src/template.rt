@@ -10,8 +10,8 @@ ghost use Rattle.html_template.specs.TemplateFaults.{AnswersFault, TakesPart, fa
 ghost use Rattle.html_template.specs.Templates.{
   Fill,
   Given,
-  given,
   chunk_of,
+  given,
   page,
   part_of,
   state_after_all,

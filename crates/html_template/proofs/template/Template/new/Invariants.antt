@@ -2,7 +2,7 @@ use Rattle.std.proofs.Common.{◌≡◌, ◌++◌, ◌≤◌, ◌-◌, length, m
 use Rattle.html_tokenizer.specs.Tokenizer.Phases.{tokenizer_of}
 use Rattle.html_tokenizer.specs.Tokenizer.States.{data_state}
 use Rattle.html_template.specs.TemplateFaults.{fault_from}
-use Rattle.html_template.specs.Templates.{given, chunk_of, part_of, state_after_all}
+use Rattle.html_template.specs.Templates.{chunk_of, given, part_of, state_after_all}
 use Rattle.html_template.proofs.template.Template.new.Given as goal
 
 abbrev pub invariant-parts : goal.invariant-parts
