@@ -1,10 +1,9 @@
-//! The operations: the rule of each, and the laws.
+//! The operations: the rule of each.
 //!
-//! What runs a rule, what finds the bytes at which it may change something, and the tables of entities
-//! are crates of their own, which are passed on here.
+//! What runs a rule, what finds the bytes at which it may change something, the tables of entities and
+//! the laws are crates of their own, which are passed on here.
 #![tactic(auto)]
 
-pub mod laws;
 pub mod rules;
 
 pub use hesc_engine::{
@@ -12,6 +11,7 @@ pub use hesc_engine::{
     StringSink, VecSink, WriterSink, engine, forms, found, pieces, rule, run, segment, sink, sinks,
     small_text,
 };
+pub use hesc_laws as laws;
 pub use hesc_scan::{find, openings, scan};
 pub use hesc_specs::{Class, Element, Quotes, TableFault};
 pub use hesc_table as table;

@@ -1,0 +1,6 @@
+use Rattle.std.specs.Prelude.{map}
+use Rattle.hesc_specs.proofs.Bodies.Decided.{session-joined}
+use Rattle.hesc_laws.proofs.joined_pieces.Goals as goal
+
+pub returns : goal.returns
+returns c = session-joined c.args.element (map (λ piece. piece.now) c.args.pieces.now) c.args.added.now c.requires
