@@ -1,8 +1,6 @@
 pub mod ChunkSearch
-pub mod ClassEntries
-pub mod ClassGroups
+pub mod Classes
 pub mod EscapeSearch
-pub mod FlagTable
 pub mod FoundBytes
 pub mod KeptLanes
 pub mod LaneLemmas

@@ -1,6 +1,6 @@
 use Rattle.std.proofs.Common.{sym, ◌∙◌}
 use Rattle.std.proofs.lemmas.Bool.{eq-eqb, eqb-true}
-use Rattle.hesc_scan.proofs.FlagTable.{bit_tells}
+use Rattle.hesc_scan.proofs.Classes.Flags.{bit_tells}
 use Rattle.hesc_scan.proofs.flags.flags_agree.Goals as goal
 
 pub returns : goal.returns

@@ -1,4 +1,4 @@
-use Rattle.hesc_scan.proofs.FlagTable.{flag_tells}
+use Rattle.hesc_scan.proofs.Classes.Flags.{flag_tells}
 use Rattle.hesc_scan.proofs.flags.is_in.Goals as goal
 
 pub returns : goal.returns

@@ -1,6 +1,6 @@
 use Rattle.std.proofs.Common.{◌≡◌, ap, map, ◌∙◌}
 use Rattle.hesc_scan.specs.Entries.{added_to}
-use Rattle.hesc_scan.proofs.ClassEntries.{table_stands_twice}
+use Rattle.hesc_scan.proofs.Classes.Entries.{table_stands_twice}
 use Rattle.hesc_scan.proofs.LaneMaps.{few_lanes}
 use Rattle.hesc_scan.proofs.Lengths.HtmlSums.{added_by_entries, added_length, few_added}
 use Rattle.hesc_scan.proofs.lookup.entries.EntriesAddedLength.of_lanes.Goals as goal

@@ -1,7 +1,7 @@
 use Rattle.std.proofs.Common.{ap, map, ◌∙◌}
 use Rattle.std.specs.Simd.Lanes.{mask_l}
 use Rattle.hesc_scan.specs.Entries.{is_entry}
-use Rattle.hesc_scan.proofs.ClassEntries.{mask_by_table, table_stands_twice}
+use Rattle.hesc_scan.proofs.Classes.Entries.{mask_by_table, table_stands_twice}
 use Rattle.hesc_scan.proofs.lookup.entries.EntriesLookup.hits.Goals as goal
 
 pub hits_of_entries-requires-clause-twice : goal.hits_of_entries-requires-clause-twice

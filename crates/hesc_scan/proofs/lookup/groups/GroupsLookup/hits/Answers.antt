@@ -1,7 +1,7 @@
 use Rattle.std.proofs.Common.{ap, map, ◌∙◌}
 use Rattle.std.specs.Simd.Lanes.{mask_l}
 use Rattle.hesc_scan.specs.Groups.{in_groups}
-use Rattle.hesc_scan.proofs.ClassGroups.{mask_by_groups}
+use Rattle.hesc_scan.proofs.Classes.Groups.{mask_by_groups}
 use Rattle.hesc_scan.proofs.lookup.groups.GroupsLookup.hits.Goals as goal
 
 pub returns : goal.returns
