@@ -1,5 +1,5 @@
 //! Up to 32 bytes in the lanes of one vector: a chunk, or what a text has after its chunks.
-ghost use Rattle.std.specs.Prelude.{◌≡◌, ◌≤◌, ◌<◌, ◌+◌, ◌-◌, ◌*◌, ℕ, drop, length, slice_index, take};
+ghost use Rattle.std.specs.Prelude.{◌≡◌, ◌≤◌, ◌<◌, ◌+◌, ◌-◌, ◌*◌, ℕ, [], drop, length, slice_index, take};
 
 use std::simd::prelude::*;
 
@@ -59,32 +59,44 @@ impl Block {
         ensures { block_bytes result ≡ bytes.now }
     {
         if bytes.len() >= 16 {
-            Block::halves(bytes, 16)
+            Block::halves::<16>(bytes)
         } else if bytes.len() >= 8 {
-            Block::halves(bytes, 8)
+            Block::halves::<8>(bytes)
         } else if bytes.len() >= 4 {
-            Block::halves(bytes, 4)
+            Block::halves::<4>(bytes)
         } else if bytes.len() >= 2 {
-            Block::halves(bytes, 2)
+            Block::halves::<2>(bytes)
         } else if bytes.len() == 1 {
-            Block::halves(bytes, 1)
+            Block::halves::<1>(bytes)
         } else {
-            Block::halves(bytes, 0)
+            Block::empty()
+        }
+    }
+
+    // No bytes.
+    #[inline(always)]
+    fn empty() -> Block
+        ensures { block_bytes result ≡ [] }
+    {
+        Block {
+            lanes: u8x32::from_array(no_bytes()),
+            front: 0,
+            skip: 32,
         }
     }
 
     // As many bytes as a half has, or up to twice as many: the last ones overlap the first.
     #[inline(always)]
-    fn halves(bytes: &[u8], half: usize) -> Block
-        requires small { half ≤ 16 }
-        requires one { half ≤ length bytes.now }
-        requires both { length bytes.now ≤ 2 * half }
+    fn halves<const N: usize>(bytes: &[u8]) -> Block
+        requires small { N ≤ 16 }
+        requires one { N ≤ length bytes.now }
+        requires both { length bytes.now ≤ 2 * N }
         ensures { block_bytes result ≡ bytes.now }
     {
         Block {
-            lanes: u8x32::from_array(ends(bytes, half)),
-            front: half,
-            skip: 32 - (bytes.len() - half),
+            lanes: u8x32::from_array(ends::<N>(bytes)),
+            front: N,
+            skip: 32 - (bytes.len() - N),
         }
     }
 
@@ -126,16 +138,37 @@ const LANES: [u8; 32] = [
     16, 17, 18, 19, 20, 21, 22, 23, 24, 25, 26, 27, 28, 29, 30, 31, //
 ];
 
-// The first bytes at the front and the last ones at the back, as many as a half has of each.
+// The first bytes at the front and the last ones at the back, as many as a half has of each, by one load
+// and one store each.
 #[inline(always)]
-fn ends(bytes: &[u8], half: usize) -> [u8; 32]
-    requires small { half ≤ 16 }
-    requires one { half ≤ length bytes.now }
-    ensures front { take half result ≡ take half bytes.now }
-    ensures back { drop (32 - half) result ≡ drop (length bytes.now - half) bytes.now }
+fn ends<const N: usize>(bytes: &[u8]) -> [u8; 32]
+    requires small { N ≤ 16 }
+    requires one { N ≤ length bytes.now }
+    ensures front { take N result ≡ take N bytes.now }
+    ensures back { drop (32 - N) result ≡ drop (length bytes.now - N) bytes.now }
 {
-    let mut lanes = [0; 32];
-    lanes[..half].copy_from_slice(&bytes[..half]);
-    lanes[32 - half..].copy_from_slice(&bytes[bytes.len() - half..]);
+    let last = &bytes[bytes.len() - N..];
+    let mut lanes = beginning::<N>(bytes);
+    Simd::<u8, N>::from_slice(last).copy_to_slice(&mut lanes[32 - N..]);
     lanes
+}
+
+// The first bytes at the front.
+#[inline(always)]
+fn beginning<const N: usize>(bytes: &[u8]) -> [u8; 32]
+    requires small { N ≤ 16 }
+    requires there { N ≤ length bytes.now }
+    ensures { take N result ≡ take N bytes.now }
+{
+    let mut lanes = no_bytes();
+    Simd::<u8, N>::from_slice(bytes).copy_to_slice(&mut lanes);
+    lanes
+}
+
+// Lanes that hold no byte.
+#[inline(always)]
+fn no_bytes() -> [u8; 32]
+    ensures { drop 32 result ≡ [] }
+{
+    [0; 32]
 }

@@ -16,8 +16,8 @@ following bytes ends half small one both back =
     ∙ ap (λ n. drop n bytes) here
 
 pub returns : goal.returns
-returns c =
-    let half = c.args.half in
+returns g c =
+    let half = g.row.N in
     let bytes = c.args.bytes.now in
     (λ i. c.ends.ensures.front i ++ following bytes c.ends.result half c.requires.small c.requires.one (omega (arith, c.requires.both)) c.ends.ensures.back i)
     ∙ take-append-drop half bytes
