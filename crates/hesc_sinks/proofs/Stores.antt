@@ -45,13 +45,17 @@ stored_then old mid new first second place middle end one two = record {
 pub held_after : (old new taken bytes all : List ℕ) (place end : ℕ) → Stored old new place bytes end → take place old ≡ taken → all ≡ taken ++ bytes → take end new ≡ all
 held_after old new taken bytes all place end stored held is = stored.before ∙ ap (λ (l : List ℕ). l ++ bytes) held ∙ sym is
 
--- a stretch and a text that were taken, as what was stored
+-- a stretch that was taken, as what was stored
+pub stretch_taken : (taken kept copy rest all : List ℕ) → copy ≡ kept → take (length kept) rest ≡ kept → all ≡ taken ++ copy → all ≡ taken ++ take (length copy) rest
+stretch_taken taken kept copy rest all is_kept begins is =
+    is ∙ ap (λ (l : List ℕ). taken ++ l) (is_kept ∙ sym begins ∙ ap (λ (l : List ℕ). take (length l) rest) (sym is_kept))
+
+-- the same of a stretch and a text
 pub both_taken : (taken kept copy rest small one all : List ℕ) → copy ≡ kept → take (length kept) rest ≡ kept → one ≡ taken ++ copy → all ≡ one ++ small → all ≡ taken ++ (take (length copy) rest ++ small)
 both_taken taken kept copy rest small one all is_kept begins is_one is =
-    let same : copy ≡ take (length copy) rest = is_kept ∙ sym begins ∙ ap (λ (l : List ℕ). take (length l) rest) (sym is_kept) in
-    is ∙ ap (λ (l : List ℕ). l ++ small) is_one ∙ append_assoc taken copy small ∙ ap (λ (l : List ℕ). taken ++ (l ++ small)) same
+    is ∙ ap (λ (l : List ℕ). l ++ small) (stretch_taken taken kept copy rest one is_kept begins is_one) ∙ append_assoc taken (take (length copy) rest) small
 
--- the same in a vector of so many bytes
+-- what was stored, in a vector of so many bytes
 pub taken_after : (old new before taken bytes all tail : List ℕ) (place end len : ℕ) → Stored old new place bytes end → place + length bytes ≤ length old → length old ≡ len
     → take place old ≡ before ++ taken → all ≡ taken ++ bytes → take end (take len (new ++ tail)) ≡ before ++ all
 taken_after old new before taken bytes all tail place end len stored within long held is =

@@ -60,6 +60,24 @@ pub trait Sink {
         self.put_some(segment.new.as_str())
     }
 
+    /// Takes the stretch of a segment alone, or fails after a beginning of it.
+    ///
+    /// Of the stretch `a` and the text `&lt;` it takes `a`.
+    #[inline(always)]
+    fn put_stretch(&mut self, segment: Segment<'_>) -> Result<(), Self::Fault>
+        ensures ok_taken { OnOk result (taken self.new ≡ taken self.old ++ segment.entry.kept.now) }
+        ensures ok_failures { OnOk result (failures self.new ≡ failures self.old) }
+        ensures err_taken { OnErr result
+            (TookBeginning (taken self.old) (taken self.new) segment.entry.kept.now) }
+        ensures err_failures { OnErr result (failures self.new ≡ failures self.old + 1) }
+        ensures fits { length segment.entry.kept.now ≤ room self.old → IsOk result }
+        ensures room { OnOk result (room self.old ≤ room self.new + length segment.entry.kept.now) }
+        ensures same_reference { reference self.new ≡ reference self.old }
+        ensures same_before { before self.new ≡ before self.old }
+    {
+        self.put_some(segment.kept)
+    }
+
     /// Takes the piece, unless it is empty.
     ///
     /// After `put_some("")?` a writer was offered nothing.

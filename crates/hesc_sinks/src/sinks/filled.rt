@@ -7,7 +7,7 @@ use crate::found::Replacement;
 use crate::segment::Segment;
 use crate::sink::Sink;
 use crate::sinks::log::Log;
-use crate::sinks::stores::{store, store_both};
+use crate::sinks::stores::{store, store_both, store_short};
 use crate::small_text::SmallText;
 use std::alloc::{AllocError, Allocator};
 use std::snapshot::Snapshot;
@@ -242,9 +242,25 @@ impl<A: Allocator> Sink for FilledSink<'_, A> {
                 self.put_small(text)
             }
             Replacement::Borrowed(text) => {
-                self.put_some(segment.kept)?;
+                self.put_stretch(segment)?;
                 self.put_some(text)
             }
         }
+    }
+
+    #[inline(always)]
+    fn put_stretch(&mut self, segment: Segment<'_>) -> Result<(), AllocError> {
+        if segment.kept.len() > 16 || self.left() < 16 {
+            return self.put_some(segment.kept);
+        }
+        let kept = segment.kept.as_bytes();
+        self.end = store_short(
+            self.output.as_mut_slice(),
+            self.end,
+            segment.rest,
+            kept.len(),
+        );
+        self.log = self.log.after_taking(kept);
+        Ok(())
     }
 }

@@ -6,7 +6,7 @@ use crate::found::Replacement;
 use crate::segment::Segment;
 use crate::sink::Sink;
 use crate::sinks::log::Log;
-use crate::sinks::stores::{store, store_both};
+use crate::sinks::stores::{store, store_both, store_short};
 use crate::small_text::SmallText;
 use std::str;
 
@@ -127,10 +127,21 @@ impl<const N: usize> Sink for StackSink<N> {
                 return Ok(());
             }
         }
-        self.put_some(segment.kept)?;
+        self.put_stretch(segment)?;
         match segment.new {
             Replacement::Borrowed(text) => self.put_some(text),
             Replacement::Small(text) => self.put_some(text.as_str()),
         }
+    }
+
+    #[inline(always)]
+    fn put_stretch(&mut self, segment: Segment<'_>) -> Result<(), StackFull> {
+        if segment.kept.len() > 16 || self.room() < 16 {
+            return self.put_some(segment.kept);
+        }
+        let kept = segment.kept.as_bytes();
+        self.end = store_short(&mut self.bytes, self.end, segment.rest, kept.len());
+        self.log = self.log.after_taking(kept);
+        Ok(())
     }
 }

@@ -51,9 +51,10 @@ pub(crate) fn store(room: &mut [u8], place: usize, bytes: &[u8]) -> usize
     }
 }
 
-// At most 16 of the bytes, at a place where 16 fit.
+/// Stores the first `count` of the bytes, at most 16, at a place where 16 fit, and answers the place
+/// after them.
 #[inline(always)]
-fn store_short(room: &mut [u8], place: usize, bytes: &[u8], count: usize) -> usize
+pub(crate) fn store_short(room: &mut [u8], place: usize, bytes: &[u8], count: usize) -> usize
     requires few { count ≤ 16 }
     requires there { count ≤ length bytes.now }
     requires fits { place + 16 ≤ length room.old }

@@ -2,7 +2,7 @@
 ghost use Rattle.std.specs.Prelude.{◌≡◌, codes};
 
 use hesc_core::rules::Escape;
-use hesc_core::{Class, Counter, Sink, StringSink, VecSink, WriterSink, run};
+use hesc_core::{Class, Counter, Replacement, Segment, Sink, StringSink, VecSink, WriterSink, run};
 use hesc_engine::sinks::filled::FilledSink;
 use hesc_engine::sinks::log::Log;
 use hesc_engine::sinks::stack::StackSink;
@@ -38,6 +38,21 @@ fn room_gets_what_it_is_said_to(rt: HostRuntime) -> Result<(), Fail> {
     assert!(rt; sink.as_str().is_empty());
     assert!(rt; sink.put("ab").is_ok() && sink.as_str() == "ab");
     assert!(rt; sink.put("more than is left").is_err());
+    Ok(())
+}
+
+#[test]
+fn segments_and_stretches_are_put_as_they_are_said_to(rt: HostRuntime) -> Result<(), Fail> {
+    let segment = Segment {
+        start: 0,
+        rest: b"a<b",
+        kept: "a",
+        new: Replacement::Borrowed("&lt;"),
+    };
+    let mut sink = StackSink::<16>::new();
+    assert!(rt; sink.put_segment(segment).is_ok() && sink.as_str() == "a&lt;");
+    let mut sink = StackSink::<16>::new();
+    assert!(rt; sink.put_stretch(segment).is_ok() && sink.as_str() == "a");
     Ok(())
 }
 

@@ -2,14 +2,14 @@ use Rattle.hesc_sinks.specs.Text.{small_text_bytes}
 use Rattle.hesc_sinks.proofs.Progress.{TookBeginning-front, TookBeginning-following, on_err, then_on_err}
 use Rattle.hesc_sinks.proofs.sinks.filled.FilledSinkSink.put_segment.Goals as goal
 
-pub returns-in_err-put_some-in-Borrowed-clause-err_taken : goal.returns-in_err-put_some-in-Borrowed-clause-err_taken
-returns-in_err-put_some-in-Borrowed-clause-err_taken g c =
-    rw c.in-Borrowed.is (on_err c.from_residual-in_err-put_some-in-Borrowed.result (TookBeginning-front _ _ _ c.in-Borrowed.text.now c.in_err-put_some-in-Borrowed.ensures.err_taken))
+pub returns-in_err-put_stretch-in-Borrowed-clause-err_taken : goal.returns-in_err-put_stretch-in-Borrowed-clause-err_taken
+returns-in_err-put_stretch-in-Borrowed-clause-err_taken g c =
+    rw c.in-Borrowed.is (on_err c.from_residual-in_err-put_stretch-in-Borrowed.result (TookBeginning-front _ _ _ c.in-Borrowed.text.now c.in_err-put_stretch-in-Borrowed.ensures.err_taken))
 
-pub returns-in_ok-put_some-in-Borrowed-clause-err_taken : goal.returns-in_ok-put_some-in-Borrowed-clause-err_taken
-returns-in_ok-put_some-in-Borrowed-clause-err_taken g c =
+pub returns-in_ok-put_stretch-in-Borrowed-clause-err_taken : goal.returns-in_ok-put_stretch-in-Borrowed-clause-err_taken
+returns-in_ok-put_stretch-in-Borrowed-clause-err_taken g c =
     rw c.in-Borrowed.is
-    (then_on_err c.put_some-in-Borrowed-2.result (TookBeginning-following _ _ _ c.args.segment.kept.now c.in-Borrowed.text.now c.in_ok-put_some-in-Borrowed.ensures.ok_taken) c.put_some-in-Borrowed-2.ensures.err_taken)
+    (then_on_err c.put_some-in-Borrowed.result (TookBeginning-following _ _ _ c.args.segment.kept.now c.in-Borrowed.text.now c.in_ok-put_stretch-in-Borrowed.ensures.ok_taken) c.put_some-in-Borrowed.ensures.err_taken)
 
 pub returns-in_err-put_some-in-Small-clause-err_taken : goal.returns-in_err-put_some-in-Small-clause-err_taken
 returns-in_err-put_some-in-Small-clause-err_taken g c =
