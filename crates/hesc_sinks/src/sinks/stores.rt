@@ -32,10 +32,12 @@ pub(crate) fn store(room: &mut [u8], place: usize, bytes: &[u8]) -> usize
     ensures { Stored room.old room.new place bytes.now result }
 {
     let count = bytes.len();
-    if count > 32 {
+    if count > 64 {
         let end = place + count;
         room[place..end].copy_from_slice(bytes);
         end
+    } else if count >= 32 {
+        store_ends::<32>(room, place, bytes)
     } else if count >= 16 {
         store_ends::<16>(room, place, bytes)
     } else if count >= 8 {
