@@ -5,6 +5,7 @@ use Rattle.html_template.specs.declared.parts.Part.{Part}
 use Rattle.html_template.specs.declared.stored.Stored.{Stored}
 use Rattle.html_template.specs.declared.stored.Stored.TheVariants as stored
 use Rattle.html_template.specs.declared.stored.StoredMarkup.{StoredMarkup}
+use Rattle.html_template.specs.declared.stored.StoredSlot.{StoredSlot}
 use Rattle.html_tokenizer.specs.declared.slot_place.SlotPlace.{SlotPlace}
 use Rattle.html_tokenizer.specs.Tokenizer.States.{Tokenizer, data_state}
 use Rattle.html_tokenizer.specs.Standing.{state_after_slot}
@@ -29,10 +30,12 @@ pub after_markup : (pieces : List Stored) (m : StoredMarkup) (text : List ℕ) {
 after_markup pieces m text same was read =
     after_piece pieces (stored.Markup m) ∙ ap (λ t. state_after t m.text.now) was ∙ ap (state_after _) same ∙ sym read
 
-pub after_slot : (pieces : List Stored) (p : SlotPlace) {old new : Tokenizer} →
+pub after_slot : (pieces : List Stored) (s : StoredSlot) (p : SlotPlace) {old new : Tokenizer} →
+    s.place ≡ p →
     state_after_all data_state (map chunk_of pieces) ≡ old → new ≡ state_after_slot p old →
-    state_after_all data_state (map chunk_of (pieces ++ stored.Slot p ∷ [])) ≡ new
-after_slot pieces p was read = after_piece pieces (stored.Slot p) ∙ ap (state_after_slot p) was ∙ sym read
+    state_after_all data_state (map chunk_of (pieces ++ stored.Slot s ∷ [])) ≡ new
+after_slot pieces s p {old = old} same was read =
+    after_piece pieces (stored.Slot s) ∙ ap (state_after_slot s.place) was ∙ ap (λ (p : SlotPlace). state_after_slot p old) same ∙ sym read
 
 pub part_more : (pieces : List Stored) (p : Stored) →
     map part_of (map chunk_of (pieces ++ p ∷ [])) ≡ map part_of (map chunk_of pieces) ++ part_of (chunk_of p) ∷ []

@@ -1,3 +1,4 @@
+pub mod Encoders
 pub mod Templates
 pub mod TemplateFaults
 pub mod FillFaults

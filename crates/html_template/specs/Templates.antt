@@ -1,10 +1,9 @@
 -- Templates: where their slots stand, and their pages.
 use Rattle.std.specs.Prelude.{◌≢◌, ⊤, ℕ, List, [], ◌∷◌, ◌++◌, length, map}
 use Rattle.std.specs.Borrow.{Bor}
-use Rattle.html_escape.specs.declared.encoder.Encoder.{Encoder}
-use Rattle.html_escape.specs.declared.encoder.Encoder.TheVariants as encoder
 use Rattle.html_escape.specs.Encoders.{encoded}
 use Rattle.hesc_places.specs.Places.ReadBack.{read_back}
+pub use Rattle.html_template.specs.Encoders.{encoder_for}
 use Rattle.html_template.specs.declared.stored.Stored.{Stored}
 use Rattle.html_template.specs.declared.stored.Stored.TheVariants as stored
 use Rattle.html_template.specs.declared.parts.Part.{Part}
@@ -12,7 +11,7 @@ use Rattle.html_template.specs.declared.parts.Part.TheVariants as part
 use Rattle.html_template.specs.declared.parts.Piece.{Piece}
 use Rattle.html_template.specs.declared.parts.Piece.TheVariants as piece
 use Rattle.html_tokenizer.specs.declared.slot_place.SlotPlace.{SlotPlace}
-use Rattle.html_tokenizer.specs.declared.slot_place.SlotPlace.TheVariants.{Text, DoubleQuoted, SingleQuoted, Unquoted, ScriptSingle, ScriptDouble, StyleSingle, StyleDouble}
+use Rattle.html_tokenizer.specs.declared.slot_place.SlotPlace.TheVariants.{Unquoted}
 use Rattle.html_tokenizer.specs.Standing.{state_after_slot}
 use Rattle.html_tokenizer.specs.Tokenizer.Actions.{Action, read_byte}
 use Rattle.html_tokenizer.specs.Tokenizer.States.{Tokenizer}
@@ -22,17 +21,6 @@ use Rattle.html_tokenizer.specs.Tokenizer.Tokenization.{state_after, actions_of}
 pub data Chunk : Type 0 where
   Markup : List ℕ → Chunk
   Slot : SlotPlace → Chunk
-
--- the encoder for a place
-abbrev pub encoder_for : SlotPlace → Encoder
-encoder_for Text = encoder.Text
-encoder_for DoubleQuoted = encoder.DoubleQuotedAttribute
-encoder_for SingleQuoted = encoder.SingleQuotedAttribute
-encoder_for Unquoted = encoder.UnquotedAttribute
-encoder_for ScriptSingle = encoder.ScriptSingleQuoted
-encoder_for ScriptDouble = encoder.ScriptDoubleQuoted
-encoder_for StyleSingle = encoder.StyleSingleQuoted
-encoder_for StyleDouble = encoder.StyleDoubleQuoted
 
 -- the tokenizer after the pieces
 abbrev pub state_after_all : Tokenizer → List Chunk → Tokenizer
@@ -76,7 +64,7 @@ kept (piece.Slot p) = Slot p
 -- the same, as a template stores it
 abbrev pub chunk_of : Stored → Chunk
 chunk_of (stored.Markup markup) = Markup markup.text.now
-chunk_of (stored.Slot p) = Slot p
+chunk_of (stored.Slot slot) = Slot slot.place
 
 -- the texts as they are handed in
 abbrev pub texts_of : List (Bor (List ℕ)) → List (List ℕ)

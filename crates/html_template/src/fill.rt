@@ -41,9 +41,9 @@ impl Summary {
             rest = others;
             match piece {
                 Stored::Markup(piece) => markup = markup.saturating_add(piece.text.len()),
-                Stored::Slot(place) => {
+                Stored::Slot(slot) => {
                     slots += 1;
-                    has_unquoted = has_unquoted || *place == SlotPlace::Unquoted;
+                    has_unquoted = has_unquoted || slot.place == SlotPlace::Unquoted;
                 }
             }
         }
@@ -105,13 +105,13 @@ fn check_each(pieces: &[Stored], texts: &[&str]) -> Result<(), FillFault>
     let mut left = texts;
     'pieces: while let [piece, others @ ..] = rest {
         rest = others;
-        let Stored::Slot(place) = *piece else {
+        let Stored::Slot(slot) = piece else {
             continue 'pieces;
         };
         let [text, more @ ..] = left else {
             return Err(FillFault::WrongCount);
         };
-        if !may_fill(place, *text) {
+        if !may_fill(slot.place, *text) {
             return Err(FillFault::EmptyUnquoted(texts.len() - left.len()));
         }
         left = more;

@@ -1,41 +1,21 @@
 //! The page of a template and texts, as parts that are put.
-ghost use Rattle.std.specs.Prelude.{◌≡◌, ◌<◌, ◌≤◌, ◌+◌, ◌^◌, ◌++◌, ℕ, List, length, map, IfSome, IsOk, IsSome, OnOk};
+ghost use Rattle.std.specs.Prelude.{◌≡◌, ◌<◌, ◌≤◌, ◌+◌, ◌^◌, ◌++◌, length, map, IfSome, IsOk, IsSome, OnOk};
 ghost use Rattle.std.specs.String.{string_bytes};
-ghost use Rattle.hesc_specs.specs.Text.Escaped.{escaped};
 ghost use Rattle.hesc_engine.specs.Forms.{Appended, string_room};
-ghost use Rattle.html_escape.specs.Encoders.{encoded};
-ghost use Rattle.html_template.specs.Templates.{chunk_of, encoder_for, page, texts_of};
+ghost use Rattle.html_template.specs.Templates.{chunk_of, page, texts_of};
 
 use crate::fill::total_length;
-use crate::stored::{Stored, StoredMarkup};
+use crate::stored::Stored;
 use hesc_core::forms::{Parts, append_parts, append_to_string};
 use hesc_core::rules::{Escape, Unchanged};
-use hesc_core::{Class, CountOverflow, Rule, Sink};
+use hesc_core::{CountOverflow, Rule, Sink};
 use hesc_engine::engine::run_made;
 use hesc_engine::forms::made::Made;
 use hesc_engine::sinks::stack::StackSink;
-use html_tokenizer::SlotPlace;
 use std::alloc::{AllocError, Allocator};
 
 /// The most bytes of a page that is made on the stack.
 const SHORT: usize = 2048;
-
-// The class of the encoder for a place.
-#[inline(always)]
-fn class_for(place: SlotPlace) -> Class
-    ensures { (text : List ℕ) → escaped result text ≡ encoded (encoder_for place) text }
-{
-    match place {
-        SlotPlace::Text => Class::Text,
-        SlotPlace::DoubleQuoted => Class::DoubleQuotedAttribute,
-        SlotPlace::SingleQuoted => Class::SingleQuotedAttribute,
-        SlotPlace::Unquoted => Class::UnquotedAttribute,
-        SlotPlace::ScriptSingle => Class::ScriptSingleQuoted,
-        SlotPlace::ScriptDouble => Class::ScriptDoubleQuoted,
-        SlotPlace::StyleSingle => Class::StyleSingleQuoted,
-        SlotPlace::StyleDouble => Class::StyleDoubleQuoted,
-    }
-}
 
 /// The page of these texts. Whether they fill the pieces is the caller's to know.
 #[derive(Drop)]
@@ -131,17 +111,17 @@ fn page_length(pieces: &[Stored], texts: &[&str]) -> Option<usize>
     let mut left = texts;
     'pieces: while let [piece, others @ ..] = rest {
         rest = others;
-        let place = match piece {
+        let class = match piece {
             Stored::Markup(markup) => {
                 count = count.checked_add(markup.text.len())?;
                 continue 'pieces;
             }
-            Stored::Slot(place) => *place,
+            Stored::Slot(slot) => slot.class,
         };
         let [text, more @ ..] = left else {
             continue 'pieces;
         };
-        let added = Escape(class_for(place)).total(*text)?;
+        let added = Escape(class).total(*text)?;
         count = count.checked_add(added)?;
         left = more;
     }
@@ -161,37 +141,26 @@ fn put_pieces<S: Sink>(pieces: &[Stored], texts: &[&str], sink: &mut S) -> Resul
     let mut left = texts;
     'pieces: while let [piece, others @ ..] = rest {
         rest = others;
-        let place = match piece {
-            Stored::Markup(markup) => {
-                put_markup(markup, sink)?;
-                continue 'pieces;
-            }
-            Stored::Slot(place) => *place,
+        let class = match piece {
+            Stored::Markup(markup) => match markup.as_stretch() {
+                Some(segment) => {
+                    sink.put_stretch(segment)?;
+                    continue 'pieces;
+                }
+                None => {
+                    sink.put(markup.text)?;
+                    continue 'pieces;
+                }
+            },
+            Stored::Slot(slot) => slot.class,
         };
         let [text, more @ ..] = left else {
             continue 'pieces;
         };
-        put_made(&Escape(class_for(place)), *text, sink)?;
+        put_made(&Escape(class), *text, sink)?;
         left = more;
     }
     Ok(())
-}
-
-// Puts markup, by one block where it is short.
-#[inline(always)]
-fn put_markup<S: Sink>(markup: &StoredMarkup<'_>, sink: &mut S) -> Result<(), S::Fault>
-    ensures ok_taken { OnOk result (S.taken sink.new ≡ S.taken sink.old ++ markup.now.text.now) }
-    ensures ok_failures { OnOk result (S.failures sink.new ≡ S.failures sink.old) }
-    ensures fits { length markup.now.text.now ≤ S.room sink.old → IsOk result }
-    ensures room { OnOk result
-        (S.room sink.old ≤ S.room sink.new + length markup.now.text.now) }
-    ensures same_reference { S.reference sink.new ≡ S.reference sink.old }
-    ensures same_before { S.before sink.new ≡ S.before sink.old }
-{
-    match markup.as_segment() {
-        Some(segment) => sink.put_segment(segment),
-        None => sink.put(markup.text),
-    }
 }
 
 // Puts what the rule makes of the text.

@@ -1,14 +1,17 @@
 //! What a template stores of its parts.
-ghost use Rattle.std.specs.Prelude.{◌≡◌, ◌≤◌, length, take};
+ghost use Rattle.std.specs.Prelude.{◌≡◌, ◌≤◌, ℕ, List, length, take};
+ghost use Rattle.hesc_specs.specs.Text.Escaped.{escaped};
+ghost use Rattle.html_escape.specs.Encoders.{encoded};
+ghost use Rattle.html_template.specs.Encoders.{encoder_for};
 
-use hesc_core::{Replacement, Segment, SmallText};
+use hesc_core::{Class, Replacement, Segment};
 use html_tokenizer::SlotPlace;
 
 /// A piece, as a template stores it.
 #[derive(Clone, Copy)]
 pub(crate) enum Stored<'a> {
     Markup(StoredMarkup<'a>),
-    Slot(SlotPlace),
+    Slot(StoredSlot),
 }
 
 /// Markup, and its first bytes as a block: short markup is put by one copy of the block.
@@ -22,7 +25,6 @@ pub(crate) struct StoredMarkup<'a> {
 
 impl<'a> StoredMarkup<'a> {
     ghost use Rattle.std.specs.Prelude.{IfSome};
-    ghost use Rattle.hesc_sinks.specs.Text.{segment_bytes};
 
     /// The markup of this text.
     pub(crate) fn new(text: &'a str) -> StoredMarkup<'a>
@@ -35,10 +37,10 @@ impl<'a> StoredMarkup<'a> {
         StoredMarkup { text, block }
     }
 
-    /// A segment that is this markup, if it is short.
+    /// A segment with this markup as its stretch, if it is short.
     #[inline(always)]
-    pub(crate) fn as_segment(&self) -> Option<Segment<'_>>
-        ensures { IfSome result (λ segment. segment_bytes segment ≡ self.now.text.now) }
+    pub(crate) fn as_stretch(&self) -> Option<Segment<'_>>
+        ensures { IfSome result (λ segment. segment.kept.now ≡ self.now.text.now) }
     {
         if self.text.len() > self.block.len() {
             return None;
@@ -47,7 +49,41 @@ impl<'a> StoredMarkup<'a> {
             start: 0,
             rest: &self.block,
             kept: self.text,
-            new: Replacement::Small(SmallText::new("")),
+            new: Replacement::Borrowed(""),
         })
+    }
+}
+
+/// A slot, and the class of the encoder for its place.
+#[derive(Clone, Copy)]
+pub(crate) struct StoredSlot {
+    pub(crate) place: SlotPlace,
+    pub(crate) class: Class,
+    pub(crate) ghost encodes: { (text : List ℕ) → escaped class text ≡ encoded (encoder_for place) text },
+}
+
+impl StoredSlot {
+    /// A slot at this place.
+    pub(crate) fn new(place: SlotPlace) -> StoredSlot
+        ensures { result.place ≡ place }
+    {
+        let class = class_for(place);
+        StoredSlot { place, class }
+    }
+}
+
+// The class of the encoder for a place.
+fn class_for(place: SlotPlace) -> Class
+    ensures { (text : List ℕ) → escaped result text ≡ encoded (encoder_for place) text }
+{
+    match place {
+        SlotPlace::Text => Class::Text,
+        SlotPlace::DoubleQuoted => Class::DoubleQuotedAttribute,
+        SlotPlace::SingleQuoted => Class::SingleQuotedAttribute,
+        SlotPlace::Unquoted => Class::UnquotedAttribute,
+        SlotPlace::ScriptSingle => Class::ScriptSingleQuoted,
+        SlotPlace::ScriptDouble => Class::ScriptDoubleQuoted,
+        SlotPlace::StyleSingle => Class::StyleSingleQuoted,
+        SlotPlace::StyleDouble => Class::StyleDoubleQuoted,
     }
 }

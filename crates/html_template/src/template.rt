@@ -22,7 +22,7 @@ use crate::faults::{FillFault, TemplateFault};
 use crate::fill::{Summary, check};
 use crate::page::{Page, append_page};
 use crate::parts::Part;
-use crate::stored::{Stored, StoredMarkup};
+use crate::stored::{Stored, StoredMarkup, StoredSlot};
 use html_tokenizer::{Reader, Standing};
 use std::alloc::{Allocator, Global};
 
@@ -128,7 +128,7 @@ fn take_part<'a, A: Allocator>(
             Stored::Markup(StoredMarkup::new(text))
         }
         Part::Slot => match reader.slot() {
-            Standing::Stands(place) => Stored::Slot(place),
+            Standing::Stands(place) => Stored::Slot(StoredSlot::new(place)),
             Standing::Barred => return Err(TemplateFault::Forbidden(number)),
             Standing::Nowhere => return Err(TemplateFault::NoPlace(number)),
         },
