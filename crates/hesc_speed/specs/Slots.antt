@@ -4,14 +4,19 @@ use Rattle.html_escape.specs.Encoders.{encoded}
 use Rattle.html_escape.specs.declared.encoder.Encoder.TheVariants as encoder
 use Rattle.html_template.specs.Templates.{Given, GivenMarkup, GivenSlot}
 
--- the parts of a row, with a slot in an attribute's value and one in text
-abbrev pub with_row : List Given → List Given
-with_row parts =
-    GivenMarkup (codes "<p title=\"") ∷ (GivenSlot ∷ (GivenMarkup (codes "\">") ∷ (GivenSlot ∷ (GivenMarkup (codes "</p>") ∷ parts))))
+-- a slot in an attribute's value and one in text, and the markup after them
+abbrev pub with_row : List ℕ → List Given → List Given
+with_row after parts =
+    GivenSlot ∷ (GivenMarkup (codes "\">") ∷ (GivenSlot ∷ (GivenMarkup after ∷ parts)))
+
+abbrev pub with_next_row : List Given → List Given
+with_next_row parts = with_row (codes "</p><p title=\"") parts
 
 -- ten of them
 abbrev pub twenty_slots : List Given
-twenty_slots = with_row (with_row (with_row (with_row (with_row (with_row (with_row (with_row (with_row (with_row [])))))))))
+twenty_slots =
+    GivenMarkup (codes "<p title=\"")
+    ∷ with_next_row (with_next_row (with_next_row (with_next_row (with_next_row (with_next_row (with_next_row (with_next_row (with_next_row (with_row (codes "</p>") [])))))))))
 
 -- the row of two texts, and a row for each two
 abbrev pub row_of : List ℕ → List ℕ → List ℕ
