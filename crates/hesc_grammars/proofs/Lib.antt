@@ -9,3 +9,4 @@ pub mod ReadingTurns
 pub mod TextItems
 pub mod ReadTexts
 pub mod ReadBacks
+pub mod ReadStretches

@@ -1,11 +1,12 @@
 -- What is read from a text is a text: a reader may stand within a character, and then the rest of it comes next.
-use Rattle.std.proofs.Common.{ℕ, ◌≡◌, ◌≢◌, ◌<◌, ◌+◌, inl, inr, true, List, [], ◌∷◌, ◌++◌, IsUtf8, length, drop, encode_utf8, refl, sym, ap, ◌∙◌, subst, arith, append_assoc, append-nil}
+use Rattle.std.proofs.Common.{ℕ, ◌≡◌, zero, suc, ◌≢◌, ◌≤◌, ◌<◌, ◌+◌, inl, inr, true, List, [], ◌∷◌, ◌++◌, IsUtf8, length, take, drop, encode_utf8, refl, sym, ap, ◌∙◌, subst, arith, append_assoc, append-nil}
 use Rattle.std.proofs.Math.Utf8.{encodes, scalars}
 use Rattle.std.proofs.lemmas.Bool.{and_parts, cases_lt}
 use Rattle.std.proofs.lemmas.Str.{IsCharBoundary-after_ascii, IsUtf8-append, IsUtf8-drop, IsUtf8-nil, encode_ascii, len_utf8_bounds, length-encode}
 use Rattle.std.specs.Prelude.{slice_index}
 use Rattle.hesc_specs.proofs.Text.HighBytes.{AreHigh, encode-high}
 use Rattle.hesc_grammars.specs.declared.step.Mode.{Mode}
+use Rattle.hesc_grammars.specs.declared.step.Mode.TheVariants.{Plain}
 use Rattle.hesc_grammars.specs.declared.step.Step.TheVariants.{Close, Byte, Character}
 use Rattle.hesc_grammars.proofs.TextItems.{IsTextItem}
 
@@ -116,3 +117,15 @@ takes_character value rest items following more c next character within item rea
     rw (added, dropped)
     (between (value ++ encode_utf8 c) (drop (more + 1) rest) (IsUtf8-append value (encode_utf8 c) at.0 character)
     (IsUtf8-drop rest (more + 1) at.1 (IsCharBoundary-after_ascii rest more at.1 within item.1)))
+
+takes_bytes : (count : ℕ) (value rest : List ℕ) → count ≤ length rest → ReadsText value rest → ReadsText (value ++ take count rest) (drop count rest)
+takes_bytes zero value rest within reads = rw (append-nil value) reads
+takes_bytes (suc count) value [] within reads = absurd (omega arith)
+takes_bytes (suc count) value (b ∷ rest) within reads =
+    let one : ReadsText (value ++ b ∷ []) rest = takes_byte value (b ∷ rest) (value ++ b ∷ []) rest 0 b Plain (omega arith) (inl (refl, refl)) reads refl refl in
+    rw (← append_assoc value (b ∷ []) (take count rest)) (takes_bytes count (value ++ b ∷ []) rest (omega arith) one)
+
+-- bytes as they stand, however many
+pub takes_stretch : {value rest items plain following : List ℕ} {count : ℕ} → count ≤ length rest → ReadsText value rest
+    → items ≡ value ++ plain → plain ≡ take count rest → following ≡ drop count rest → ReadsText items following
+takes_stretch {value} {rest} {count = count} within reads added taken dropped = rw (added, taken, dropped) (takes_bytes count value rest within reads)

@@ -6,3 +6,4 @@ pub mod StyleStrings
 pub mod Bodies
 pub mod Reading
 pub mod Places
+pub mod Stretches

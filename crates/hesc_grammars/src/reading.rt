@@ -1,11 +1,12 @@
 //! The readers of places: what stands in a place, and where it ends.
-ghost use Rattle.std.specs.Prelude.{◌≡◌, ◌<◌, length, IfOk, IfSome};
+ghost use Rattle.std.specs.Prelude.{◌≡◌, ◌<◌, ◌++◌, length, IfOk, IfSome, OnOk};
 ghost use Rattle.std.specs.Option.{option_map};
 ghost use Rattle.std.specs.Str.{IsUtf8};
 ghost use Rattle.hesc_grammars.specs.Places.{end_of, reading};
 
 use crate::place::Place;
 use crate::step::{Mode, Step, first_mode, step_of};
+use crate::stretches::stretch;
 use std::alloc::{AllocError, Allocator, Global};
 
 /// What stands in a place, and where it ends.
@@ -36,6 +37,9 @@ pub fn read_place<A: Allocator>(
     let mut mode = first_mode(place);
     let mut rest = bytes;
     'reading: while !rest.is_empty() {
+        let (plain, other) = rest.split_at(stretch(place, mode, rest));
+        append(&mut value, plain)?;
+        rest = other;
         match step_of(place, mode, rest) {
             Step::Close => {
                 let end = bytes.len() - rest.len();
@@ -63,6 +67,16 @@ pub fn read_place<A: Allocator>(
     Ok(None)
 }
 
+// Between two items of other kinds the stretch is often empty, and no call is made for it.
+fn append<A: Allocator>(value: &mut Vec<u8, A>, stretch: &[u8]) -> Result<(), AllocError>
+    ensures { OnOk result (value.new.items ≡ value.old.items ++ stretch.now) }
+{
+    if stretch.is_empty() {
+        return Ok(());
+    }
+    value.extend_from_slice(stretch)
+}
+
 /// The end of that reading, where there is one. It takes no memory, and a time linear in the bytes.
 ///
 /// In `Place::Text`, `a&lt;b</p>` ends at byte 6.
@@ -72,6 +86,7 @@ pub fn end_of_place(place: Place, bytes: &[u8]) -> Option<usize>
     let mut mode = first_mode(place);
     let mut rest = bytes;
     'reading: while !rest.is_empty() {
+        rest = rest.split_at(stretch(place, mode, rest)).1;
         match step_of(place, mode, rest) {
             Step::Close => return Some(bytes.len() - rest.len()),
             Step::Nothing => return None,

@@ -1,8 +1,7 @@
-use Rattle.std.proofs.Common.{◌++◌, ap, sym, ◌∙◌, arith, rules}
-use Rattle.std.proofs.lemmas.Bool.{eqb-false}
-use Rattle.hesc_grammars.proofs.ReadingTurns.{ends, knows_nothing, lacks_byte, lacks_character, goes_past_byte, goes_past_character}
+use Rattle.std.proofs.Common.{◌++◌, ◌≢◌, ap, sym, ◌∙◌, length, arith, rules}
+use Rattle.hesc_grammars.proofs.ReadingTurns.{closes_by_byte, ends, knows_nothing, lacks_byte, lacks_character, goes_past_byte, goes_past_character, goes_past_stretch}
 use Rattle.hesc_grammars.proofs.TextItems.{item_of_text}
-use Rattle.hesc_grammars.proofs.ReadTexts.{begun, ended, takes_byte, takes_character}
+use Rattle.hesc_grammars.proofs.ReadTexts.{begun, ended, takes_byte, takes_character, takes_stretch}
 use Rattle.hesc_grammars.proofs.reading.read_place.Goals as goal
 
 pub reading-init : goal.reading-init
@@ -12,37 +11,58 @@ reading-init g c = record {
 }
 
 pub returns-in-Close-clause-value : goal.returns-in-Close-clause-value
-returns-in-Close-clause-value g c = ends c.reading.invariant.follows (eqb-false _ 0 (sym c.reading-test.ensures)) c.in-Close.ensures
+returns-in-Close-clause-value g c =
+    let follows = goes_past_stretch c.reading.invariant.follows c.stretch.ensures c.in_ok-append.ensures c.split_at.ensures.front c.split_at.ensures.back in
+    ends follows c.in-Close.ensures
+
+pub returns-in-Close-clause-within : goal.returns-in-Close-clause-within
+returns-in-Close-clause-within g c =
+    let full = closes_by_byte c.args.place c.reading.mode c.split_at.result.1.now c.in-Close.ensures in
+    omega (arith, full, c.reading.invariant.follows.shorter, c.stretch.ensures.within, c.split_at.ensures.back_len)
 
 pub returns-in-Close-clause-utf8 : goal.returns-in-Close-clause-utf8
-returns-in-Close-clause-utf8 g c text =
-    let item = item_of_text c.args.place c.reading.mode c.reading.rest.now (eqb-false _ 0 (sym c.reading-test.ensures)) in
-    ended _ _ (rw (sym c.in-Close.ensures) at item) (c.reading.invariant.text text)
+returns-in-Close-clause-utf8 g c utf8 =
+    let full = closes_by_byte c.args.place c.reading.mode c.split_at.result.1.now c.in-Close.ensures in
+    let item = item_of_text c.args.place c.reading.mode c.split_at.result.1.now full in
+    let text = takes_stretch c.stretch.ensures.within (c.reading.invariant.text utf8) c.in_ok-append.ensures c.split_at.ensures.front c.split_at.ensures.back in
+    ended _ _ (rw (sym c.in-Close.ensures) at item) text
 
 pub returns-in-Nothing-clause-value : goal.returns-in-Nothing-clause-value
-returns-in-Nothing-clause-value g c = knows_nothing c.reading.invariant.follows (eqb-false _ 0 (sym c.reading-test.ensures)) c.in-Nothing.ensures
+returns-in-Nothing-clause-value g c =
+    let follows = goes_past_stretch c.reading.invariant.follows c.stretch.ensures c.in_ok-append.ensures c.split_at.ensures.front c.split_at.ensures.back in
+    knows_nothing follows c.in-Nothing.ensures
 
 pub returns-then-more-rest-clause-value : goal.returns-then-more-rest-clause-value
-returns-then-more-rest-clause-value g c = lacks_byte c.reading.invariant.follows (eqb-false _ 0 (sym c.reading-test.ensures)) c.in-Byte.ensures c.if-more-rest.true
+returns-then-more-rest-clause-value g c =
+    let follows = goes_past_stretch c.reading.invariant.follows c.stretch.ensures c.in_ok-append.ensures c.split_at.ensures.front c.split_at.ensures.back in
+    lacks_byte follows c.in-Byte.ensures c.if-more-rest.true
 
 pub returns-then-more-rest-2-clause-value : goal.returns-then-more-rest-2-clause-value
 returns-then-more-rest-2-clause-value g c =
-    lacks_character c.reading.invariant.follows (eqb-false _ 0 (sym c.reading-test.ensures)) c.in-Character.ensures c.if-more-rest-2.true
+    let follows = goes_past_stretch c.reading.invariant.follows c.stretch.ensures c.in_ok-append.ensures c.split_at.ensures.front c.split_at.ensures.back in
+    lacks_character follows c.in-Character.ensures c.if-more-rest-2.true
 
 pub reading-preserved-in-Byte : goal.reading-preserved-in-Byte
 reading-preserved-in-Byte g c =
-    let item = item_of_text c.args.place c.reading.mode c.reading.rest.now (eqb-false _ 0 (sym c.reading-test.ensures)) in
+    let follows = goes_past_stretch c.reading.invariant.follows c.stretch.ensures c.in_ok-append.ensures c.split_at.ensures.front c.split_at.ensures.back in
+    let full : length c.split_at.result.1.now ≢ 0 = λ none. omega (arith, none, c.if-more-rest.false) in
+    let item = item_of_text c.args.place c.reading.mode c.split_at.result.1.now full in
     record {
-      follows =
-          goes_past_byte c.reading.invariant.follows (eqb-false _ 0 (sym c.reading-test.ensures)) c.in-Byte.ensures (omega arith) c.in_ok-push-in-Byte.ensures.items c.split_at.ensures.back;
-      text = λ utf8. takes_byte _ _ _ _ _ _ c.in-Byte.next (omega arith) (rw (sym c.in-Byte.ensures) at item) (c.reading.invariant.text utf8) c.in_ok-push-in-Byte.ensures.items c.split_at.ensures.back;
+      follows = goes_past_byte follows c.in-Byte.ensures (omega arith) c.in_ok-push-in-Byte.ensures.items c.split_at-in-Byte.ensures.back;
+      text = λ utf8.
+          let text = takes_stretch c.stretch.ensures.within (c.reading.invariant.text utf8) c.in_ok-append.ensures c.split_at.ensures.front c.split_at.ensures.back in
+          takes_byte _ _ _ _ _ _ c.in-Byte.next (omega arith) (rw (sym c.in-Byte.ensures) at item) text c.in_ok-push-in-Byte.ensures.items c.split_at-in-Byte.ensures.back;
     }
 
 pub reading-preserved : goal.reading-preserved
 reading-preserved g c =
-    let items = c.in_ok-extend_from_slice-in-Character.ensures.items ∙ ap (λ more. c.reading.value.items ++ more) (c.as_bytes.ensures.value ∙ c.encode_utf8.ensures.value) in
-    let item = item_of_text c.args.place c.reading.mode c.reading.rest.now (eqb-false _ 0 (sym c.reading-test.ensures)) in
+    let follows = goes_past_stretch c.reading.invariant.follows c.stretch.ensures c.in_ok-append.ensures c.split_at.ensures.front c.split_at.ensures.back in
+    let items = c.in_ok-extend_from_slice-in-Character.ensures.items ∙ ap (λ more. c.append.new.value.items ++ more) (c.as_bytes.ensures.value ∙ c.encode_utf8.ensures.value) in
+    let full : length c.split_at.result.1.now ≢ 0 = λ none. omega (arith, none, c.if-more-rest-2.false) in
+    let item = item_of_text c.args.place c.reading.mode c.split_at.result.1.now full in
     record {
-      follows = goes_past_character c.reading.invariant.follows (eqb-false _ 0 (sym c.reading-test.ensures)) c.in-Character.ensures (omega arith) items c.split_at-in-Character.ensures.back;
-      text = λ utf8. takes_character _ _ _ _ _ _ c.in-Character.next (rw c.encode_utf8.ensures.value at c.encode_utf8.utf8) (omega arith) (rw (sym c.in-Character.ensures) at item) (c.reading.invariant.text utf8) items c.split_at-in-Character.ensures.back;
+      follows = goes_past_character follows c.in-Character.ensures (omega arith) items c.split_at-in-Character.ensures.back;
+      text = λ utf8.
+          let text = takes_stretch c.stretch.ensures.within (c.reading.invariant.text utf8) c.in_ok-append.ensures c.split_at.ensures.front c.split_at.ensures.back in
+          takes_character _ _ _ _ _ _ c.in-Character.next (rw c.encode_utf8.ensures.value at c.encode_utf8.utf8) (omega arith) (rw (sym c.in-Character.ensures) at item) text items c.split_at-in-Character.ensures.back;
     }

@@ -1,0 +1,44 @@
+//! How far the bytes of a place are read as they stand.
+ghost use Rattle.hesc_grammars.specs.Places.{step_of};
+ghost use Rattle.hesc_grammars.specs.Stretches.{IsStretch};
+ghost use Rattle.hesc_grammars.specs.declared.step.Mode.TheVariants.{Plain};
+
+use crate::place::Place;
+use crate::step::Mode;
+use hesc_scan::find::{first_byte, first_of_two};
+use hesc_scan::scan::first_in;
+use hesc_specs::Class;
+
+/// How many bytes at the front are each read as themselves and leave the mode as it is. It may be too
+/// few, since the searches stop at more bytes than the grammars do.
+///
+/// `stretch(Place::Text, Mode::Plain, b"ab&lt;c")` is 2.
+pub(crate) fn stretch(place: Place, mode: Mode, bytes: &[u8]) -> usize
+    ensures { IsStretch (step_of place) mode bytes.now result }
+{
+    match mode {
+        Mode::Empty => 0,
+        Mode::Plain => plain_stretch(place, bytes),
+        Mode::Escaped | Mode::DoubleEscaped => match place {
+            // A `-` may begin the end of the comment.
+            Place::ScriptBody => first_of_two(b'<', b'-', bytes, 0),
+            _ => 0,
+        },
+    }
+}
+
+fn plain_stretch(place: Place, bytes: &[u8]) -> usize
+    ensures { IsStretch (step_of place) Plain bytes.now result }
+{
+    match place {
+        Place::Text => first_of_two(b'<', b'&', bytes, 0),
+        Place::DoubleAttribute => first_of_two(b'"', b'&', bytes, 0),
+        Place::SingleAttribute => first_of_two(b'\'', b'&', bytes, 0),
+        Place::UnquotedAttribute(_) => first_in(Class::UnquotedAttribute, bytes, 0),
+        Place::ScriptSingle => first_in(Class::ScriptSingleQuoted, bytes, 0),
+        Place::ScriptDouble => first_in(Class::ScriptDoubleQuoted, bytes, 0),
+        Place::StyleSingle => first_in(Class::StyleSingleQuoted, bytes, 0),
+        Place::StyleDouble => first_in(Class::StyleDoubleQuoted, bytes, 0),
+        Place::ScriptBody | Place::StyleBody => first_byte(b'<', bytes, 0),
+    }
+}
