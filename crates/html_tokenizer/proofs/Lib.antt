@@ -1,4 +1,5 @@
 pub mod HeldWords
 pub mod Passing
+pub mod Staying
 pub mod Slots
 pub mod Agreement

@@ -13,6 +13,7 @@ pub mod laws;
 mod reader;
 mod slot_place;
 mod states;
+mod stretches;
 mod strings;
 mod tags;
 mod values;

@@ -1,15 +1,17 @@
 //! The running tokenizer.
-ghost use Rattle.std.specs.Prelude.{◌≡◌, ◌++◌, ◌∷◌, [], ◌↔◌, OnOk, IsTrue};
+ghost use Rattle.std.specs.Prelude.{◌≡◌, ◌≤◌, ◌++◌, ◌∷◌, [], ◌↔◌, OnOk, IfOk, IsTrue, length, take};
 ghost use Rattle.html_tokenizer.specs.Standing.{AfterStanding, is_refused, may_end, standing};
 ghost use Rattle.html_tokenizer.specs.Tokenizer.CodeStrings.{script_escape_byte};
 ghost use Rattle.html_tokenizer.specs.Tokenizer.Names.{reference_read};
 ghost use Rattle.html_tokenizer.specs.Tokenizer.Phases.{attribute_in, moved, tokenizer_of};
 ghost use Rattle.html_tokenizer.specs.Tokenizer.States.{data_state};
 ghost use Rattle.html_tokenizer.specs.Tokenizer.Tokenization.{consume, state_after};
+ghost use Rattle.html_tokenizer.specs.declared.states.Kind.TheVariants as kind;
 
 use crate::consume::byte_in;
 use crate::slot_place::SlotPlace;
 use crate::states::{Content, Kind, Move, Phase, Word};
+use crate::stretches::{lengthens_name, stretch};
 use crate::strings::script_escape_byte;
 use std::alloc::{AllocError, Allocator};
 
@@ -93,6 +95,38 @@ impl<A: Allocator> Reader<A> {
         }
     }
 
+    // Reads on in a name, if one is read, over its first bytes, and answers how many.
+    fn name_bytes(&mut self, bytes: &[u8]) -> Result<usize, AllocError>
+        requires { self.old.kind ≡ kind.Ordinary }
+        ensures within { IfOk result (λ count. count ≤ length bytes.now) }
+        ensures read { IfOk result (λ count. tokenizer_of self.new
+            ≡ state_after (tokenizer_of self.old) (take count bytes.now)) }
+    {
+        let phase = self.phase;
+        let mut count = 0;
+        'name: while count < bytes.len() && lengthens_name(phase, bytes[count]) {
+            self.word.push(bytes[count].to_ascii_lowercase())?;
+            count += 1;
+        }
+        Ok(count)
+    }
+
+    // Reads over the first bytes that lead to no other state, or only to a longer name, and answers
+    // how many.
+    #[inline(always)]
+    fn pass(&mut self, bytes: &[u8]) -> Result<usize, AllocError>
+        ensures within { IfOk result (λ count. count ≤ length bytes.now) }
+        ensures read { IfOk result (λ count. tokenizer_of self.new
+            ≡ state_after (tokenizer_of self.old) (take count bytes.now)) }
+    {
+        match (self.phase, self.kind) {
+            (Phase::TagName | Phase::EndTagName | Phase::Name, Kind::Ordinary) => {
+                self.name_bytes(bytes)
+            }
+            _ => Ok(stretch(self.phase, self.content, self.kind, bytes)),
+        }
+    }
+
     /// Reads on.
     ///
     /// After `reader.read(b"<p title=\"")?`, `slot()` is `Standing::Stands(SlotPlace::DoubleQuoted)`.
@@ -100,10 +134,13 @@ impl<A: Allocator> Reader<A> {
         ensures { OnOk result (tokenizer_of self.new
             ≡ state_after (tokenizer_of self.old) bytes.now) }
     {
-        let mut rest = bytes;
-        'bytes: while let [byte, others @ ..] = rest {
-            self.step(*byte)?;
-            rest = others;
+        let mut done = 0;
+        'bytes: while done < bytes.len() {
+            done += self.pass(&bytes[done..])?;
+            if done < bytes.len() {
+                self.step(bytes[done])?;
+                done += 1;
+            }
         }
         Ok(())
     }

@@ -1,0 +1,168 @@
+//! Stretches of bytes at which the tokenizer stays where it is.
+//!
+//! A count may be less than the whole stretch, never more.
+ghost use Rattle.std.specs.Char.{to_ascii_lowercase};
+ghost use Rattle.std.specs.Prelude.{◌≡◌, ◌≤◌, ◌++◌, ◌∷◌, [], ℕ, List, length, take, IsTrue};
+ghost use Rattle.html_tokenizer.specs.Tokenizer.Names.{value_byte_read};
+ghost use Rattle.html_tokenizer.specs.Tokenizer.Phases.{attribute_in, state_of};
+ghost use Rattle.html_tokenizer.specs.Tokenizer.States.{Attribute, In, InCode, at, at_value};
+ghost use Rattle.html_tokenizer.specs.Tokenizer.Tokenization.{consume, state_after};
+ghost use Rattle.html_tokenizer.specs.declared.states.Content.{Content};
+
+use crate::slot_place::SlotPlace;
+use crate::states::{Code, Content, Kind, Phase};
+use hesc_scan::find::{first_byte, first_of_two};
+
+// Whether the tokenizer stays in the code at the byte.
+#[inline(always)]
+#[tactic(auto, unfolding(crate::specs::Tokenizer::Tokenization::consume))]
+fn stays_in_code(code: Code, content: Content, byte: u8) -> bool
+    ensures { IsTrue result
+        → (consume (at (InCode code) content) byte).next ≡ at (InCode code) content }
+{
+    match (content, code) {
+        (Content::Script, Code::Plain) => !matches!(
+            byte,
+            b'"' | b'\'' | b'\\' | b'`' | b'#' | b'/' | b'-' | b'<'
+        ),
+        (Content::Script, Code::LineComment) => !matches!(byte, b'\n' | b'\r' | 0xE2 | b'<'),
+        (Content::Style, Code::Plain) => !matches!(
+            byte,
+            b'"' | b'\'' | b'\\' | b'/' | b'@' | b'u' | b'U' | b'<'
+        ),
+        (Content::Style, Code::Url) => !matches!(byte, b'"' | b'\'' | b'(' | b')' | b'\\' | b'<'),
+        _ => false,
+    }
+}
+
+// Where the code is given by its name, a loop of its own.
+#[inline(always)]
+#[tactic(auto, using(crate::proofs::Staying::stays_longer))]
+fn code_bytes(code: Code, content: Content, bytes: &[u8]) -> usize
+    ensures within { result ≤ length bytes.now }
+    ensures stays { state_after (at (InCode code) content) (take result bytes.now)
+        ≡ at (InCode code) content }
+{
+    let mut count = 0;
+    'code: while count < bytes.len() && stays_in_code(code, content, bytes[count]) {
+        count += 1;
+    }
+    count
+}
+
+#[inline(always)]
+fn code_stretch(code: Code, content: Content, bytes: &[u8]) -> usize
+    ensures within { result ≤ length bytes.now }
+    ensures stays { state_after (at (InCode code) content) (take result bytes.now)
+        ≡ at (InCode code) content }
+{
+    match (content, code) {
+        (Content::Script, Code::Plain) => code_bytes(Code::Plain, Content::Script, bytes),
+        (Content::Script, Code::LineComment) => {
+            code_bytes(Code::LineComment, Content::Script, bytes)
+        }
+        (Content::Script, Code::BlockComment) => first_of_two(b'*', b'<', bytes, 0),
+        (Content::Style, Code::Plain) => code_bytes(Code::Plain, Content::Style, bytes),
+        (Content::Style, Code::Url) => code_bytes(Code::Url, Content::Style, bytes),
+        (Content::Style, Code::BlockComment) => first_of_two(b'*', b'<', bytes, 0),
+        (Content::DataBlock, Code::Plain) => first_byte(b'<', bytes, 0),
+        _ => 0,
+    }
+}
+
+// Whether the tokenizer stays in the value at the byte, unless the byte tells what the value means.
+#[inline(always)]
+#[tactic(auto, unfolding(crate::specs::Tokenizer::Tokenization::consume))]
+fn stays_in_value(place: SlotPlace, byte: u8) -> bool
+    ensures { IsTrue result → (content : Content) (attribute : Attribute)
+        → value_byte_read attribute byte ≡ attribute
+        → (consume (at_value (In place) content attribute) byte).next
+        ≡ at_value (In place) content attribute }
+{
+    match place {
+        SlotPlace::Text => !matches!(byte, b'<' | b'&'),
+        SlotPlace::DoubleQuoted => !matches!(byte, b'"' | b'&'),
+        SlotPlace::SingleQuoted => !matches!(byte, b'\'' | b'&'),
+        SlotPlace::Unquoted => !matches!(
+            byte,
+            b'\t' | b'\n' | b'\x0c' | b'\r' | b' ' | b'>' | b'&' | b'"' | b'\'' | b'<' | b'=' | b'`'
+        ),
+        SlotPlace::ScriptSingle => !matches!(byte, b'\'' | b'\\' | b'<' | b'\n' | b'\r'),
+        SlotPlace::ScriptDouble => !matches!(byte, b'"' | b'\\' | b'<' | b'\n' | b'\r'),
+        SlotPlace::StyleSingle => {
+            !matches!(byte, b'\'' | b'\\' | b'<' | b'\n' | b'\r' | b'\x0c' | 0)
+        }
+        SlotPlace::StyleDouble => {
+            !matches!(byte, b'"' | b'\\' | b'<' | b'\n' | b'\r' | b'\x0c' | 0)
+        }
+    }
+}
+
+#[inline(always)]
+#[tactic(auto, using(crate::proofs::Staying::stays_longer))]
+fn value_bytes(place: SlotPlace, bytes: &[u8]) -> usize
+    ensures within { result ≤ length bytes.now }
+    ensures stays { (content : Content) (attribute : Attribute)
+        → ((b : ℕ) → value_byte_read attribute b ≡ attribute)
+        → state_after (at_value (In place) content attribute) (take result bytes.now)
+        ≡ at_value (In place) content attribute }
+{
+    let mut count = 0;
+    'value: while count < bytes.len() && stays_in_value(place, bytes[count]) {
+        count += 1;
+    }
+    count
+}
+
+#[inline(always)]
+fn value_stretch(place: SlotPlace, bytes: &[u8]) -> usize
+    ensures within { result ≤ length bytes.now }
+    ensures stays { (content : Content) (attribute : Attribute)
+        → ((b : ℕ) → value_byte_read attribute b ≡ attribute)
+        → state_after (at_value (In place) content attribute) (take result bytes.now)
+        ≡ at_value (In place) content attribute }
+{
+    match place {
+        SlotPlace::Text => first_of_two(b'<', b'&', bytes, 0),
+        SlotPlace::DoubleQuoted => first_of_two(b'"', b'&', bytes, 0),
+        SlotPlace::SingleQuoted => first_of_two(b'\'', b'&', bytes, 0),
+        SlotPlace::Unquoted => value_bytes(SlotPlace::Unquoted, bytes),
+        SlotPlace::ScriptSingle => value_bytes(SlotPlace::ScriptSingle, bytes),
+        SlotPlace::ScriptDouble => value_bytes(SlotPlace::ScriptDouble, bytes),
+        SlotPlace::StyleSingle => value_bytes(SlotPlace::StyleSingle, bytes),
+        SlotPlace::StyleDouble => value_bytes(SlotPlace::StyleDouble, bytes),
+    }
+}
+
+/// How many of the first bytes leave the tokenizer where it is: all up to one that does not, or fewer.
+pub(crate) fn stretch(phase: Phase, content: Content, kind: Kind, bytes: &[u8]) -> usize
+    ensures within { result ≤ length bytes.now }
+    ensures stays { (word : List ℕ)
+        → state_after (at_value (state_of phase word) content (attribute_in kind word))
+        (take result bytes.now)
+        ≡ at_value (state_of phase word) content (attribute_in kind word) }
+{
+    match (phase, content, kind) {
+        (Phase::In(place), _, Kind::Ordinary | Kind::Forbidden) => value_stretch(place, bytes),
+        (Phase::InCode(code), _, Kind::Ordinary) => code_stretch(code, content, bytes),
+        (Phase::Comment, Content::Normal, Kind::Ordinary) => first_byte(b'-', bytes, 0),
+        _ => 0,
+    }
+}
+
+/// Whether the byte is one more of a name, and nothing else, in a state that holds a name.
+#[inline(always)]
+#[tactic(auto, unfolding(crate::specs::Tokenizer::Tokenization::consume))]
+pub(crate) fn lengthens_name(phase: Phase, byte: u8) -> bool
+    ensures { IsTrue result → (content : Content) (word : List ℕ)
+        → (consume (at (state_of phase word) content) byte).next
+        ≡ at (state_of phase (word ++ to_ascii_lowercase byte ∷ [])) content }
+{
+    match phase {
+        Phase::TagName | Phase::EndTagName | Phase::Name => !matches!(
+            byte,
+            b'\t' | b'\n' | b'\x0c' | b'\r' | b' ' | b'/' | b'>' | b'=' | b'"' | b'\'' | b'<' | 0
+        ),
+        _ => false,
+    }
+}
