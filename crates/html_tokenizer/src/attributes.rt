@@ -116,6 +116,7 @@ fn is_javascript(value: &[u8]) -> bool
 }
 
 /// After the `=` of an attribute.
+#[inline(always)]
 pub(crate) fn value_of(content: Content, name: &[u8]) -> Move
     ensures { moved result name.now ≡ value_of content name.now }
 {

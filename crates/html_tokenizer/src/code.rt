@@ -24,6 +24,7 @@ use crate::slot_place::SlotPlace;
 use crate::states::{Code, Content, Kind, Move, Phase, Word, in_value, refuses, to};
 use crate::tags::is_space;
 
+#[inline(always)]
 fn stays(code: Code, content: Content, byte: u8) -> Move
     ensures { (word : List ℕ) → moved result word ≡ (stays code content byte).next }
 {
@@ -31,6 +32,7 @@ fn stays(code: Code, content: Content, byte: u8) -> Move
     to(Phase::InCode(code), content)
 }
 
+#[inline(always)]
 fn block_byte(content: Content, byte: u8) -> Move
     ensures { (word : List ℕ) → moved result word ≡ (block_byte content byte).next }
 {
@@ -42,6 +44,7 @@ fn block_byte(content: Content, byte: u8) -> Move
     stays(code, content, byte)
 }
 
+#[inline(always)]
 fn block_star_byte(content: Content, byte: u8) -> Move
     ensures { (word : List ℕ) → moved result word ≡ (block_star_byte content byte).next }
 {
@@ -52,6 +55,7 @@ fn block_star_byte(content: Content, byte: u8) -> Move
     }
 }
 
+#[inline(always)]
 fn line_byte(byte: u8) -> Move
     ensures { (word : List ℕ) → moved result word ≡ (line_byte byte).next }
 {
@@ -63,6 +67,7 @@ fn line_byte(byte: u8) -> Move
     stays(code, Content::Script, byte)
 }
 
+#[inline(always)]
 fn script_byte(byte: u8) -> Move
     ensures { (word : List ℕ) → moved result word ≡ (script_byte byte).next }
 {
@@ -77,6 +82,7 @@ fn script_byte(byte: u8) -> Move
     to(phase, Content::Script)
 }
 
+#[inline(always)]
 fn script_code_byte(code: Code, byte: u8) -> Move
     ensures { (word : List ℕ) → moved result word ≡ (script_code_byte code byte).next }
 {
@@ -95,6 +101,7 @@ fn script_code_byte(code: Code, byte: u8) -> Move
     }
 }
 
+#[inline(always)]
 fn style_byte(byte: u8) -> Move
     ensures { (word : List ℕ) → moved result word ≡ (style_byte byte).next }
 {
@@ -110,6 +117,7 @@ fn style_byte(byte: u8) -> Move
     to(phase, Content::Style)
 }
 
+#[inline(always)]
 fn url_byte(byte: u8) -> Move
     ensures { (word : List ℕ) → moved result word ≡ (url_byte byte).next }
 {
@@ -120,6 +128,7 @@ fn url_byte(byte: u8) -> Move
     }
 }
 
+#[inline(always)]
 fn url_open_byte(byte: u8) -> Move
     ensures { (word : List ℕ) → moved result word ≡ (url_open_byte byte).next }
 {
@@ -132,6 +141,7 @@ fn url_open_byte(byte: u8) -> Move
     in_value(Phase::In(place), Content::Style, Kind::Forbidden, Word::New)
 }
 
+#[inline(always)]
 fn style_code_byte(code: Code, byte: u8) -> Move
     ensures { (word : List ℕ) → moved result word ≡ (style_code_byte code byte).next }
 {
@@ -161,6 +171,7 @@ fn style_code_byte(code: Code, byte: u8) -> Move
     stays(longer, Content::Style, byte)
 }
 
+#[inline(always)]
 fn code_byte(code: Code, content: Content, byte: u8) -> Move
     ensures { (word : List ℕ) → moved result word ≡ (code_byte code content byte).next }
 {
@@ -183,6 +194,7 @@ fn code_after_less(code: Code) -> Code
     }
 }
 
+#[inline(always)]
 fn less_in(code: Code, content: Content) -> Move
     ensures { (word : List ℕ) → moved result word ≡ (less_in code content).next }
 {
@@ -194,6 +206,7 @@ fn less_in(code: Code, content: Content) -> Move
 }
 
 /// In code.
+#[inline(always)]
 pub(crate) fn in_code_byte(code: Code, content: Content, byte: u8) -> Move
     ensures { (word : List ℕ) → moved result word ≡ (in_code_byte code content byte).next }
 {
@@ -204,6 +217,7 @@ pub(crate) fn in_code_byte(code: Code, content: Content, byte: u8) -> Move
     }
 }
 
+#[inline(always)]
 fn code_end(code: Code, content: Content) -> Move
     ensures { (word : List ℕ) → moved result word ≡ (code_end code content).next }
 {
@@ -214,6 +228,7 @@ fn code_end(code: Code, content: Content) -> Move
 }
 
 /// After a `<` of code.
+#[inline(always)]
 pub(crate) fn code_less_byte(code: Code, content: Content, byte: u8) -> Move
     ensures { (word : List ℕ) → moved result word ≡ (code_less_byte code content byte).next }
 {

@@ -19,6 +19,7 @@ use crate::states::{Content, Move, Phase, Word, goes, refuses, to};
 use crate::tags::is_space;
 
 /// After `<!`.
+#[inline(always)]
 pub(crate) fn declaration_byte(word: &[u8], byte: u8) -> Move
     ensures { moved result word.now ≡ (declaration_byte word.now byte).next }
 {
@@ -46,6 +47,7 @@ pub(crate) fn declaration_byte(word: &[u8], byte: u8) -> Move
 }
 
 /// Before the name of a DOCTYPE.
+#[inline(always)]
 pub(crate) fn before_doctype_byte(byte: u8) -> Move
     ensures { (word : List ℕ) → moved result word ≡ (before_doctype_byte byte).next }
 {
@@ -63,6 +65,7 @@ pub(crate) fn before_doctype_byte(byte: u8) -> Move
 }
 
 /// After the name of a DOCTYPE.
+#[inline(always)]
 pub(crate) fn after_doctype_byte(byte: u8) -> Move
     ensures { (word : List ℕ) → moved result word ≡ (after_doctype_byte byte).next }
 {
@@ -76,6 +79,7 @@ pub(crate) fn after_doctype_byte(byte: u8) -> Move
 }
 
 /// In the name of a DOCTYPE.
+#[inline(always)]
 pub(crate) fn doctype_byte(name: &[u8], byte: u8) -> Move
     ensures { moved result name.now ≡ (doctype_byte name.now byte).next }
 {
@@ -93,6 +97,7 @@ pub(crate) fn doctype_byte(name: &[u8], byte: u8) -> Move
 }
 
 /// In a comment.
+#[inline(always)]
 pub(crate) fn comment_byte(byte: u8) -> Move
     ensures { (word : List ℕ) → moved result word ≡ (comment_byte byte).next }
 {
@@ -104,6 +109,7 @@ pub(crate) fn comment_byte(byte: u8) -> Move
 }
 
 /// After `<!--` and `<!---`, where one `-` more leads on so.
+#[inline(always)]
 pub(crate) fn comment_start_byte(following: Phase, byte: u8) -> Move
     ensures start { following ≡ phase.CommentStartDash
         → (word : List ℕ) → moved result word ≡ (comment_start_byte byte).next }
@@ -118,6 +124,7 @@ pub(crate) fn comment_start_byte(following: Phase, byte: u8) -> Move
 }
 
 /// After a `-` of a comment.
+#[inline(always)]
 pub(crate) fn comment_dash_byte(byte: u8) -> Move
     ensures { (word : List ℕ) → moved result word ≡ (comment_dash_byte byte).next }
 {
@@ -129,6 +136,7 @@ pub(crate) fn comment_dash_byte(byte: u8) -> Move
 }
 
 /// After a `--` of a comment.
+#[inline(always)]
 pub(crate) fn comment_end_byte(byte: u8) -> Move
     ensures { (word : List ℕ) → moved result word ≡ (comment_end_byte byte).next }
 {

@@ -24,6 +24,7 @@ use crate::values::{
     before_value_byte, quoted_byte, reference_byte, text_byte, unquoted_value_byte,
 };
 
+#[inline(always)]
 fn value_byte(place: SlotPlace, content: Content, kind: Kind, word: &[u8], byte: u8) -> Move
     ensures { moved result word.now
         ≡ (value_byte place content (attribute_in kind word.now) byte).next }
@@ -59,6 +60,7 @@ fn within_byte(place: SlotPlace, content: Content, kind: Kind, word: &[u8], byte
 }
 
 /// What the tokenizer does at a byte, but within an escape of a script.
+#[inline(always)]
 pub(crate) fn byte_in(phase: Phase, content: Content, kind: Kind, word: &[u8], byte: u8) -> Move
     requires { IsNoScriptEscape phase }
     ensures { moved result word.now

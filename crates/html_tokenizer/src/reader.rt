@@ -11,7 +11,7 @@ ghost use Rattle.html_tokenizer.specs.declared.states.Kind.TheVariants as kind;
 use crate::consume::byte_in;
 use crate::slot_place::SlotPlace;
 use crate::states::{Content, Kind, Move, Phase, Word};
-use crate::stretches::{lengthens_name, stretch};
+use crate::stretches::{has_stretches, lengthens_name, stretch};
 use crate::strings::script_escape_byte;
 use std::alloc::{AllocError, Allocator};
 
@@ -105,7 +105,7 @@ impl<A: Allocator> Reader<A> {
         let phase = self.phase;
         let mut count = 0;
         'name: while count < bytes.len() && lengthens_name(phase, bytes[count]) {
-            self.word.push(bytes[count].to_ascii_lowercase())?;
+            self.word.push(bytes[count])?;
             count += 1;
         }
         Ok(count)
@@ -136,11 +136,14 @@ impl<A: Allocator> Reader<A> {
     {
         let mut done = 0;
         'bytes: while done < bytes.len() {
-            done += self.pass(&bytes[done..])?;
-            if done < bytes.len() {
-                self.step(bytes[done])?;
-                done += 1;
+            if has_stretches(self.phase) {
+                done += self.pass(&bytes[done..])?;
+                if done == bytes.len() {
+                    return Ok(());
+                }
             }
+            self.step(bytes[done])?;
+            done += 1;
         }
         Ok(())
     }

@@ -108,7 +108,7 @@ pub(crate) enum Word {
     Add(u8),
 }
 
-/// Where the tokenizer goes.
+/// Where the tokenizer goes. What makes one is inlined, so that no `Move` is put into memory.
 #[derive(Clone, Copy)]
 pub(crate) struct Move {
     pub(crate) phase: Phase,
@@ -118,6 +118,7 @@ pub(crate) struct Move {
 }
 
 /// To a state of an attribute's value, or of a string's.
+#[inline(always)]
 pub(crate) fn in_value(phase: Phase, content: Content, kind: Kind, word: Word) -> Move
     ensures { (held : List ℕ) → moved result held
         ≡ at_value (state_of phase (word_after word held)) content
@@ -132,6 +133,7 @@ pub(crate) fn in_value(phase: Phase, content: Content, kind: Kind, word: Word) -
 }
 
 /// To a state, outside of an attribute's value.
+#[inline(always)]
 pub(crate) fn goes(phase: Phase, content: Content, word: Word) -> Move
     ensures { (held : List ℕ) → moved result held
         ≡ at (state_of phase (word_after word held)) content }
@@ -140,12 +142,14 @@ pub(crate) fn goes(phase: Phase, content: Content, word: Word) -> Move
 }
 
 /// To a state that holds no word.
+#[inline(always)]
 pub(crate) fn to(phase: Phase, content: Content) -> Move
     ensures { (held : List ℕ) → moved result held ≡ at (state_of phase []) content }
 {
     goes(phase, content, Word::New)
 }
 
+#[inline(always)]
 pub(crate) fn refuses() -> Move
     ensures { (held : List ℕ) → moved result held ≡ refused }
 {

@@ -1,7 +1,6 @@
 //! Stretches of bytes at which the tokenizer stays where it is.
 //!
 //! A count may be less than the whole stretch, never more.
-ghost use Rattle.std.specs.Char.{to_ascii_lowercase};
 ghost use Rattle.std.specs.Prelude.{◌≡◌, ◌≤◌, ◌++◌, ◌∷◌, [], ℕ, List, length, take, IsTrue};
 ghost use Rattle.html_tokenizer.specs.Tokenizer.Names.{value_byte_read};
 ghost use Rattle.html_tokenizer.specs.Tokenizer.Phases.{attribute_in, state_of};
@@ -71,6 +70,7 @@ fn code_stretch(code: Code, content: Content, bytes: &[u8]) -> usize
 }
 
 // Whether the tokenizer stays in the value at the byte, unless the byte tells what the value means.
+// The values that a search goes through are not asked for.
 #[inline(always)]
 #[tactic(auto, unfolding(crate::specs::Tokenizer::Tokenization::consume))]
 fn stays_in_value(place: SlotPlace, byte: u8) -> bool
@@ -80,9 +80,7 @@ fn stays_in_value(place: SlotPlace, byte: u8) -> bool
         ≡ at_value (In place) content attribute }
 {
     match place {
-        SlotPlace::Text => !matches!(byte, b'<' | b'&'),
-        SlotPlace::DoubleQuoted => !matches!(byte, b'"' | b'&'),
-        SlotPlace::SingleQuoted => !matches!(byte, b'\'' | b'&'),
+        SlotPlace::Text | SlotPlace::DoubleQuoted | SlotPlace::SingleQuoted => false,
         SlotPlace::Unquoted => !matches!(
             byte,
             b'\t' | b'\n' | b'\x0c' | b'\r' | b' ' | b'>' | b'&' | b'"' | b'\'' | b'<' | b'=' | b'`'
@@ -150,19 +148,32 @@ pub(crate) fn stretch(phase: Phase, content: Content, kind: Kind, bytes: &[u8]) 
     }
 }
 
-/// Whether the byte is one more of a name, and nothing else, in a state that holds a name.
+/// Whether bytes may leave the tokenizer where it is in this state, or make its name longer.
+#[inline(always)]
+pub(crate) fn has_stretches(phase: Phase) -> bool {
+    matches!(
+        phase,
+        Phase::In(_)
+            | Phase::InCode(_)
+            | Phase::Comment
+            | Phase::TagName
+            | Phase::EndTagName
+            | Phase::Name
+    )
+}
+
+/// Whether the byte is one more of a name as it stands, in a state that holds a name.
 #[inline(always)]
 #[tactic(auto, unfolding(crate::specs::Tokenizer::Tokenization::consume))]
 pub(crate) fn lengthens_name(phase: Phase, byte: u8) -> bool
     ensures { IsTrue result → (content : Content) (word : List ℕ)
         → (consume (at (state_of phase word) content) byte).next
-        ≡ at (state_of phase (word ++ to_ascii_lowercase byte ∷ [])) content }
+        ≡ at (state_of phase (word ++ byte ∷ [])) content }
 {
     match phase {
-        Phase::TagName | Phase::EndTagName | Phase::Name => !matches!(
-            byte,
-            b'\t' | b'\n' | b'\x0c' | b'\r' | b' ' | b'/' | b'>' | b'=' | b'"' | b'\'' | b'<' | 0
-        ),
+        Phase::TagName | Phase::EndTagName | Phase::Name => {
+            matches!(byte, b'a'..=b'z' | b'0'..=b'9' | b'-')
+        }
         _ => false,
     }
 }

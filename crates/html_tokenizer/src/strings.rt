@@ -21,6 +21,7 @@ use hesc_grammars::Step;
 use hesc_grammars::script_strings::script_escape;
 
 /// In a string. Its bytes but the mark, `\` and `<` stand as they are, unless they break it.
+#[inline(always)]
 pub(crate) fn string_byte(
     mark: u8,
     place: SlotPlace,
@@ -61,6 +62,7 @@ pub(crate) fn is_newline_or_nul(byte: u8) -> bool
 }
 
 /// After a `<` of a string, where the byte alone would lead on so.
+#[inline(always)]
 pub(crate) fn string_less_byte(again: Move, byte: u8) -> Move
     ensures { (word : List ℕ) (t : Transition) → moved again word ≡ t.next
         → moved result word ≡ (string_less_byte t byte).next }

@@ -43,6 +43,7 @@ fn content_phase(content: Content) -> Phase
 }
 
 /// At the `>` of a start tag.
+#[inline(always)]
 pub(crate) fn opened(content: Content) -> Move
     ensures { (word : List ℕ) → moved result word ≡ (opened content).next }
 {
@@ -50,6 +51,7 @@ pub(crate) fn opened(content: Content) -> Move
 }
 
 // At white space, `/` or `>` of a start tag, and else at another byte.
+#[inline(always)]
 fn in_tag(blank: Move, content: Content, byte: u8, other: Move) -> Move
     ensures { (word : List ℕ) (state : State) (t : Transition)
         → moved blank word ≡ at state content → moved other word ≡ t.next
@@ -67,6 +69,7 @@ fn in_tag(blank: Move, content: Content, byte: u8, other: Move) -> Move
 }
 
 /// After a `<`, but for a `/`.
+#[inline(always)]
 pub(crate) fn tag_open_byte(content: Content, byte: u8) -> Move
     ensures { (word : List ℕ) → moved result word ≡ (tag_open_byte content byte).next }
 {
@@ -84,6 +87,7 @@ pub(crate) fn tag_open_byte(content: Content, byte: u8) -> Move
 }
 
 /// After `</`.
+#[inline(always)]
 pub(crate) fn end_tag_open_byte(content: Content, byte: u8) -> Move
     ensures { (word : List ℕ) → moved result word ≡ (end_tag_open_byte content byte).next }
 {
@@ -105,6 +109,7 @@ fn ends_name(byte: u8) -> bool
 }
 
 /// In the name of a start tag.
+#[inline(always)]
 pub(crate) fn tag_name_byte(content: Content, name: &[u8], byte: u8) -> Move
     ensures { moved result name.now ≡ (tag_name_byte content name.now byte).next }
 {
@@ -125,6 +130,7 @@ pub(crate) fn tag_name_byte(content: Content, name: &[u8], byte: u8) -> Move
 }
 
 /// In an end tag, after its name.
+#[inline(always)]
 pub(crate) fn end_tag_byte(byte: u8) -> Move
     ensures { (word : List ℕ) → moved result word ≡ (end_tag_byte byte).next }
 {
@@ -138,6 +144,7 @@ pub(crate) fn end_tag_byte(byte: u8) -> Move
 }
 
 /// In the name of an end tag.
+#[inline(always)]
 pub(crate) fn end_tag_name_byte(content: Content, name: &[u8], byte: u8) -> Move
     ensures { moved result name.now ≡ (end_tag_name_byte content name.now byte).next }
 {
@@ -164,6 +171,7 @@ fn is_name_error(byte: u8) -> bool
     matches!(byte, 0 | b'"' | b'\'' | b'<')
 }
 
+#[inline(always)]
 fn first_name_byte(content: Content, byte: u8) -> Move
     ensures { (word : List ℕ) → moved result word ≡ (first_name_byte content byte).next }
 {
@@ -175,6 +183,7 @@ fn first_name_byte(content: Content, byte: u8) -> Move
 }
 
 /// In the name of an attribute.
+#[inline(always)]
 pub(crate) fn attribute_name_byte(content: Content, name: &[u8], byte: u8) -> Move
     ensures { moved result name.now ≡ (attribute_name_byte content name.now byte).next }
 {
@@ -192,6 +201,7 @@ pub(crate) fn attribute_name_byte(content: Content, name: &[u8], byte: u8) -> Mo
 }
 
 /// After the name of an attribute.
+#[inline(always)]
 pub(crate) fn after_name_byte(content: Content, name: &[u8], byte: u8) -> Move
     ensures { moved result name.now ≡ (after_name_byte content name.now byte).next }
 {
@@ -204,6 +214,7 @@ pub(crate) fn after_name_byte(content: Content, name: &[u8], byte: u8) -> Move
 }
 
 /// After the `/` of a start tag.
+#[inline(always)]
 pub(crate) fn self_closing_byte(content: Content, byte: u8) -> Move
     ensures { (word : List ℕ) → moved result word ≡ (self_closing_byte content byte).next }
 {
@@ -215,6 +226,7 @@ pub(crate) fn self_closing_byte(content: Content, byte: u8) -> Move
 }
 
 /// Before the name of an attribute.
+#[inline(always)]
 pub(crate) fn before_name_byte(content: Content, byte: u8) -> Move
     ensures { (word : List ℕ) → moved result word ≡ (before_name_byte content byte).next }
 {
@@ -223,6 +235,7 @@ pub(crate) fn before_name_byte(content: Content, byte: u8) -> Move
 }
 
 /// After a value in quotes.
+#[inline(always)]
 pub(crate) fn after_value_byte(content: Content, byte: u8) -> Move
     ensures { (word : List ℕ) → moved result word ≡ (after_value_byte content byte).next }
 {

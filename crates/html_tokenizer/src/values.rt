@@ -20,6 +20,7 @@ use crate::tags::{is_space, opened};
 use hesc_grammars::references::body_character;
 
 /// A byte of a value as it stands.
+#[inline(always)]
 pub(crate) fn keeps(place: SlotPlace, content: Content, kind: Kind, word: &[u8], byte: u8) -> Move
     ensures { moved result word.now
         ≡ (keeps place content (attribute_in kind word.now) byte).next }
@@ -29,6 +30,7 @@ pub(crate) fn keeps(place: SlotPlace, content: Content, kind: Kind, word: &[u8],
 }
 
 /// At a `&`, which begins a reference, or a `\`, which begins an escape.
+#[inline(always)]
 pub(crate) fn begins_character(place: SlotPlace, content: Content, kind: Kind) -> Move
     ensures { (word : List ℕ) → moved result word
         ≡ (begins_character place content (attribute_in kind word)).next }
@@ -64,6 +66,7 @@ pub(crate) fn reference_byte(
 }
 
 /// In text.
+#[inline(always)]
 pub(crate) fn text_byte(content: Content, kind: Kind, word: &[u8], byte: u8) -> Move
     ensures { moved result word.now
         ≡ (text_byte content (attribute_in kind word.now) byte).next }
@@ -76,6 +79,7 @@ pub(crate) fn text_byte(content: Content, kind: Kind, word: &[u8], byte: u8) -> 
 }
 
 /// In a value between two quote marks.
+#[inline(always)]
 pub(crate) fn quoted_byte(
     mark: u8,
     place: SlotPlace,
@@ -97,6 +101,7 @@ pub(crate) fn quoted_byte(
 }
 
 // Where a value without quotes may begin or go on.
+#[inline(always)]
 fn unquoted_byte(content: Content, kind: Kind, word: &[u8], byte: u8) -> Move
     ensures { moved result word.now
         ≡ (unquoted_byte content (attribute_in kind word.now) byte).next }
@@ -109,6 +114,7 @@ fn unquoted_byte(content: Content, kind: Kind, word: &[u8], byte: u8) -> Move
 }
 
 /// In a value without quotes.
+#[inline(always)]
 pub(crate) fn unquoted_value_byte(content: Content, kind: Kind, word: &[u8], byte: u8) -> Move
     ensures { moved result word.now
         ≡ (unquoted_value_byte content (attribute_in kind word.now) byte).next }
@@ -123,6 +129,7 @@ pub(crate) fn unquoted_value_byte(content: Content, kind: Kind, word: &[u8], byt
 }
 
 /// Before a value.
+#[inline(always)]
 pub(crate) fn before_value_byte(content: Content, kind: Kind, word: &[u8], byte: u8) -> Move
     ensures { moved result word.now
         ≡ (before_value_byte content (attribute_in kind word.now) byte).next }
