@@ -1,3 +1,4 @@
+pub mod BeforeNames
 pub mod HeldWords
 pub mod Passing
 pub mod Staying

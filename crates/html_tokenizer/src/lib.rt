@@ -10,6 +10,7 @@ mod code;
 mod comments;
 mod consume;
 pub mod laws;
+mod names;
 mod reader;
 mod slot_place;
 mod states;

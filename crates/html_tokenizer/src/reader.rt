@@ -9,9 +9,10 @@ ghost use Rattle.html_tokenizer.specs.Tokenizer.Tokenization.{consume, state_aft
 ghost use Rattle.html_tokenizer.specs.declared.states.Kind.TheVariants as kind;
 
 use crate::consume::byte_in;
+use crate::names::{before_name, begun_name, lengthens_name};
 use crate::slot_place::SlotPlace;
 use crate::states::{Content, Kind, Move, Phase, Word};
-use crate::stretches::{has_stretches, lengthens_name, stretch};
+use crate::stretches::{has_stretches, stretch};
 use crate::strings::script_escape_byte;
 use std::alloc::{AllocError, Allocator};
 
@@ -111,8 +112,33 @@ impl<A: Allocator> Reader<A> {
         Ok(count)
     }
 
-    // Reads over the first bytes that lead to no other state, or only to a longer name, and answers
-    // how many.
+    // Reads over the beginning of a name and over its letters, if one begins, and answers how many
+    // bytes.
+    #[inline(always)]
+    fn begin_name(&mut self, bytes: &[u8]) -> Result<usize, AllocError>
+        requires { self.old.kind ≡ kind.Ordinary }
+        ensures within { IfOk result (λ count. count ≤ length bytes.now) }
+        ensures read { IfOk result (λ count. tokenizer_of self.new
+            ≡ state_after (tokenizer_of self.old) (take count bytes.now)) }
+    {
+        let (phase, count) = before_name(self.phase, bytes);
+        self.phase = phase;
+        if count == bytes.len() {
+            return Ok(count);
+        }
+        let Some(phase) = begun_name(phase, self.content, bytes[count]) else {
+            return Ok(count);
+        };
+        self.word.clear();
+        self.word.push(bytes[count])?;
+        self.phase = phase;
+        let begun = count + 1;
+        let more = self.name_bytes(&bytes[begun..])?;
+        Ok(begun + more)
+    }
+
+    // Reads over the first bytes that lead to no other state, or only into a name, and answers how
+    // many.
     #[inline(always)]
     fn pass(&mut self, bytes: &[u8]) -> Result<usize, AllocError>
         ensures within { IfOk result (λ count. count ≤ length bytes.now) }
@@ -123,6 +149,12 @@ impl<A: Allocator> Reader<A> {
             (Phase::TagName | Phase::EndTagName | Phase::Name, Kind::Ordinary) => {
                 self.name_bytes(bytes)
             }
+            (Phase::In(SlotPlace::Text), Kind::Ordinary) => {
+                let count = stretch(self.phase, self.content, self.kind, bytes);
+                let more = self.begin_name(&bytes[count..])?;
+                Ok(count + more)
+            }
+            (Phase::BeforeName | Phase::AfterValue, Kind::Ordinary) => self.begin_name(bytes),
             _ => Ok(stretch(self.phase, self.content, self.kind, bytes)),
         }
     }

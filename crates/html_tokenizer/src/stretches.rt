@@ -1,7 +1,7 @@
 //! Stretches of bytes at which the tokenizer stays where it is.
 //!
 //! A count may be less than the whole stretch, never more.
-ghost use Rattle.std.specs.Prelude.{◌≡◌, ◌≤◌, ◌++◌, ◌∷◌, [], ℕ, List, length, take, IsTrue};
+ghost use Rattle.std.specs.Prelude.{◌≡◌, ◌≤◌, ℕ, List, length, take, IsTrue};
 ghost use Rattle.html_tokenizer.specs.Tokenizer.Names.{value_byte_read};
 ghost use Rattle.html_tokenizer.specs.Tokenizer.Phases.{attribute_in, state_of};
 ghost use Rattle.html_tokenizer.specs.Tokenizer.States.{Attribute, In, InCode, at, at_value};
@@ -133,6 +133,7 @@ fn value_stretch(place: SlotPlace, bytes: &[u8]) -> usize
 }
 
 /// How many of the first bytes leave the tokenizer where it is: all up to one that does not, or fewer.
+#[inline(always)]
 pub(crate) fn stretch(phase: Phase, content: Content, kind: Kind, bytes: &[u8]) -> usize
     ensures within { result ≤ length bytes.now }
     ensures stays { (word : List ℕ)
@@ -148,7 +149,7 @@ pub(crate) fn stretch(phase: Phase, content: Content, kind: Kind, bytes: &[u8]) 
     }
 }
 
-/// Whether bytes may leave the tokenizer where it is in this state, or make its name longer.
+/// Whether bytes may leave the tokenizer where it is in this state, or begin a name or go on in one.
 #[inline(always)]
 pub(crate) fn has_stretches(phase: Phase) -> bool {
     matches!(
@@ -158,22 +159,8 @@ pub(crate) fn has_stretches(phase: Phase) -> bool {
             | Phase::Comment
             | Phase::TagName
             | Phase::EndTagName
+            | Phase::BeforeName
             | Phase::Name
+            | Phase::AfterValue
     )
-}
-
-/// Whether the byte is one more of a name as it stands, in a state that holds a name.
-#[inline(always)]
-#[tactic(auto, unfolding(crate::specs::Tokenizer::Tokenization::consume))]
-pub(crate) fn lengthens_name(phase: Phase, byte: u8) -> bool
-    ensures { IsTrue result → (content : Content) (word : List ℕ)
-        → (consume (at (state_of phase word) content) byte).next
-        ≡ at (state_of phase (word ++ byte ∷ [])) content }
-{
-    match phase {
-        Phase::TagName | Phase::EndTagName | Phase::Name => {
-            matches!(byte, b'a'..=b'z' | b'0'..=b'9' | b'-')
-        }
-        _ => false,
-    }
 }

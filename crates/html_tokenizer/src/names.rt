@@ -1,0 +1,63 @@
+//! Where the name of a tag or an attribute begins, and how it goes on.
+ghost use Rattle.std.specs.Prelude.{◌≡◌, ◌≤◌, ◌++◌, ◌∷◌, [], ℕ, List, length, take, IfSome, IsTrue};
+ghost use Rattle.html_tokenizer.specs.Tokenizer.Phases.{state_of};
+ghost use Rattle.html_tokenizer.specs.Tokenizer.States.{at};
+ghost use Rattle.html_tokenizer.specs.Tokenizer.Tokenization.{consume, state_after};
+ghost use Rattle.html_tokenizer.specs.declared.states.Content.{Content};
+
+use crate::slot_place::SlotPlace;
+use crate::states::{Content, Phase};
+
+/// Whether the byte is one more of a name as it stands, in a state that holds a name.
+#[inline(always)]
+#[tactic(auto, unfolding(crate::specs::Tokenizer::Tokenization::consume))]
+pub(crate) fn lengthens_name(phase: Phase, byte: u8) -> bool
+    ensures { IsTrue result → (content : Content) (word : List ℕ)
+        → (consume (at (state_of phase word) content) byte).next
+        ≡ at (state_of phase (word ++ byte ∷ [])) content }
+{
+    match phase {
+        Phase::TagName | Phase::EndTagName | Phase::Name => {
+            matches!(byte, b'a'..=b'z' | b'0'..=b'9' | b'-')
+        }
+        _ => false,
+    }
+}
+
+/// The state after what stands before a name, and after how many bytes: none of them where nothing
+/// does.
+#[inline(always)]
+pub(crate) fn before_name(phase: Phase, bytes: &[u8]) -> (Phase, usize)
+    ensures within { result.1 ≤ length bytes.now }
+    ensures read { (content : Content) (word : List ℕ)
+        → state_after (at (state_of phase word) content) (take result.1 bytes.now)
+        ≡ at (state_of result.0 word) content }
+{
+    match phase {
+        Phase::In(SlotPlace::Text) if bytes.len() > 1 && bytes[0] == b'<' => {
+            if bytes[1] == b'/' {
+                (Phase::EndTagOpen, 2)
+            } else {
+                (Phase::TagOpen, 1)
+            }
+        }
+        Phase::AfterValue if bytes.len() > 1 && bytes[0] == b' ' => (Phase::BeforeName, 1),
+        _ => (phase, 0),
+    }
+}
+
+/// The state of the name that begins at the byte, if it is a small letter.
+#[inline(always)]
+#[tactic(auto, unfolding(crate::specs::Tokenizer::Tokenization::consume))]
+pub(crate) fn begun_name(phase: Phase, content: Content, byte: u8) -> Option<Phase>
+    ensures { IfSome result (λ next. (word : List ℕ)
+        → (consume (at (state_of phase word) content) byte).next
+        ≡ at (state_of next (byte ∷ [])) content) }
+{
+    match (phase, byte) {
+        (Phase::TagOpen, b'a'..=b'z') if content == Content::Normal => Some(Phase::TagName),
+        (Phase::EndTagOpen, b'a'..=b'z') => Some(Phase::EndTagName),
+        (Phase::BeforeName, b'a'..=b'z') => Some(Phase::Name),
+        _ => None,
+    }
+}
