@@ -120,7 +120,10 @@ fn value_stretch(place: SlotPlace, bytes: &[u8]) -> usize
         → state_after (at_value (In place) content attribute) (take result bytes.now)
         ≡ at_value (In place) content attribute }
 {
+    // Among few bytes the search costs more than one look at the first of them, which often ends
+    // the stretch.
     match place {
+        SlotPlace::Text if matches!(bytes, [b'<' | b'&', ..]) => 0,
         SlotPlace::Text => first_of_two(b'<', b'&', bytes, 0),
         SlotPlace::DoubleQuoted => first_of_two(b'"', b'&', bytes, 0),
         SlotPlace::SingleQuoted => first_of_two(b'\'', b'&', bytes, 0),

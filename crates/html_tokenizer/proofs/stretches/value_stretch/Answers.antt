@@ -4,8 +4,8 @@ use Rattle.html_tokenizer.specs.declared.slot_place.SlotPlace.TheVariants.{Doubl
 use Rattle.html_tokenizer.proofs.Staying.{stays_up_to_two, stays_in_text, stays_in_quotes}
 use Rattle.html_tokenizer.proofs.stretches.value_stretch.Goals as goal
 
-pub returns-in-Text-clause-stays : goal.returns-in-Text-clause-stays
-returns-in-Text-clause-stays c = λ content attribute settled.
+pub returns-in-Text-2-clause-stays : goal.returns-in-Text-2-clause-stays
+returns-in-Text-2-clause-stays c = λ content attribute settled.
     rw c.in-Text.is
     (stays_up_to_two less_than ampersand _ c.args.bytes.now _ c.first_of_two.ensures
     (λ b. stays_in_text content attribute b (settled b)))
