@@ -10,10 +10,11 @@ ghost use Rattle.hesc_places.specs.Pages.FormTexts.{
   written,
 };
 
+use crate::markup::form_length::form_length;
 use crate::markup::types::{Attribute, Quoting};
-use crate::place::enclosed::put_between;
+use crate::place::enclosed::{SHORT, most_encoded, put_between};
 use hesc_core::forms::Parts;
-use hesc_core::{Sink, run};
+use hesc_core::{CountOverflow, Sink, run};
 use html_escape::Encoder;
 
 /// The text of a form. Whether the attributes are good is the caller's to know.
@@ -38,7 +39,46 @@ impl Parts for FormText<'_> {
             sink,
         )
     }
+
+    // Counted by lanes, in place of writing the form twice.
+    fn room_for(&self, spare: usize) -> Result<usize, CountOverflow> {
+        let _spare = spare;
+        form_length(self.attributes, self.script).ok_or(CountOverflow)
+    }
+
+    // Where there is room for what values of these lengths may become, nothing is measured.
+    #[inline(always)]
+    fn may_fit(&self, spare: usize) -> bool {
+        let most = self.most();
+        most > SHORT && most <= spare
+    }
+
+    #[inline(always)]
+    fn short_bound(&self) -> Option<usize> {
+        let most = self.most();
+        if most <= SHORT { Some(most) } else { None }
+    }
 }
+
+impl FormText<'_> {
+    // An upper bound of the length, computed without a scan of the values.
+    fn most(&self) -> usize {
+        let mut most = most_encoded(self.script).saturating_add(AROUND);
+        for attribute in self.attributes {
+            let value = most_encoded(attribute.value).saturating_add(AROUND_VALUE);
+            most = most
+                .saturating_add(attribute.name.len())
+                .saturating_add(value);
+        }
+        most
+    }
+}
+
+// The bytes of a form with no attributes and an empty string, and a space after the last value.
+const AROUND: usize = 36;
+
+// A space, `=` and two quote marks.
+const AROUND_VALUE: usize = 4;
 
 fn put_attributes<S: Sink>(attributes: &[Attribute], sink: &mut S) -> Result<(), S::Fault>
     ensures ok_taken { OnOk result (S.taken sink.new
@@ -94,9 +134,9 @@ fn put_value<S: Sink>(quoting: Quoting, value: &str, sink: &mut S) -> Result<(),
     }
 }
 
-// What stands after the last attribute.
+/// What stands after the last attribute.
 #[tactic(auto, using(crate::proofs::Pages::LastGaps::gap_of_last, crate::proofs::Pages::LastGaps::gap_of_none))]
-fn gap(attributes: &[Attribute]) -> &'static str
+pub(crate) fn gap(attributes: &[Attribute]) -> &'static str
     ensures { result.now ≡ gap (map written attributes.now) }
 {
     match attributes.last() {

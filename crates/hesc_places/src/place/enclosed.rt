@@ -5,7 +5,8 @@ ghost use Rattle.hesc_places.specs.Places.Enclosed.{enclosed};
 
 use crate::place::marks::{closing, opening};
 use hesc_core::forms::Parts;
-use hesc_core::{Sink, run};
+use hesc_core::forms::measure::measure;
+use hesc_core::{CountOverflow, Sink, run};
 use hesc_grammars::Place;
 use html_escape::Encoder;
 
@@ -24,6 +25,51 @@ impl Parts for Enclosed<'_> {
         let (before, after) = (opening(self.place), closing(self.place));
         put_between(before, self.encoder, self.text, after, sink)
     }
+
+    // Counted by lanes, in place of writing the text twice.
+    fn room_for(&self, spare: usize) -> Result<usize, CountOverflow> {
+        let _spare = spare;
+        let marks = opening(self.place).len() + closing(self.place).len();
+        measure(&self.encoder, self.text)?
+            .checked_add(marks)
+            .ok_or(CountOverflow)
+    }
+
+    // Where there is room for what any text of this length may become, nothing is measured.
+    #[inline(always)]
+    fn may_fit(&self, spare: usize) -> bool {
+        let most = self.most();
+        most > SHORT && most <= spare
+    }
+
+    #[inline(always)]
+    fn short_bound(&self) -> Option<usize> {
+        let most = self.most();
+        if most <= SHORT { Some(most) } else { None }
+    }
+}
+
+impl Enclosed<'_> {
+    // An upper bound of the length, computed without a scan of the text.
+    #[inline(always)]
+    fn most(&self) -> usize {
+        most_encoded(self.text).saturating_add(MARKS)
+    }
+}
+
+/// The longest text that is made on the stack before it is appended.
+pub(crate) const SHORT: usize = 384;
+
+// The most bytes of both marks of a place: `<script>` and `</script>`.
+const MARKS: usize = 17;
+
+// The most bytes that an encoder writes for one.
+const GROWTH: usize = 6;
+
+/// An upper bound of what any encoder writes for the text.
+#[inline(always)]
+pub(crate) fn most_encoded(text: &str) -> usize {
+    text.len().saturating_mul(GROWTH)
 }
 
 /// Puts what the encoder writes for the text, between two others.
