@@ -1,6 +1,6 @@
 //! Texts that are bound to names.
 ghost use Rattle.std.specs.Prelude.{◌≡◌, IfOk, map};
-ghost use Rattle.std.specs.Option.{option_map};
+ghost use Rattle.std.specs.Option.{option_map, option_or};
 ghost use Rattle.std.specs.Result.{result_err};
 ghost use Rattle.html_template.specs.Templates.{texts_of};
 ghost use Rattle.html_template_source.specs.Bindings.{
@@ -14,6 +14,7 @@ ghost use Rattle.html_template_source.specs.Bindings.{
 };
 
 use crate::faults::BindFault;
+use crate::matching::match_names;
 use std::alloc::Allocator;
 
 fn bound<'b>(bindings: &[(&'b str, &'b str)], name: &str) -> Option<&'b str>
@@ -56,8 +57,8 @@ fn is_bound(name: &str, bindings: &[(&str, &str)]) -> bool
     false
 }
 
-/// Whether each binding is of one slot's name, and no other binding's.
-pub(crate) fn check_bindings(names: &[&str], bindings: &[(&str, &str)]) -> Result<(), BindFault>
+// Whether each binding is of one slot's name, and no other binding's.
+fn check_bindings(names: &[&str], bindings: &[(&str, &str)]) -> Result<(), BindFault>
     ensures { result_err result
         ≡ binding_fault 0 (texts_of names.now) (bindings_of bindings.now) }
 {
@@ -75,8 +76,8 @@ pub(crate) fn check_bindings(names: &[&str], bindings: &[(&str, &str)]) -> Resul
     Ok(())
 }
 
-/// The text for each name.
-pub(crate) fn texts_for<'b, A: Allocator>(
+// The text for each name.
+fn texts_for<'b, A: Allocator>(
     alloc: A,
     names: &[&str],
     bindings: &[(&'b str, &'b str)],
@@ -98,4 +99,61 @@ pub(crate) fn texts_for<'b, A: Allocator>(
         rest = others;
     }
     Ok(texts)
+}
+
+// Whether each name has a text.
+fn check_names<'b>(names: &[&str], bindings: &[(&'b str, &'b str)]) -> Result<(), BindFault>
+    ensures { result_err result
+        ≡ missing_fault 0 (bindings_of bindings.now) (texts_of names.now) }
+{
+    let mut rest = names;
+    'names: while let [name, others @ ..] = rest {
+        if bound(bindings, *name).is_none() {
+            return Err(BindFault::Missing(names.len() - rest.len()));
+        }
+        rest = others;
+    }
+    Ok(())
+}
+
+// The fault that stands where memory was refused.
+fn fault_of_refusal<'b>(names: &[&str], bindings: &[(&'b str, &'b str)]) -> Option<BindFault>
+    ensures { result ≡ option_or (binding_fault 0 (texts_of names.now) (bindings_of bindings.now))
+        (missing_fault 0 (bindings_of bindings.now) (texts_of names.now)) }
+{
+    if let Err(fault) = check_bindings(names, bindings) {
+        return Some(fault);
+    }
+    check_names(names, bindings).err()
+}
+
+/// The text for each name, where no fault stands: first come faults of the bindings, then of the names.
+///
+/// One pass finds the texts where there are few bindings and no fault. What it does not find is looked
+/// for step by step, which tells the fault.
+pub(crate) fn bind<'b, A: Allocator + Copy>(
+    alloc: A,
+    names: &[&str],
+    bindings: &[(&'b str, &'b str)],
+) -> Result<Vec<&'b str, A>, BindFault>
+    ensures texts { IfOk result (λ texts.
+        texts_of texts.items ≡ map (text_of (bindings_of bindings.now)) (texts_of names.now)) }
+    ensures faults { AnswersBind
+        (option_or (binding_fault 0 (texts_of names.now) (bindings_of bindings.now))
+        (missing_fault 0 (bindings_of bindings.now) (texts_of names.now))) result }
+{
+    match match_names(alloc, names, bindings) {
+        Ok(Some(texts)) => return Ok(texts),
+        Ok(None) => {}
+        Err(_) => {
+            return Err(match fault_of_refusal(names, bindings) {
+                Some(fault) => fault,
+                None => BindFault::Memory,
+            });
+        }
+    }
+    if let Err(fault) = check_bindings(names, bindings) {
+        return Err(fault);
+    }
+    texts_for(alloc, names, bindings)
 }

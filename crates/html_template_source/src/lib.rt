@@ -7,6 +7,7 @@
 
 mod bindings;
 mod faults;
+mod matching;
 mod named;
 mod source;
 

@@ -13,7 +13,7 @@ ghost use Rattle.html_template_source.specs.Bindings.{
 ghost use Rattle.html_template_source.specs.SourceFaults.{AnswersSource};
 ghost use Rattle.html_template_source.specs.Sources.{IsSourceOf};
 
-use crate::bindings::{check_bindings, texts_for};
+use crate::bindings::bind;
 use crate::faults::{BindFault, SourceFault};
 use crate::source::Source;
 use html_template::{FillFault, Template, TemplateFault};
@@ -74,10 +74,7 @@ impl<'a, A: Allocator + Copy> NamedTemplate<'a, A> {
             (page (chunks_of self.now)
             (map (text_of (bindings_of bindings.now)) (names_of self.now)))) }
     {
-        if let Err(fault) = check_bindings(&self.names, bindings) {
-            return Err(fault);
-        }
-        let texts = match texts_for(self.alloc, &self.names, bindings) {
+        let texts = match bind(self.alloc, &self.names, bindings) {
             Ok(texts) => texts,
             Err(fault) => return Err(fault),
         };
