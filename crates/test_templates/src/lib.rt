@@ -9,6 +9,8 @@ mod hostile;
 #[cfg(test)]
 mod memory;
 #[cfg(test)]
+mod named;
+#[cfg(test)]
 mod pages;
 #[cfg(test)]
 mod pairs;

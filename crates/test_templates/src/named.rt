@@ -1,0 +1,173 @@
+//! Texts that are bound to many names, and the fault that stands first. Up to 64 bindings are matched
+//! in one pass, more step by step: what is expected comes from the places alone.
+use html_template_source::{BindFault, NamedTemplate};
+use std::alloc::{AllocError, Global};
+use std::process::Abort;
+use std::test::Fail;
+
+static COUNTS: [usize; 6] = [1, 2, 63, 64, 65, 200];
+
+/// `n0`, `n1` and so on. The text of each is its number.
+fn names(alloc: Global, count: usize) -> Result<Vec<String>, AllocError> {
+    let mut names = Vec::new(alloc);
+    for number in 0..count {
+        names.push(format!(in alloc; "n{number}")?)?;
+    }
+    Ok(names)
+}
+
+fn text(name: &str) -> &str {
+    name.strip_prefix("n").unwrap_or("")
+}
+
+/// A slot of each name in order, and one more of the first.
+fn source(alloc: Global, names: &[String]) -> Result<String, AllocError> {
+    let mut source = String::new(alloc);
+    for name in names {
+        source.push_str("<p>{{")?;
+        source.push_str(name.as_str())?;
+        source.push_str("}}</p>")?;
+    }
+    source.push_str("<b>{{n0}}</b>")?;
+    Ok(source)
+}
+
+fn page(alloc: Global, names: &[String]) -> Result<String, AllocError> {
+    let mut page = String::new(alloc);
+    for name in names {
+        page.push_str("<p>")?;
+        page.push_str(text(name.as_str()))?;
+        page.push_str("</p>")?;
+    }
+    page.push_str("<b>0</b>")?;
+    Ok(page)
+}
+
+type Bindings<'n> = Vec<(&'n str, &'n str)>;
+
+fn bindings<'n>(
+    alloc: Global,
+    names: &'n [String],
+    is_reversed: bool,
+) -> Result<Bindings<'n>, AllocError> {
+    let mut bindings = Vec::new(alloc);
+    for name in names {
+        bindings.push((name.as_str(), text(name.as_str())))?;
+    }
+    if is_reversed {
+        bindings.reverse();
+    }
+    Ok(bindings)
+}
+
+/// These bindings and one more, at this place.
+fn with_one_more<'n>(
+    alloc: Global,
+    bindings: &[(&'n str, &'n str)],
+    place: usize,
+    binding: (&'n str, &'n str),
+) -> Result<Bindings<'n>, AllocError> {
+    let mut more = Vec::from_slice(alloc, bindings)?;
+    if place <= more.len() {
+        more.insert(place, binding)?;
+    }
+    Ok(more)
+}
+
+/// These bindings without the one at this place.
+fn without_one<'n>(
+    alloc: Global,
+    bindings: &[(&'n str, &'n str)],
+    place: usize,
+) -> Result<Bindings<'n>, AllocError> {
+    let mut fewer = Vec::from_slice(alloc, bindings)?;
+    if place < fewer.len() {
+        fewer.remove(place);
+    }
+    Ok(fewer)
+}
+
+/// Whether this is the fault, and the output stays as it was.
+fn refuses(
+    alloc: Global,
+    template: &NamedTemplate<'_>,
+    bindings: &[(&str, &str)],
+    fault: BindFault,
+) -> bool {
+    let mut output = String::new(alloc);
+    template.append(&mut output, bindings) == Err(fault) && output.as_str().is_empty()
+}
+
+#[test]
+fn texts_of_many_names(rt: HostRuntime) -> Result<(), Fail> {
+    for &count in &COUNTS {
+        let names = names(rt.alloc(), count)?;
+        let source = source(rt.alloc(), &names)?;
+        let page = page(rt.alloc(), &names)?;
+        let Ok(template) = NamedTemplate::parse(rt.alloc(), source.as_str()) else {
+            panic!(rt; "the source is a template");
+        };
+        for is_reversed in [false, true] {
+            let bindings = bindings(rt.alloc(), &names, is_reversed)?;
+            let mut output = String::new(rt.alloc());
+            assert!(rt;
+                template.append(&mut output, &bindings) == Ok(()),
+                "{count}"
+            );
+            assert!(rt; output.as_str() == page.as_str(), "{count}");
+        }
+    }
+    Ok(())
+}
+
+/// Whether a binding more of an unknown name, a binding more of this one's name and a binding less are
+/// each refused. Each name is a slot's that stands where the binding stands, but in reverse.
+fn refuses_flaws_at(
+    alloc: Global,
+    template: &NamedTemplate<'_>,
+    bindings: &[(&str, &str)],
+    is_reversed: bool,
+    place: usize,
+) -> Result<bool, AllocError> {
+    let Some(&(name, _)) = bindings.get(place) else {
+        return Ok(false);
+    };
+    let last = bindings.len().saturating_sub(1);
+    let slot = if is_reversed {
+        last.saturating_sub(place)
+    } else {
+        place
+    };
+    let unknown = with_one_more(alloc, bindings, place, ("n", ""))?;
+    let doubled = with_one_more(alloc, bindings, bindings.len(), (name, ""))?;
+    let missing = without_one(alloc, bindings, place)?;
+    // Of two faults the first is answered.
+    let both = with_one_more(alloc, &doubled, bindings.len(), ("n", ""))?;
+    Ok(
+        refuses(alloc, template, &unknown, BindFault::Unknown(place))
+            && refuses(alloc, template, &doubled, BindFault::Doubled(place))
+            && refuses(alloc, template, &missing, BindFault::Missing(slot))
+            && refuses(alloc, template, &both, BindFault::Doubled(place)),
+    )
+}
+
+#[test]
+fn faults_of_many_names(rt: HostRuntime) -> Result<(), Fail> {
+    for &count in &COUNTS {
+        let names = names(rt.alloc(), count)?;
+        let source = source(rt.alloc(), &names)?;
+        let Ok(template) = NamedTemplate::parse(rt.alloc(), source.as_str()) else {
+            panic!(rt; "the source is a template");
+        };
+        for is_reversed in [false, true] {
+            let bindings = bindings(rt.alloc(), &names, is_reversed)?;
+            for place in [0, count / 2, count.saturating_sub(1)] {
+                assert!(rt;
+                    refuses_flaws_at(rt.alloc(), &template, &bindings, is_reversed, place)?,
+                    "{count} {is_reversed} {place}"
+                );
+            }
+        }
+    }
+    Ok(())
+}
