@@ -1,7 +1,7 @@
 -- Stretches of bytes that are read as they stand: each of their bytes is an item whatever follows it.
-use Rattle.std.proofs.Common.{ℕ, suc, ◌≡◌, Bool, true, false, ◌||◌, ◌==◌, nat_lt, List, ◌∷◌, drop, refl, sym, ap, ◌∙◌, arith, ne_eqb}
+use Rattle.std.proofs.Common.{ℕ, suc, ◌≡◌, ◌<◌, ◌+◌, inl, inr, Bool, true, false, ◌||◌, ◌==◌, nat_lt, List, ◌∷◌, drop, refl, sym, ap, ◌∙◌, arith, ne_eqb}
 use Rattle.std.proofs.Math.Seq.{drop-cons}
-use Rattle.std.proofs.lemmas.Bool.{or_parts, true≢false}
+use Rattle.std.proofs.lemmas.Bool.{cases_lt, or_parts, true≢false}
 use Rattle.std.proofs.lemmas.Bool.Decides.{nat_tests}
 use Rattle.std.specs.Char.{to_ascii_lowercase}
 use Rattle.std.specs.Prelude.{slice_index}
@@ -21,7 +21,7 @@ use Rattle.hesc_grammars.specs.Bodies.{script_body_step, style_body_step}
 use Rattle.hesc_grammars.specs.Html.{ends_unquoted, is_unquoted_error, marked_step, unquoted_step}
 use Rattle.hesc_grammars.specs.ScriptStrings.{script_string_step}
 use Rattle.hesc_grammars.specs.StyleStrings.{is_newline_or_nul, style_string_step}
-use Rattle.hesc_grammars.specs.Stretches.{IsStretch}
+use Rattle.hesc_grammars.specs.Stretches.{IsStretch, is_special}
 
 -- a byte that does not pass the test is read as itself in the mode, whatever follows it
 pub record ReadsOthers (test : ℕ → Bool) (step : Mode → List ℕ → Step) (mode : Mode) : Type 0 where
@@ -37,23 +37,42 @@ up_to_first {test} {step} {mode} {bytes} {count} reads first = record {
       (reads.other (slice_index bytes k) (drop (suc k) bytes) (first.before k (omega arith) below));
 }
 
-pub nothing : (step : Mode → List ℕ → Step) (mode : Mode) (bytes : List ℕ) → IsStretch step mode bytes 0
-nothing step mode bytes = record { within = omega arith; each = λ k below. absurd (omega arith) }
-
 pub marked : (mark : ℕ) → ReadsOthers (λ b. b == mark || b == ampersand) (marked_step mark) Plain
 unfolding marked_step
 marked mark = record {
   other = λ b rest none. let parts = or_parts (b == mark) (b == ampersand) none in rw (parts.0, parts.1) refl;
 }
 
-unquoted_byte : (b : ℕ) → in_class UnquotedAttribute b ≡ false → (ends_unquoted b ≡ false) × ((b == ampersand) ≡ false) × (is_unquoted_error b ≡ false)
-unquoted_byte b none = (grind (arith, nat_tests), grind (arith, nat_tests), grind (arith, nat_tests))
-
-pub unquoted : (end : ℕ) → ReadsOthers (in_class UnquotedAttribute) (unquoted_step end) Plain
+pub unquoted : (end : ℕ) → ReadsOthers is_special (unquoted_step end) Plain
 unfolding unquoted_step
 unquoted end = record {
-  other = λ b rest none. let parts = unquoted_byte b none in rw (parts.0, parts.1, parts.2) refl;
+  other = λ b rest none.
+      let parts = or_parts (ends_unquoted b || b == ampersand) (is_unquoted_error b) none in
+      let first = or_parts (ends_unquoted b) (b == ampersand) parts.0 in
+      rw (first.0, first.1, parts.1) refl;
 }
+
+-- what is special is a symbol
+no_symbol : (b : ℕ) → in_class UnquotedAttribute b ≡ false → is_special b ≡ false
+no_symbol b none = grind (arith, nat_tests)
+
+-- none of the bytes up to a place is special
+abbrev pub NoneSpecial : List ℕ → ℕ → Type 0
+NoneSpecial bytes place = (k : ℕ) → k < place → is_special (slice_index bytes k) ≡ false
+
+-- from a place where none is, none is up to the next symbol
+pub none_further : (bytes : List ℕ) (place next : ℕ) → NoneSpecial bytes place → IsFirstPlace (in_class UnquotedAttribute) bytes place next → NoneSpecial bytes next
+none_further bytes place next none first = λ k below. elim (cases_lt k place) [
+  | inl before ↦ none k before
+  | inr after ↦ no_symbol (slice_index bytes k) (first.before k after below)
+]
+
+-- and the symbol itself may be none
+pub none_at : (bytes : List ℕ) (place : ℕ) → NoneSpecial bytes place → is_special (slice_index bytes place) ≡ false → NoneSpecial bytes (place + 1)
+none_at bytes place none here = λ k below. elim (cases_lt k place) [
+  | inl before ↦ none k before
+  | inr after ↦ let same : k ≡ place = omega arith in rw same here
+]
 
 -- what means something in a string is in the class of its encoder
 string_byte : (element : Element) (quotes : Quotes) (mark b : ℕ) → is_quote quotes mark ≡ true → in_string_class element quotes b ≡ false →

@@ -1,6 +1,8 @@
 //! How far the bytes of a place are read as they stand.
+ghost use Rattle.std.specs.Prelude.{◌≡◌};
+ghost use Rattle.hesc_specs.specs.Text.FirstPlace.{IsFirstPlace};
 ghost use Rattle.hesc_grammars.specs.Places.{step_of};
-ghost use Rattle.hesc_grammars.specs.Stretches.{IsStretch};
+ghost use Rattle.hesc_grammars.specs.Stretches.{IsStretch, is_special};
 ghost use Rattle.hesc_grammars.specs.declared.step.Mode.TheVariants.{Plain};
 
 use crate::place::Place;
@@ -34,11 +36,31 @@ fn plain_stretch(place: Place, bytes: &[u8]) -> usize
         Place::Text => first_of_two(b'<', b'&', bytes, 0),
         Place::DoubleAttribute => first_of_two(b'"', b'&', bytes, 0),
         Place::SingleAttribute => first_of_two(b'\'', b'&', bytes, 0),
-        Place::UnquotedAttribute(_) => first_in(Class::UnquotedAttribute, bytes, 0),
+        Place::UnquotedAttribute(_) => first_special(bytes),
         Place::ScriptSingle => first_in(Class::ScriptSingleQuoted, bytes, 0),
         Place::ScriptDouble => first_in(Class::ScriptDoubleQuoted, bytes, 0),
         Place::StyleSingle => first_in(Class::StyleSingleQuoted, bytes, 0),
         Place::StyleDouble => first_in(Class::StyleDoubleQuoted, bytes, 0),
         Place::ScriptBody | Place::StyleBody => first_byte(b'<', bytes, 0),
     }
+}
+
+// The search stops at every symbol, of which most are read as themselves.
+fn first_special(bytes: &[u8]) -> usize
+    ensures { IsFirstPlace is_special bytes.now 0 result }
+{
+    let mut place = first_in(Class::UnquotedAttribute, bytes, 0);
+    'symbols: while place < bytes.len() && !is_special(bytes[place]) {
+        place = first_in(Class::UnquotedAttribute, bytes, place + 1);
+    }
+    place
+}
+
+fn is_special(byte: u8) -> bool
+    ensures { result ≡ is_special byte }
+{
+    matches!(
+        byte,
+        b'\t' | b'\n' | b'\x0c' | b' ' | b'>' | b'&' | b'"' | b'\'' | b'<' | b'=' | b'`'
+    )
 }

@@ -15,10 +15,10 @@ pub returns-in-SingleAttribute : goal.returns-in-SingleAttribute
 returns-in-SingleAttribute c = rw c.in-SingleAttribute.is (up_to_first (marked single_quote) c.first_of_two-in-SingleAttribute.ensures)
 
 pub returns-in-UnquotedAttribute : goal.returns-in-UnquotedAttribute
-returns-in-UnquotedAttribute c = rw c.in-UnquotedAttribute.is (up_to_first (unquoted (end_byte c.in-UnquotedAttribute.field-0)) c.first_in.ensures)
+returns-in-UnquotedAttribute c = rw c.in-UnquotedAttribute.is (up_to_first (unquoted (end_byte c.in-UnquotedAttribute.field-0)) c.first_special.ensures)
 
 pub returns-in-ScriptSingle : goal.returns-in-ScriptSingle
-returns-in-ScriptSingle c = rw c.in-ScriptSingle.is (up_to_first (script_string Single single_quote refl) c.first_in-in-ScriptSingle.ensures)
+returns-in-ScriptSingle c = rw c.in-ScriptSingle.is (up_to_first (script_string Single single_quote refl) c.first_in.ensures)
 
 pub returns-in-ScriptDouble : goal.returns-in-ScriptDouble
 returns-in-ScriptDouble c = rw c.in-ScriptDouble.is (up_to_first (script_string Double double_quote refl) c.first_in-in-ScriptDouble.ensures)
