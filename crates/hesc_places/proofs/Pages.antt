@@ -1,6 +1,7 @@
 pub mod ParserLaws
 pub mod AttributeLaws
 pub mod ScriptTexts
+pub mod BodyValues
 pub mod FormLaw
 pub mod PageLaw
 pub mod AttributeTurns

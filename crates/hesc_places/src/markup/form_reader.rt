@@ -15,7 +15,7 @@ ghost use Rattle.hesc_places.specs.Pages.FormReadings.{
 use crate::markup::prefix::{past, past_in_any_case, white_space_at};
 use crate::markup::tag_reader::{attributes_at, differ};
 use crate::markup::types::{Quoting, ReadAttribute};
-use hesc_grammars::{Place, read_place};
+use hesc_grammars::{Place, end_of_place, read_place};
 use std::alloc::{AllocError, Allocator, Global};
 
 /// What stands in a form, and where it ends.
@@ -79,7 +79,7 @@ fn with_attributes<A: Allocator + Clone>(
 
 // All that follows the attributes: the literal, and the bytes after the script.
 #[tactic(auto, unfolding(crate::specs::Pages::FormReadings::after_attributes))]
-fn after_attributes<A: Allocator + Clone>(
+fn after_attributes<A: Allocator>(
     alloc: A,
     bytes: &[u8],
 ) -> Result<Option<(Vec<u8, A>, &[u8])>, AllocError>
@@ -108,18 +108,19 @@ fn tag_end(bytes: &[u8]) -> Option<&[u8]>
 
 // A body that calls `alert`, and its end tag.
 #[tactic(auto, unfolding(crate::specs::Pages::FormReadings::script_at))]
-fn script_at<A: Allocator + Clone>(
+fn script_at<A: Allocator>(
     alloc: A,
     bytes: &[u8],
 ) -> Result<Option<(Vec<u8, A>, &[u8])>, AllocError>
     ensures { IfOk result (λ found. option_map (λ s. (s.0.items, s.1.now)) found
         ≡ script_at bytes.now) }
 {
-    let Some(body) = read_place(alloc.clone()?, Place::ScriptBody, bytes)? else {
+    // A body is read as it stands, so its bytes are its value.
+    let Some(end) = end_of_place(Place::ScriptBody, bytes) else {
         return Ok(None);
     };
-    let (_, tag) = bytes.split_at(body.end);
-    let Some(literal) = alerted(alloc, body.value.as_slice())? else {
+    let (body, tag) = bytes.split_at(end);
+    let Some(literal) = alerted(alloc, body)? else {
         return Ok(None);
     };
     let Some(rest) = past_in_any_case(tag, b"</script>") else {
