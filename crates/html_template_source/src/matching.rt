@@ -1,5 +1,5 @@
 //! Texts for names, in one pass where no fault stands.
-ghost use Rattle.std.specs.Prelude.{◌≡◌, ◌<◌, ◌≤◌, ℕ, IfOk, IfSome, IsTrue, false, length, slice_index_or, true};
+ghost use Rattle.std.specs.Prelude.{◌≡◌, ◌<◌, ℕ, IfOk, IfSome, IsTrue, false, length, slice_index_or, true};
 ghost use Rattle.std.specs.Option.{option_map};
 ghost use Rattle.html_template.specs.Templates.{texts_of};
 ghost use Rattle.html_template_source.specs.Bindings.{bindings_of, bound};

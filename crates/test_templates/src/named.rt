@@ -122,10 +122,10 @@ fn texts_of_many_names(rt: HostRuntime) -> Result<(), Fail> {
 
 /// Whether a binding more of an unknown name, a binding more of this one's name and a binding less are
 /// each refused. Each name is a slot's that stands where the binding stands, but in reverse.
-fn refuses_flaws_at(
+fn refuses_flaws_at<'n>(
     alloc: Global,
     template: &NamedTemplate<'_>,
-    bindings: &[(&str, &str)],
+    bindings: &[(&'n str, &'n str)],
     is_reversed: bool,
     place: usize,
 ) -> Result<bool, AllocError> {
