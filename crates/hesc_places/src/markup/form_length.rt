@@ -1,4 +1,5 @@
-//! The length of the text of a form, with each value counted by lanes.
+//! The length of the text of a form: values are counted by lanes, and the script's string change by
+//! change.
 ghost use Rattle.std.specs.Prelude.{◌≡◌, ◌<◌, ◌^◌, length, map, IfSome, IsSome};
 ghost use Rattle.std.specs.List.{flat_map};
 ghost use Rattle.hesc_places.specs.Pages.FormTexts.{attribute_text, form_text, value_text, written};

@@ -40,7 +40,7 @@ impl Parts for FormText<'_> {
         )
     }
 
-    // Counted by lanes, in place of writing the form twice.
+    // The values are counted by lanes and not put twice.
     fn room_for(&self, spare: usize) -> Result<usize, CountOverflow> {
         let _spare = spare;
         form_length(self.attributes, self.script).ok_or(CountOverflow)

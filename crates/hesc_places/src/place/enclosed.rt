@@ -6,7 +6,7 @@ ghost use Rattle.hesc_places.specs.Places.Enclosed.{enclosed};
 use crate::place::marks::{closing, opening};
 use hesc_core::forms::Parts;
 use hesc_core::forms::measure::measure;
-use hesc_core::{CountOverflow, Sink, run};
+use hesc_core::{CountOverflow, Counter, Sink, run};
 use hesc_grammars::Place;
 use html_escape::Encoder;
 
@@ -26,9 +26,14 @@ impl Parts for Enclosed<'_> {
         put_between(before, self.encoder, self.text, after, sink)
     }
 
-    // Counted by lanes, in place of writing the text twice.
+    // What is counted by lanes is not put twice.
     fn room_for(&self, spare: usize) -> Result<usize, CountOverflow> {
         let _spare = spare;
+        if !is_counted_by_lanes(self.encoder) {
+            let mut counter = Counter::new();
+            self.put_into(&mut counter)?;
+            return Ok(counter.count());
+        }
         let marks = opening(self.place).len() + closing(self.place).len();
         measure(&self.encoder, self.text)?
             .checked_add(marks)
@@ -54,6 +59,27 @@ impl Enclosed<'_> {
     #[inline(always)]
     fn most(&self) -> usize {
         most_encoded(self.text).saturating_add(MARKS)
+    }
+}
+
+// Other encodings are counted change by change, and a counter keeps the mask between two of them.
+fn is_counted_by_lanes(encoder: Encoder) -> bool {
+    match encoder {
+        Encoder::TextMinimal
+        | Encoder::Text
+        | Encoder::DoubleQuotedAttribute
+        | Encoder::SingleQuotedAttribute
+        | Encoder::QuotedAttribute
+        | Encoder::Safe
+        | Encoder::UnquotedAttribute => true,
+        Encoder::Script
+        | Encoder::Style
+        | Encoder::ScriptSingleQuoted
+        | Encoder::ScriptDoubleQuoted
+        | Encoder::ScriptQuoted
+        | Encoder::StyleSingleQuoted
+        | Encoder::StyleDoubleQuoted
+        | Encoder::StyleQuoted => false,
     }
 }
 
