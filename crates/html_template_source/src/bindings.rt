@@ -1,5 +1,5 @@
 //! Texts that are bound to names.
-ghost use Rattle.std.specs.Prelude.{◌≡◌, IfOk, map};
+ghost use Rattle.std.specs.Prelude.{◌≡◌, IfOk, IfSome, Some, map};
 ghost use Rattle.std.specs.Option.{option_map, option_or};
 ghost use Rattle.std.specs.Result.{result_err};
 ghost use Rattle.html_template.specs.Templates.{texts_of};
@@ -101,30 +101,22 @@ fn texts_for<'b, A: Allocator>(
     Ok(texts)
 }
 
-// Whether each name has a text.
-fn check_names<'b>(names: &[&str], bindings: &[(&'b str, &'b str)]) -> Result<(), BindFault>
-    ensures { result_err result
-        ≡ missing_fault 0 (bindings_of bindings.now) (texts_of names.now) }
-{
-    let mut rest = names;
-    'names: while let [name, others @ ..] = rest {
-        if bound(bindings, *name).is_none() {
-            return Err(BindFault::Missing(names.len() - rest.len()));
-        }
-        rest = others;
-    }
-    Ok(())
-}
-
-// The fault that stands where memory was refused.
-fn fault_of_refusal<'b>(names: &[&str], bindings: &[(&'b str, &'b str)]) -> Option<BindFault>
-    ensures { result ≡ option_or (binding_fault 0 (texts_of names.now) (bindings_of bindings.now))
-        (missing_fault 0 (bindings_of bindings.now) (texts_of names.now)) }
+// The fault that was told before any memory was asked for.
+fn early_fault(names: &[&str], bindings: &[(&str, &str)]) -> Option<BindFault>
+    ensures { IfSome result (λ fault.
+        option_or (binding_fault 0 (texts_of names.now) (bindings_of bindings.now))
+        (missing_fault 0 (bindings_of bindings.now) (texts_of names.now)) ≡ Some fault) }
 {
     if let Err(fault) = check_bindings(names, bindings) {
         return Some(fault);
     }
-    check_names(names, bindings).err()
+    let [name, ..] = names else {
+        return None;
+    };
+    match bound(bindings, *name) {
+        Some(_) => None,
+        None => Some(BindFault::Missing(0)),
+    }
 }
 
 /// The text for each name, where no fault stands: first come faults of the bindings, then of the names.
@@ -146,7 +138,7 @@ pub(crate) fn bind<'b, A: Allocator + Copy>(
         Ok(Some(texts)) => return Ok(texts),
         Ok(None) => {}
         Err(_) => {
-            return Err(match fault_of_refusal(names, bindings) {
+            return Err(match early_fault(names, bindings) {
                 Some(fault) => fault,
                 None => BindFault::Memory,
             });

@@ -7,8 +7,11 @@ ghost use Rattle.html_template_source.specs.Matches.{Matches, place_from};
 
 use std::alloc::{AllocError, Allocator};
 
-/// So many bindings are matched in one pass, at most.
-pub(crate) const MOST: usize = 64;
+// So many bindings are matched in one pass, at most.
+const MOST: usize = 64;
+
+// For so many names, at most: a fault of the first binding is not told after a pass over a long list.
+const MOST_NAMES: usize = 256;
 
 // The first binding of this name: its place and its text.
 fn find<'b>(bindings: &[(&'b str, &'b str)], name: &str) -> Option<(usize, &'b str)>
@@ -41,7 +44,7 @@ fn are_set(flags: &[bool]) -> bool
     true
 }
 
-/// The text for each name, or `None`: a fault stands, or there are more than [`MOST`] bindings.
+/// The text for each name, or `None`: a fault stands, or there are too many bindings or names.
 ///
 /// Each name finds the first binding of it. So once every binding was found, each is of a name that is
 /// asked for, and none stands before it with the same name.
@@ -53,7 +56,7 @@ pub(crate) fn match_names<'b, A: Allocator>(
     ensures { IfOk result (λ found. IfSome found (λ texts.
         Matches (bindings_of bindings.now) (texts_of names.now) (texts_of texts.items))) }
 {
-    if bindings.len() > MOST {
+    if bindings.len() > MOST || names.len() > MOST_NAMES {
         return Ok(None);
     }
     let mut texts = match Vec::with_capacity(alloc, names.len()) {

@@ -145,3 +145,28 @@ fn every_request_of_a_named_append_is_refused_in_turn(rt: HostRuntime) -> Result
     }
     Ok(())
 }
+
+// A fault that was told before memory was asked for is told where it is refused.
+#[test]
+fn a_fault_is_told_before_a_refusal(rt: HostRuntime) -> Result<(), Fail> {
+    let heap = Refusing::new(rt.alloc(), 0);
+    let Ok(template) = NamedTemplate::parse(&heap, SOURCE) else {
+        panic!(rt; "the source is a template");
+    };
+    let mut output = String::new(&heap);
+    heap.refuse(1);
+    let unknown = [("title", ""), ("body", ""), ("other", ""), ("none", "")];
+    assert!(rt; template.append(&mut output, &unknown) == Err(BindFault::Unknown(3)));
+    heap.refuse(1);
+    let doubled = [("title", ""), ("body", ""), ("other", ""), ("body", "")];
+    assert!(rt; template.append(&mut output, &doubled) == Err(BindFault::Doubled(1)));
+    heap.refuse(1);
+    let missing = [("body", ""), ("other", "")];
+    assert!(rt; template.append(&mut output, &missing) == Err(BindFault::Missing(0)));
+    heap.refuse(1);
+    // The list has a text before the name that has none.
+    let missing = [("title", ""), ("other", "")];
+    assert!(rt; template.append(&mut output, &missing) == Err(BindFault::Memory));
+    assert!(rt; output.as_str().is_empty());
+    Ok(())
+}

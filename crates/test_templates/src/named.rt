@@ -1,11 +1,13 @@
 //! Texts that are bound to many names, and the fault that stands first. Up to 64 bindings are matched
-//! in one pass, more step by step: what is expected comes from the places alone.
+//! in one pass for up to 256 slots, others step by step: what is expected comes from the places alone.
 use html_template_source::{BindFault, NamedTemplate};
 use std::alloc::{AllocError, Global};
 use std::process::Abort;
 use std::test::Fail;
 
 static COUNTS: [usize; 6] = [1, 2, 63, 64, 65, 200];
+
+static PAIRS: [usize; 4] = [127, 128, 129, 300];
 
 /// `n0`, `n1` and so on. The text of each is its number.
 fn names(alloc: Global, count: usize) -> Result<Vec<String>, AllocError> {
@@ -168,6 +170,31 @@ fn faults_of_many_names(rt: HostRuntime) -> Result<(), Fail> {
                 );
             }
         }
+    }
+    Ok(())
+}
+
+#[test]
+fn two_names_in_many_slots(rt: HostRuntime) -> Result<(), Fail> {
+    for &pairs in &PAIRS {
+        let mut source = String::new(rt.alloc());
+        let mut page = String::new(rt.alloc());
+        for _ in 0..pairs {
+            source.push_str("<i>{{a}}</i>{{b}}")?;
+            page.push_str("<i>1</i>2")?;
+        }
+        let Ok(template) = NamedTemplate::parse(rt.alloc(), source.as_str()) else {
+            panic!(rt; "the source is a template");
+        };
+        let mut output = String::new(rt.alloc());
+        assert!(rt; template.append(&mut output, &[("b", "2"), ("a", "1")]) == Ok(()));
+        assert!(rt; output.as_str() == page.as_str(), "{pairs}");
+        let unknown = [("a", "1"), ("c", ""), ("b", "2")];
+        assert!(rt; refuses(rt.alloc(), &template, &unknown, BindFault::Unknown(1)));
+        let doubled = [("b", "2"), ("a", "1"), ("a", "2")];
+        assert!(rt; refuses(rt.alloc(), &template, &doubled, BindFault::Doubled(1)));
+        assert!(rt; refuses(rt.alloc(), &template, &[("a", "1")], BindFault::Missing(1)));
+        assert!(rt; refuses(rt.alloc(), &template, &[("b", "2")], BindFault::Missing(0)));
     }
     Ok(())
 }
