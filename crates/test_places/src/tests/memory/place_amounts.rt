@@ -110,9 +110,9 @@ fn pages_ask_for_what_stands_in_them(rt: HostRuntime) -> Result<(), Fail> {
     Ok(())
 }
 
-// A value is read once, and the script once as a body and once as a string.
+// Each value is read once, and so is the script's string: its body takes no memory.
 fn most_of_reading(length: usize, attributes: usize) -> u64 {
-    let values = length.saturating_mul(2).saturating_mul(DOUBLED);
+    let values = length.saturating_mul(DOUBLED);
     let places = attributes.saturating_mul(FOR_EACH_ATTRIBUTE);
     values.saturating_add(places).saturating_add(SMALL) as u64
 }
