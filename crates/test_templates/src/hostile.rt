@@ -219,7 +219,7 @@ fn every_character_of_a_byte_or_two_stays(rt: HostRuntime) -> Result<(), Fail> {
     Ok(())
 }
 
-fn repeated(alloc: Global, part: &str, times: usize) -> Result<String, AllocError> {
+pub(crate) fn repeated(alloc: Global, part: &str, times: usize) -> Result<String, AllocError> {
     let mut text = String::new(alloc);
     for _ in 0..times {
         text.push_str(part)?;

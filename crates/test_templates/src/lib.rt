@@ -7,6 +7,8 @@ mod examples;
 #[cfg(test)]
 mod hostile;
 #[cfg(test)]
+mod markup;
+#[cfg(test)]
 mod memory;
 #[cfg(test)]
 mod named;

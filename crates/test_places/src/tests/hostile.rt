@@ -58,6 +58,15 @@ static READ: [(Place, Long, Long, &str); 8] = [
     ),
 ];
 
+// Texts that are taken by one stretch after another, or by one byte after another.
+static STRETCHES: [Long; 5] = [
+    ("", "a.", MILLION / 2, ""),
+    ("", "/", MILLION, ""),
+    ("", "\u{2026}", MILLION / 3, ""),
+    ("<!--", "-", MILLION, ""),
+    ("", "&lt;", MILLION / 4, ""),
+];
+
 #[test]
 fn long_texts_are_read(rt: HostRuntime) -> Result<(), Fail> {
     for &(place, text, value, mark) in &READ {
@@ -80,7 +89,7 @@ fn long_texts_are_read(rt: HostRuntime) -> Result<(), Fail> {
 
 #[test]
 fn every_reader_ends(rt: HostRuntime) -> Result<(), Fail> {
-    for &trap in &TRAPS {
+    for &trap in TRAPS.iter().chain(&STRETCHES) {
         let text = long_text(rt.alloc(), trap)?;
         for &place in &PLACES {
             let end = end_of_place(place, text.as_bytes());
