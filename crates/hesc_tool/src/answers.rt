@@ -22,8 +22,8 @@ use hesc_commands::{Command, FormWords, attributes_of};
 use hesc_core::forms::append_to_string;
 use hesc_places::{Place, append_enclosed, append_form, append_page};
 use html_escape::{BodyKind, Encoder, Operation};
+use simdutf8::basic::from_utf8;
 use std::alloc::Allocator;
-use std::str;
 
 /// What the command answers to the input.
 pub fn make_answer<A: Allocator + Clone>(
@@ -48,7 +48,7 @@ pub fn make_answer<A: Allocator + Clone>(
 fn apply<A: Allocator>(alloc: A, operation: Operation, input: &[u8]) -> Result<Vec<u8, A>, Fault>
     ensures { IsMade (AnswersText input.now (Ok (operation_text operation input.now))) result }
 {
-    let Ok(text) = str::from_utf8(input) else {
+    let Ok(text) = from_utf8(input) else {
         return Err(Fault::NotUtf8);
     };
     let mut output = String::new(alloc);
@@ -64,7 +64,7 @@ fn encoded_by_lines<A: Allocator>(
 ) -> Result<Vec<u8, A>, Fault>
     ensures { IsMade (AnswersText input.now (Ok (body_encoding kind input.now))) result }
 {
-    let Ok(text) = str::from_utf8(input) else {
+    let Ok(text) = from_utf8(input) else {
         return Err(Fault::NotUtf8);
     };
     let mut output = String::new(alloc);
@@ -81,7 +81,7 @@ fn enclosed<A: Allocator>(
 ) -> Result<Vec<u8, A>, Fault>
     ensures { IsMade (AnswersText input.now (enclosing encoder place input.now)) result }
 {
-    let Ok(text) = str::from_utf8(input) else {
+    let Ok(text) = from_utf8(input) else {
         return Err(Fault::NotUtf8);
     };
     let mut output = String::new(alloc);
