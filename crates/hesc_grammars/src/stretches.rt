@@ -1,5 +1,5 @@
 //! How far the bytes of a place are read as they stand.
-ghost use Rattle.std.specs.Prelude.{◌≡◌};
+ghost use Rattle.std.specs.Prelude.{◌≡◌, ◌==◌, ◌||◌};
 ghost use Rattle.hesc_specs.specs.Text.FirstPlace.{IsFirstPlace};
 ghost use Rattle.hesc_grammars.specs.Places.{step_of};
 ghost use Rattle.hesc_grammars.specs.Stretches.{IsStretch, is_special};
@@ -23,7 +23,7 @@ pub(crate) fn stretch(place: Place, mode: Mode, bytes: &[u8]) -> usize
         Mode::Plain => plain_stretch(place, bytes),
         Mode::Escaped | Mode::DoubleEscaped => match place {
             // A `-` may begin the end of the comment.
-            Place::ScriptBody => first_of_two(b'<', b'-', bytes, 0),
+            Place::ScriptBody => next_of_two(b'<', b'-', bytes),
             _ => 0,
         },
     }
@@ -33,15 +33,27 @@ fn plain_stretch(place: Place, bytes: &[u8]) -> usize
     ensures { IsStretch (step_of place) Plain bytes.now result }
 {
     match place {
-        Place::Text => first_of_two(b'<', b'&', bytes, 0),
-        Place::DoubleAttribute => first_of_two(b'"', b'&', bytes, 0),
-        Place::SingleAttribute => first_of_two(b'\'', b'&', bytes, 0),
+        Place::Text => next_of_two(b'<', b'&', bytes),
+        Place::DoubleAttribute => next_of_two(b'"', b'&', bytes),
+        Place::SingleAttribute => next_of_two(b'\'', b'&', bytes),
         Place::UnquotedAttribute(_) => first_special(bytes),
         Place::ScriptSingle => first_in(Class::ScriptSingleQuoted, bytes, 0),
         Place::ScriptDouble => first_in(Class::ScriptDoubleQuoted, bytes, 0),
         Place::StyleSingle => first_in(Class::StyleSingleQuoted, bytes, 0),
         Place::StyleDouble => first_in(Class::StyleDoubleQuoted, bytes, 0),
         Place::ScriptBody | Place::StyleBody => first_byte(b'<', bytes, 0),
+    }
+}
+
+// Among few bytes the search costs more than one look at the first of them, which often ends the
+// stretch. Where there are 32 the search loads them at once, which a look at one would split.
+#[inline(always)]
+fn next_of_two(one: u8, other: u8, bytes: &[u8]) -> usize
+    ensures { IsFirstPlace (λ b. b == one || b == other) bytes.now 0 result }
+{
+    match bytes.first() {
+        Some(first) if bytes.len() < 32 && (*first == one || *first == other) => 0,
+        _ => first_of_two(one, other, bytes, 0),
     }
 }
 

@@ -6,13 +6,13 @@ use Rattle.hesc_grammars.proofs.ReadStretches.{marked, script_body, script_strin
 use Rattle.hesc_grammars.proofs.stretches.plain_stretch.Goals as goal
 
 pub returns-in-Text : goal.returns-in-Text
-returns-in-Text c = rw c.in-Text.is (up_to_first (marked less_than) c.first_of_two.ensures)
+returns-in-Text c = rw c.in-Text.is (up_to_first (marked less_than) c.next_of_two.ensures)
 
 pub returns-in-DoubleAttribute : goal.returns-in-DoubleAttribute
-returns-in-DoubleAttribute c = rw c.in-DoubleAttribute.is (up_to_first (marked double_quote) c.first_of_two-in-DoubleAttribute.ensures)
+returns-in-DoubleAttribute c = rw c.in-DoubleAttribute.is (up_to_first (marked double_quote) c.next_of_two-in-DoubleAttribute.ensures)
 
 pub returns-in-SingleAttribute : goal.returns-in-SingleAttribute
-returns-in-SingleAttribute c = rw c.in-SingleAttribute.is (up_to_first (marked single_quote) c.first_of_two-in-SingleAttribute.ensures)
+returns-in-SingleAttribute c = rw c.in-SingleAttribute.is (up_to_first (marked single_quote) c.next_of_two-in-SingleAttribute.ensures)
 
 pub returns-in-UnquotedAttribute : goal.returns-in-UnquotedAttribute
 returns-in-UnquotedAttribute c = rw c.in-UnquotedAttribute.is (up_to_first (unquoted (end_byte c.in-UnquotedAttribute.field-0)) c.first_special.ensures)

@@ -4,6 +4,6 @@ use Rattle.hesc_grammars.proofs.stretches.stretch.Goals as goal
 
 pub returns-in-ScriptBody : goal.returns-in-ScriptBody
 returns-in-ScriptBody c = elim c.in-Escaped.is [
-  | inl one ↦ rw (c.in-ScriptBody.is, one) (up_to_first escaped c.first_of_two.ensures)
-  | inr both ↦ rw (c.in-ScriptBody.is, both) (up_to_first double_escaped c.first_of_two.ensures)
+  | inl one ↦ rw (c.in-ScriptBody.is, one) (up_to_first escaped c.next_of_two.ensures)
+  | inr both ↦ rw (c.in-ScriptBody.is, both) (up_to_first double_escaped c.next_of_two.ensures)
 ]
