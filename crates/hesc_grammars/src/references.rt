@@ -23,6 +23,25 @@ const PAST_CHARACTERS: u32 = 0x110000;
 pub fn reference(bytes: &[u8]) -> Step
     ensures { result ≡ reference bytes.now }
 {
+    // What the encoders write most is told by its bytes, and the end is not searched for.
+    match bytes {
+        [b'l', b't', b';', ..] => Step::Character(3, '<', Mode::Plain),
+        [b'g', b't', b';', ..] => Step::Character(3, '>', Mode::Plain),
+        [b'a', b'm', b'p', b';', ..] => Step::Character(4, '&', Mode::Plain),
+        [b'q', b'u', b'o', b't', b';', ..] => Step::Character(5, '"', Mode::Plain),
+        [b'#', b'x', high, low, b';', ..] => match digits_character(true, &[*high, *low]) {
+            Some(character) => Step::Character(5, character, Mode::Plain),
+            None => searched_reference(bytes),
+        },
+        _ => searched_reference(bytes),
+    }
+}
+
+// What a `&` before the bytes begins, by a search for its `;`.
+#[inline(never)]
+fn searched_reference(bytes: &[u8]) -> Step
+    ensures { result ≡ reference bytes.now }
+{
     let count = first_byte(b';', bytes, 0);
     if count == bytes.len() {
         return Step::Nothing;
@@ -60,6 +79,7 @@ fn named_character(name: &[u8]) -> Option<char>
     }
 }
 
+#[inline(always)]
 fn digits_character(is_hex: bool, digits: &[u8]) -> Option<char>
     ensures { result ≡ digits_character (base_of is_hex) digits.now }
 {
@@ -67,6 +87,7 @@ fn digits_character(is_hex: bool, digits: &[u8]) -> Option<char>
 }
 
 // The number that one or more digits write.
+#[inline(always)]
 fn digits_number(is_hex: bool, digits: &[u8]) -> Option<u32>
     ensures { result ≡ if are_digits (base_of is_hex) digits.now
         then Some (capped (digits_value (base_of is_hex) digits.now)) else None }
@@ -83,6 +104,7 @@ fn digits_number(is_hex: bool, digits: &[u8]) -> Option<u32>
 }
 
 // The number that a number's digits and one more digit write.
+#[inline(always)]
 fn with_digit(is_hex: bool, number: u32, digit: u32) -> u32
     requires number { number ≤ 0x110000 }
     requires digit { digit < base_of is_hex }
@@ -101,6 +123,7 @@ fn numbered_character(number: u32) -> Option<char>
     }
 }
 
+#[inline(always)]
 fn base(is_hex: bool) -> u32
     ensures { result ≡ base_of is_hex }
 {
