@@ -1,5 +1,5 @@
 //! The readers of places: what stands in a place, and where it ends.
-ghost use Rattle.std.specs.Prelude.{◌≡◌, ◌<◌, ◌++◌, length, IfOk, IfSome, OnOk};
+ghost use Rattle.std.specs.Prelude.{◌≡◌, ◌<◌, ◌++◌, length, encode_utf8, IfOk, IfSome, OnOk};
 ghost use Rattle.std.specs.Option.{option_map};
 ghost use Rattle.std.specs.Str.{IsUtf8};
 ghost use Rattle.hesc_grammars.specs.Places.{end_of, reading};
@@ -58,7 +58,7 @@ pub fn read_place<A: Allocator>(
                 if more >= rest.len() {
                     return Ok(None);
                 }
-                value.extend_from_slice(character.encode_utf8(&mut [0; 4]).as_bytes())?;
+                append_character(&mut value, character)?;
                 rest = rest.split_at(more + 1).1;
                 mode = next;
             }
@@ -75,6 +75,18 @@ fn append<A: Allocator>(value: &mut Vec<u8, A>, stretch: &[u8]) -> Result<(), Al
         return Ok(());
     }
     value.extend_from_slice(stretch)
+}
+
+// Most characters that an encoder replaces are of one byte.
+#[inline(always)]
+fn append_character<A: Allocator>(value: &mut Vec<u8, A>, character: char) -> Result<(), AllocError>
+    ensures { OnOk result (value.new.items ≡ value.old.items ++ encode_utf8 character) }
+{
+    if character.is_ascii() {
+        value.push(character as u8)?;
+        return Ok(());
+    }
+    value.extend_from_slice(character.encode_utf8(&mut [0; 4]).as_bytes())
 }
 
 /// The end of that reading, where there is one. It takes no memory, and a time linear in the bytes.

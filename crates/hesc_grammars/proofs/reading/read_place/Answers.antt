@@ -1,4 +1,6 @@
-use Rattle.std.proofs.Common.{◌++◌, ◌≢◌, ap, sym, ◌∙◌, length, arith, rules}
+use Rattle.std.proofs.Common.{◌≢◌, sym, length, arith, rules}
+use Rattle.std.specs.Char.{IsScalar}
+use Rattle.std.proofs.lemmas.Str.{IsUtf8-encode}
 use Rattle.hesc_grammars.proofs.ReadingTurns.{closes_by_byte, ends, knows_nothing, lacks_byte, lacks_character, goes_past_byte, goes_past_character, goes_past_stretch}
 use Rattle.hesc_grammars.proofs.TextItems.{item_of_text}
 use Rattle.hesc_grammars.proofs.ReadTexts.{begun, ended, takes_byte, takes_character, takes_stretch}
@@ -57,12 +59,13 @@ reading-preserved-in-Byte g c =
 pub reading-preserved : goal.reading-preserved
 reading-preserved g c =
     let follows = goes_past_stretch c.reading.invariant.follows c.stretch.ensures c.in_ok-append.ensures c.split_at.ensures.front c.split_at.ensures.back in
-    let items = c.in_ok-extend_from_slice-in-Character.ensures.items ∙ ap (λ more. c.append.new.value.items ++ more) (c.as_bytes.ensures.value ∙ c.encode_utf8.ensures.value) in
+    let items = c.in_ok-append_character-in-Character.ensures in
+    let scalar : IsScalar c.in-Character.character = search rules in
     let full : length c.split_at.result.1.now ≢ 0 = λ none. omega (arith, none, c.if-more-rest-2.false) in
     let item = item_of_text c.args.place c.reading.mode c.split_at.result.1.now full in
     record {
       follows = goes_past_character follows c.in-Character.ensures (omega arith) items c.split_at-in-Character.ensures.back;
       text = λ utf8.
           let text = takes_stretch c.stretch.ensures.within (c.reading.invariant.text utf8) c.in_ok-append.ensures c.split_at.ensures.front c.split_at.ensures.back in
-          takes_character _ _ _ _ _ _ c.in-Character.next (rw c.encode_utf8.ensures.value at c.encode_utf8.utf8) (omega arith) (rw (sym c.in-Character.ensures) at item) text items c.split_at-in-Character.ensures.back;
+          takes_character _ _ _ _ _ _ c.in-Character.next (IsUtf8-encode c.in-Character.character scalar) (omega arith) (rw (sym c.in-Character.ensures) at item) text items c.split_at-in-Character.ensures.back;
     }
