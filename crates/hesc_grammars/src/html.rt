@@ -12,6 +12,7 @@ use crate::step::{Mode, Step};
 
 /// The step of text and of quoted values, which the byte `mark` ends.
 #[tactic(auto, unfolding(crate::specs::Html::marked_step))]
+#[inline(always)]
 pub fn marked_step(mark: u8, mode: Mode, bytes: &[u8]) -> Step
     ensures { result ≡ marked_step mark mode bytes.now }
 {

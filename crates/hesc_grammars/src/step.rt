@@ -39,6 +39,7 @@ pub enum Step {
 /// What begins at a position of a place.
 ///
 /// `step_of(Place::Text, Mode::Plain, b"&lt;b")` is `Step::Character(3, '<', Mode::Plain)`.
+#[inline(always)]
 pub fn step_of(place: Place, mode: Mode, bytes: &[u8]) -> Step
     ensures { result ≡ step_of place mode bytes.now }
 {

@@ -15,6 +15,7 @@ use hesc_specs::Class;
 /// few, since the searches stop at more bytes than the grammars do.
 ///
 /// `stretch(Place::Text, Mode::Plain, b"ab&lt;c")` is 2.
+#[inline(always)]
 pub(crate) fn stretch(place: Place, mode: Mode, bytes: &[u8]) -> usize
     ensures { IsStretch (step_of place) mode bytes.now result }
 {
@@ -29,6 +30,7 @@ pub(crate) fn stretch(place: Place, mode: Mode, bytes: &[u8]) -> usize
     }
 }
 
+#[inline(always)]
 fn plain_stretch(place: Place, bytes: &[u8]) -> usize
     ensures { IsStretch (step_of place) Plain bytes.now result }
 {
