@@ -121,11 +121,13 @@ fn value_stretch(place: SlotPlace, bytes: &[u8]) -> usize
         ≡ at_value (In place) content attribute }
 {
     // Among few bytes the search costs more than one look at the first of them, which often ends
-    // the stretch.
+    // the stretch: after a slot the quote mark comes at once.
     match place {
         SlotPlace::Text if matches!(bytes, [b'<' | b'&', ..]) => 0,
         SlotPlace::Text => first_of_two(b'<', b'&', bytes, 0),
+        SlotPlace::DoubleQuoted if matches!(bytes, [b'"' | b'&', ..]) => 0,
         SlotPlace::DoubleQuoted => first_of_two(b'"', b'&', bytes, 0),
+        SlotPlace::SingleQuoted if matches!(bytes, [b'\'' | b'&', ..]) => 0,
         SlotPlace::SingleQuoted => first_of_two(b'\'', b'&', bytes, 0),
         SlotPlace::Unquoted => value_bytes(SlotPlace::Unquoted, bytes),
         SlotPlace::ScriptSingle => value_bytes(SlotPlace::ScriptSingle, bytes),

@@ -10,14 +10,14 @@ returns-in-Text-2-clause-stays c = λ content attribute settled.
     (stays_up_to_two less_than ampersand _ c.args.bytes.now _ c.first_of_two.ensures
     (λ b. stays_in_text content attribute b (settled b)))
 
-pub returns-in-DoubleQuoted-clause-stays : goal.returns-in-DoubleQuoted-clause-stays
-returns-in-DoubleQuoted-clause-stays c = λ content attribute settled.
+pub returns-in-DoubleQuoted-2-clause-stays : goal.returns-in-DoubleQuoted-2-clause-stays
+returns-in-DoubleQuoted-2-clause-stays c = λ content attribute settled.
     rw c.in-DoubleQuoted.is
-    (stays_up_to_two double_quote ampersand _ c.args.bytes.now _ c.first_of_two-in-DoubleQuoted.ensures
+    (stays_up_to_two double_quote ampersand _ c.args.bytes.now _ c.first_of_two-in-DoubleQuoted-2.ensures
     (λ b. stays_in_quotes double_quote DoubleQuoted content attribute b (λ d. refl) (settled b)))
 
-pub returns-in-SingleQuoted-clause-stays : goal.returns-in-SingleQuoted-clause-stays
-returns-in-SingleQuoted-clause-stays c = λ content attribute settled.
+pub returns-in-SingleQuoted-2-clause-stays : goal.returns-in-SingleQuoted-2-clause-stays
+returns-in-SingleQuoted-2-clause-stays c = λ content attribute settled.
     rw c.in-SingleQuoted.is
-    (stays_up_to_two single_quote ampersand _ c.args.bytes.now _ c.first_of_two-in-SingleQuoted.ensures
+    (stays_up_to_two single_quote ampersand _ c.args.bytes.now _ c.first_of_two-in-SingleQuoted-2.ensures
     (λ b. stays_in_quotes single_quote SingleQuoted content attribute b (λ d. refl) (settled b)))
