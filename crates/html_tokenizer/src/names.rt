@@ -18,7 +18,8 @@ pub(crate) fn lengthens_name(phase: Phase, byte: u8) -> bool
 {
     match phase {
         Phase::TagName | Phase::EndTagName | Phase::Name => {
-            matches!(byte, b'a'..=b'z' | b'0'..=b'9' | b'-')
+            // Nearly all are letters, which are looked for first.
+            matches!(byte, b'a'..=b'z') || matches!(byte, b'0'..=b'9' | b'-')
         }
         _ => false,
     }
