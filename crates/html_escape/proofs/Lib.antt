@@ -1,3 +1,4 @@
 mod DecoderBounds
 pub mod Sessions
 pub mod Steps
+pub mod WholePieces

@@ -4,7 +4,9 @@ ghost use Rattle.std.specs.Prelude.{◌≡◌, ◌≤◌, ℕ, List, true, [], �
 ghost use Rattle.std.specs.Borrow.{sem};
 ghost use Rattle.std.specs.String.{string_bytes};
 ghost use Rattle.hesc_specs.specs.Bodies.Encoding.{body_encoding};
+ghost use Rattle.hesc_specs.specs.Bodies.DecidedChanges.{partial_at};
 ghost use Rattle.hesc_specs.specs.Bodies.Sessions.{IsStep, is_partial as partial, partial_end};
+ghost use Rattle.hesc_specs.specs.Text.FirstPlace.{IsFirstAt};
 ghost use Rattle.hesc_specs.specs.declared.elements.Element.{Element};
 ghost use Rattle.hesc_engine.specs.Forms.{AnswersPart, Appended, StringAppended, string_room};
 ghost use Rattle.html_escape.specs.Held.{carry_bytes};
@@ -12,9 +14,9 @@ ghost use Rattle.html_escape.specs.Held.{carry_bytes};
 use crate::body_encoder::carry::Carry;
 use crate::body_encoder::flush::{Flushed, is_opened};
 use crate::body_encoder::partial::{first_partial, is_partial};
-use crate::encoder::Encoder;
 use hesc_core::Element;
 use hesc_core::forms::{append_parts, append_to_string};
+use hesc_core::rules::{EncodeScript, EncodeStyle};
 use std::alloc::{AllocError, Allocator};
 use std::str;
 
@@ -176,6 +178,31 @@ impl BodyEncoder {
         ensures kind { kind_of self.new ≡ kind_of self.old }
         ensures refused { OnErr result (self.new ≡ self.old) }
     {
+        let end = first_partial(self.kind, piece.as_bytes(), 0);
+        if self.held.as_slice().is_empty() && end == piece.len() {
+            return append_body(output, self.kind, piece);
+        }
+        self.add_to_held(piece, end, output)
+    }
+
+    // The same, where the piece is partial from `end` on.
+    fn add_to_held<A: Allocator>(
+        &mut self,
+        piece: &str,
+        end: usize,
+        output: &mut String<A>,
+    ) -> Result<(), AllocError>
+        requires { IsFirstAt (partial_at (kind_of self.old) piece.now) 0 (length piece.now) end }
+        ensures appended { Appended (string_bytes output.old) (string_bytes output.new)
+            (added_with self.old piece.now) result }
+        ensures fits { length (added_with self.old piece.now) ≤ string_room output.old
+            → IsOk result }
+
+        ensures held { OnOk result
+            (held_by self.new ≡ partial_end (kind_of self.old) (held_by self.old ++ piece.now)) }
+        ensures kind { kind_of self.new ≡ kind_of self.old }
+        ensures refused { OnErr result (self.new ≡ self.old) }
+    {
         let front = Carry::first_of(self.held.as_slice(), piece.as_bytes());
         if is_partial(self.kind, front.as_slice()) {
             self.held = front;
@@ -190,7 +217,6 @@ impl BodyEncoder {
         };
         append_parts(output, &flushed)?;
         let bytes = piece.as_bytes();
-        let end = first_partial(self.kind, bytes, 0);
         self.held = Carry::first_of(b"", &bytes[end..]);
         Ok(())
     }
@@ -210,11 +236,7 @@ impl BodyEncoder {
         ensures kind { kind_of self.new ≡ kind_of self.old }
         ensures refused { OnErr result (self.new ≡ self.old) }
     {
-        let encoder = match self.kind {
-            Element::Script => Encoder::Script,
-            Element::Style => Encoder::Style,
-        };
-        append_to_string(output, &encoder, self.held_text())?;
+        append_body(output, self.kind, self.held_text())?;
         self.held = Carry::first_of(b"", b"");
         Ok(())
     }
@@ -224,5 +246,21 @@ impl BodyEncoder {
     {
         // What is partial is ASCII.
         unsafe { str::from_utf8_unchecked(self.held.as_slice()) }
+    }
+}
+
+// Appends the encoding of a whole body.
+fn append_body<A: Allocator>(
+    output: &mut String<A>,
+    kind: Element,
+    body: &str,
+) -> Result<(), AllocError>
+    ensures appended { Appended (string_bytes output.old) (string_bytes output.new)
+        (body_encoding kind body.now) result }
+    ensures fits { length (body_encoding kind body.now) ≤ string_room output.old → IsOk result }
+{
+    match kind {
+        Element::Script => append_to_string(output, &EncodeScript, body),
+        Element::Style => append_to_string(output, &EncodeStyle, body),
     }
 }

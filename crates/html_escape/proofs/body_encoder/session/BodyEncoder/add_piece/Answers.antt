@@ -1,95 +1,59 @@
-use Rattle.std.proofs.Common.{rules, ◌≡◌, List, ℕ, true, ◌++◌, length, take, drop, refl, sym, ap, ◌∙◌, arith}
-use Rattle.std.proofs.lemmas.List.{append-nil, take_rest}
-use Rattle.hesc_specs.specs.Text.FirstPlace.{IsFirstAt}
-use Rattle.hesc_specs.specs.Bodies.Sessions.{is_partial}
+use Rattle.std.proofs.Common.{◌≡◌, ℕ, List, ◌++◌, Result, Ok, Err, OnOk, length, refl, sym, ◌∙◌}
+use Rattle.std.proofs.lemmas.Result.{on_ok_weaker}
 use Rattle.hesc_specs.specs.Bodies.DecidedChanges.{partial_at}
-use Rattle.hesc_specs.proofs.Bodies.Held.{partial-ascii, partial-front, flushed-front, partial_end-front}
-use Rattle.hesc_specs.proofs.Bodies.Decided.{decided-step, partial-whole, partial-nothing}
-use Rattle.hesc_specs.proofs.Bodies.DecidedChanges.{partial_end-place}
-use Rattle.std.proofs.lemmas.Grind.{common_steps}
-use Rattle.html_escape.specs.Held.{carry_bytes}
+use Rattle.hesc_specs.specs.Bodies.Sessions.{IsStep, decided_encoding, partial_end}
+use Rattle.hesc_specs.specs.Text.FirstPlace.{IsFirstAt}
+use Rattle.hesc_specs.specs.declared.elements.Element.{Element}
+use Rattle.hesc_specs.proofs.Bodies.Decided.{decided-step}
+use Rattle.hesc_specs.proofs.Bodies.Held.{partial-short}
 use Rattle.html_escape.specs.BodyEncoders.{held_by, kind_of}
 use Rattle.html_escape.proofs.Sessions.{pushed_more}
+use Rattle.html_escape.proofs.WholePieces.{whole-added}
 use Rattle.html_escape.proofs.body_encoder.session.BodyEncoder.add_piece.Goals as goal
 
-pub returns-then-is_partial-clause-held : goal.returns-then-is_partial-clause-held
-returns-then-is_partial-clause-held g c =
-    let kind = kind_of c.args.self.now in
-    let text : List ℕ = held_by c.args.self.now ++ c.args.piece.now in
-    let front : carry_bytes c.first_of-front.result ≡ take 9 text = rw (c.as_slice.ensures, c.as_bytes.ensures.value) at c.first_of-front.ensures in
-    let partial : is_partial kind (take 9 text) ≡ true = rw (c.as_slice-2.ensures, front) at (sym c.if-is_partial.ensures) in
-    let whole : take 9 text ≡ text = partial-front kind text partial in
-    front ∙ (whole ∙ sym (partial-whole kind text (rw whole at partial)))
+on_ok : {T E Q : Type 0} (r : Result T E) → Q → OnOk r Q
+on_ok (Ok value) holds = holds
+on_ok (Err fault) holds = tt
 
-pub returns-then-is_partial-clause-step : goal.returns-then-is_partial-clause-step
-returns-then-is_partial-clause-step g c =
-    rw (returns-then-is_partial-clause-held g c) (decided-step (kind_of c.args.self.now) (held_by c.args.self.now) c.args.piece.now)
+step_of : (element : Element) (held piece held' : List ℕ) → held' ≡ partial_end element (held ++ piece) → IsStep element held piece held' (decided_encoding element (held ++ piece))
+step_of element held piece held' is = rw is (decided-step element held piece)
 
-pub returns-then-is_partial-clause-appended : goal.returns-then-is_partial-clause-appended
-returns-then-is_partial-clause-appended g c =
-    let kind = kind_of c.args.self.now in
-    let text : List ℕ = held_by c.args.self.now ++ c.args.piece.now in
-    let front : carry_bytes c.first_of-front.result ≡ take 9 text = rw (c.as_slice.ensures, c.as_bytes.ensures.value) at c.first_of-front.ensures in
-    let partial : is_partial kind (take 9 text) ≡ true = rw (c.as_slice-2.ensures, front) at (sym c.if-is_partial.ensures) in
-    let whole : take 9 text ≡ text = partial-front kind text partial in
-    rw (partial-nothing kind text (rw whole at partial)) (sym (append-nil _))
-
-pub invariant_of-flushed-clause-ascii : goal.invariant_of-flushed-clause-ascii
-invariant_of-flushed-clause-ascii g c =
-    rw c.held_text.ensures (partial-ascii (kind_of c.args.self.now) (held_by c.args.self.now) c.args.self.now.partial)
-
-pub returns-in_err-append_parts-clause-fits : goal.returns-in_err-append_parts-clause-fits
-returns-in_err-append_parts-clause-fits g c fits =
-    let kind = kind_of c.args.self.now in
-    let held = held_by c.args.self.now in
-    let front : carry_bytes c.first_of-front.result ≡ take 9 (held ++ c.args.piece.now) = rw (c.as_slice.ensures, c.as_bytes.ensures.value) at c.first_of-front.ensures in
-    let opened = rw (c.as_slice-3.ensures, c.as_slice-4.ensures) at c.is_opened-opens.ensures in
-    let given_out = flushed-front kind held c.args.piece.now (carry_bytes c.first_of-front.result) c.is_opened-opens.result c.args.self.now.partial front
-    (rw c.as_slice-2.ensures at (sym c.if-is_partial.ensures)) opened.none opened.some in
-    absurd (cc ((rw c.held_text.ensures at c.in_err-append_parts.ensures.fits) (rw given_out.0 at fits)))
-
-pub returns-clause-appended : goal.returns-clause-appended
-returns-clause-appended g c =
-    let kind = kind_of c.args.self.now in
-    let held = held_by c.args.self.now in
-    let front : carry_bytes c.first_of-front.result ≡ take 9 (held ++ c.args.piece.now) = rw (c.as_slice.ensures, c.as_bytes.ensures.value) at c.first_of-front.ensures in
-    let opened = rw (c.as_slice-3.ensures, c.as_slice-4.ensures) at c.is_opened-opens.ensures in
-    let given_out = flushed-front kind held c.args.piece.now (carry_bytes c.first_of-front.result) c.is_opened-opens.result c.args.self.now.partial front
-    (rw c.as_slice-2.ensures at (sym c.if-is_partial.ensures)) opened.none opened.some in
-    rw given_out.0 (rw c.held_text.ensures at c.in_ok-append_parts.ensures.appended)
-
-pub returns-clause-held : goal.returns-clause-held
-returns-clause-held g c =
-    let kind = kind_of c.args.self.now in
-    let held = held_by c.args.self.now in
+pub returns-then-end-piece-clause-appended : goal.returns-then-end-piece-clause-appended
+returns-then-end-piece-clause-appended g c =
     let piece = c.args.piece.now in
-    let end = c.first_partial-end.result in
-    let front : carry_bytes c.first_of-front.result ≡ take 9 (held ++ piece) = rw (c.as_slice.ensures, c.as_bytes.ensures.value) at c.first_of-front.ensures in
-    let opened = rw (c.as_slice-3.ensures, c.as_slice-4.ensures) at c.is_opened-opens.ensures in
-    let given_out = flushed-front kind held piece (carry_bytes c.first_of-front.result) c.is_opened-opens.result c.args.self.now.partial front
-    (rw c.as_slice-2.ensures at (sym c.if-is_partial.ensures)) opened.none opened.some in
-    let first : IsFirstAt (partial_at kind piece) 0 (length piece) end = rw c.as_bytes-bytes.ensures.value at c.first_partial-end.ensures in
-    let last : carry_bytes c.first_of-self.result ≡ take 9 (drop end piece) = rw (take_rest c.as_bytes-bytes.result.now end, c.as_bytes-bytes.ensures.value) at c.first_of-self.ensures in
-    last ∙ (ap (take 9) (sym (partial_end-place kind piece end first)) ∙ (partial_end-front kind piece ∙ sym given_out.1))
+    let first : IsFirstAt (partial_at (kind_of c.args.self.now) piece) 0 (length piece) c.first_partial-end.result = rw c.as_bytes.ensures.value at c.first_partial-end.ensures in
+    let whole = whole-added (kind_of c.args.self.now) (held_by c.args.self.now) piece c.first_partial-end.result (rw c.as_slice.ensures at (sym c.is_empty.ensures ∙ c.if-is_empty.true)) first c.if-end-piece.true in
+    rw whole.0 c.append_body.ensures.appended
+
+pub returns-then-end-piece-clause-fits : goal.returns-then-end-piece-clause-fits
+returns-then-end-piece-clause-fits g c fits =
+    let piece = c.args.piece.now in
+    let first : IsFirstAt (partial_at (kind_of c.args.self.now) piece) 0 (length piece) c.first_partial-end.result = rw c.as_bytes.ensures.value at c.first_partial-end.ensures in
+    let whole = whole-added (kind_of c.args.self.now) (held_by c.args.self.now) piece c.first_partial-end.result (rw c.as_slice.ensures at (sym c.is_empty.ensures ∙ c.if-is_empty.true)) first c.if-end-piece.true in
+    c.append_body.ensures.fits (rw whole.0 at fits)
+
+pub returns-then-end-piece-clause-held : goal.returns-then-end-piece-clause-held
+returns-then-end-piece-clause-held g c =
+    let piece = c.args.piece.now in
+    let first : IsFirstAt (partial_at (kind_of c.args.self.now) piece) 0 (length piece) c.first_partial-end.result = rw c.as_bytes.ensures.value at c.first_partial-end.ensures in
+    let whole = whole-added (kind_of c.args.self.now) (held_by c.args.self.now) piece c.first_partial-end.result (rw c.as_slice.ensures at (sym c.is_empty.ensures ∙ c.if-is_empty.true)) first c.if-end-piece.true in
+    on_ok c.append_body.result (sym whole.1)
+
+pub returns-then-end-piece-clause-step : goal.returns-then-end-piece-clause-step
+returns-then-end-piece-clause-step g c =
+    on_ok_weaker c.append_body.result (step_of (kind_of c.args.self.now) (held_by c.args.self.now) c.args.piece.now _) (returns-then-end-piece-clause-held g c)
+
+pub returns-then-end-piece-clause-goes_on : goal.returns-then-end-piece-clause-goes_on
+returns-then-end-piece-clause-goes_on g c =
+    on_ok_weaker c.append_body.result (λ step element given added. pushed_more _ _ element given added _ _ refl step) (returns-then-end-piece-clause-step g c)
 
 pub returns-clause-step : goal.returns-clause-step
 returns-clause-step g c =
-    rw (returns-clause-held g c) (decided-step (kind_of c.args.self.now) (held_by c.args.self.now) c.args.piece.now)
-
-pub returns-then-is_partial-clause-goes_on : goal.returns-then-is_partial-clause-goes_on
-returns-then-is_partial-clause-goes_on g c element given added = pushed_more _ _ element given added _ _ refl (returns-then-is_partial-clause-step g c)
+    on_ok_weaker c.add_to_held.result (step_of (kind_of c.args.self.now) (held_by c.args.self.now) c.args.piece.now _) c.add_to_held.ensures.held
 
 pub returns-clause-goes_on : goal.returns-clause-goes_on
-returns-clause-goes_on g c element given added = pushed_more _ _ element given added _ _ refl (returns-clause-step g c)
-
-pub returns-then-is_partial-clause-kind : goal.returns-then-is_partial-clause-kind
-returns-then-is_partial-clause-kind g c = search rules
-
-pub invariant_of-self-2 : goal.invariant_of-self-2
-invariant_of-self-2 g c = grind (arith, common_steps)
+returns-clause-goes_on g c =
+    on_ok_weaker c.add_to_held.result (λ step element given added. pushed_more _ _ element given added _ _ c.add_to_held.ensures.kind step) (returns-clause-step g c)
 
 pub returns-clause-few : goal.returns-clause-few
-returns-clause-few g c = grind (arith, common_steps)
-
-pub returns-in_err-append_parts-clause-few : goal.returns-in_err-append_parts-clause-few
-returns-in_err-append_parts-clause-few g c = grind (arith, common_steps)
+returns-clause-few g c = partial-short _ _ c.add_to_held.new.self.partial

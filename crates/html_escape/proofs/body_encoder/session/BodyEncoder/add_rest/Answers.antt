@@ -1,9 +1,6 @@
 use Rattle.std.proofs.Common.{rules}
 use Rattle.html_escape.proofs.body_encoder.session.BodyEncoder.add_rest.Goals as goal
 
-pub returns-in_err-append_to_string-clause-fits : goal.returns-in_err-append_to_string-clause-fits
-returns-in_err-append_to_string-clause-fits g c = search rules
-
 pub returns-clause-appended : goal.returns-clause-appended
 returns-clause-appended g c = search rules
 
