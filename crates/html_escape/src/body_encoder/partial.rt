@@ -9,22 +9,24 @@ ghost use Rattle.hesc_specs.specs.Bodies.DecidedChanges.{partial_at};
 ghost use Rattle.hesc_specs.specs.Text.Words.{is_beginning_in_any_case};
 
 use hesc_core::Element;
+use hesc_core::find::first_byte;
 
 /// The most bytes that can be partial: `<`, `/` and the longer name.
 const MOST_UNDECIDED: usize = 8;
 
 /// The least place at or after `from` from which on the bytes are partial, or the length where
-/// there is none. It looks at the last bytes alone.
+/// there is none. It goes from `<` to `<` among the last bytes alone.
 pub(crate) fn first_partial(element: Element, bytes: &[u8], from: usize) -> usize
     requires { from ≤ length bytes.now }
     ensures { IsFirstAt (partial_at element bytes.now) from (length bytes.now) result }
 {
-    let mut place = from.max(bytes.len().saturating_sub(MOST_UNDECIDED));
+    let start = from.max(bytes.len().saturating_sub(MOST_UNDECIDED));
+    let mut place = first_byte(b'<', bytes, start);
     'seeking: while place < bytes.len() {
         if is_partial(element, &bytes[place..]) {
             return place;
         }
-        place += 1;
+        place = first_byte(b'<', bytes, place + 1);
     }
     place
 }
