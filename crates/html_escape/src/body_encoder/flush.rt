@@ -42,6 +42,14 @@ impl Parts for Flushed<'_> {
         put_held(self.held, self.opens, sink)?;
         run(&EncodeDecided(self.element), self.piece, sink)
     }
+
+    // An opening has four bytes at least, and gets one more. Where there is room for as many as there
+    // may be, nothing is measured.
+    #[inline(always)]
+    fn may_fit(&self, spare: usize) -> bool {
+        let most = self.piece.len() + self.piece.len() / 4;
+        self.held.len() < spare && most < spare - self.held.len()
+    }
 }
 
 fn put_held<S: Sink>(held: &str, opens: bool, sink: &mut S) -> Result<(), S::Fault>
