@@ -4,7 +4,8 @@
 The names and their code points come from Python's html.entities. They are written twice: as the
 constant of the program and as the definition that its contract speaks of. The prover compares
 the two, and shows that the rows make a table. A third file says where the characters of each row lie
-in the constant's block, which the prover computes.
+in the constant's block, which the prover computes. Two more are the indexes of the names of these
+rows and of the built-in ones, by which a name is found: see the crate hesc_table, src/index.rt.
 
 With --by-character, it reads rows `NAME CODE..` from standard input and writes them as the list of
 a test. The list that is checked in is PHP's, which goes from characters to names:
@@ -15,6 +16,7 @@ a test. The list that is checked in is PHP's, which goes from characters to name
 """
 import html.entities
 import pathlib
+import re
 import sys
 
 CRATES = pathlib.Path(__file__).resolve().parent.parent / "crates"
@@ -99,6 +101,80 @@ def places(named):
     ]
 
 
+def built_in_names():
+    """The names of the built-in table, in order, as bytes."""
+    source = (CRATES / "hesc_table/src/entities.rt").read_text(encoding="utf-8")
+    return [name.encode() for name in re.findall(r'^    \(b"(\w+)", ', source, re.MULTILINE)]
+
+
+def hash_of(name):
+    """The hash of a name as src/index.rt of the crate hesc_table computes it."""
+    count = 8 if len(name) >= 8 else 4 if len(name) >= 4 else 2
+    first = int.from_bytes(name[:count], "little")
+    last = int.from_bytes(name[-count:], "little")
+    turned = last << 23 | last >> 41
+    return (first + turned + len(name)) * 0x9E3779B97F4A7C15 % 2**64
+
+
+def place(count, number):
+    return (number % 2**64 >> 48) & (count - 1)
+
+
+def index_of(names, seed_count, slot_count):
+    """Seeds by which each name has a slot of its own, and the row in each slot: the groups with
+    most names are placed first, each by the first seed that leads to free slots."""
+    groups = [[] for _ in range(seed_count)]
+    for row, name in enumerate(names):
+        groups[place(seed_count, hash_of(name))].append((hash_of(name), row))
+    seeds, slots = [0] * seed_count, {}
+    for group in sorted(range(seed_count), key=lambda group: -len(groups[group])):
+        for seed in range(2**16):
+            placed = {place(slot_count, number * seed): row for number, row in groups[group]}
+            if len(placed) == len(groups[group]) and not placed.keys() & slots.keys():
+                break
+        else:
+            sys.exit(f"no seed places the group {group}")
+        seeds[group] = seed
+        slots.update(placed)
+    return seeds, [slots.get(slot, 0) for slot in range(slot_count)]
+
+
+def found(index, name):
+    seeds, slots = index
+    number = hash_of(name)
+    return slots[place(len(slots), number * seeds[place(len(seeds), number)])]
+
+
+def filled(items):
+    lines, line = [], "   "
+    for item in items:
+        if len(line) + len(item) + 2 > 99:
+            lines.append(line)
+            line = "   "
+        line += f" {item},"
+    return [*lines, line]
+
+
+def index(names, seed_count, slot_count):
+    made = index_of(names, seed_count, slot_count)
+    for row, name in enumerate(names):
+        if found(made, name) != row:
+            sys.exit(f"the index does not find {name.decode()}")
+    seeds, slots = made
+    return [
+        "//! The index of the names of this crate's rows.",
+        f"//! {BY}",
+        "",
+        f"pub(crate) static SEEDS: [u16; {len(seeds)}] = [",
+        *filled([str(seed) for seed in seeds]),
+        "];",
+        "",
+        f"pub(crate) static SLOTS: [u16; {len(slots)}] = [",
+        *filled([str(slot) for slot in slots]),
+        "];",
+    ]
+
+
 def by_character(text):
     named = [(line.split()[0], [int(it) for it in line.split()[1:]]) for line in text.splitlines()]
     named.sort(key=lambda row: (row[1], row[0]))
@@ -133,3 +209,5 @@ if __name__ == "__main__":
         write("html_entities/src/rows.rt", constant(rows()))
         write("html_entities/specs/NamedReferences.antt", definition(rows()))
         write("html_entities/proofs/RowPlaces.antt", places(rows()))
+        write("html_entities/src/index.rt", index([name.encode() for name, _ in rows()], 512, 4096))
+        write("hesc_table/src/index/built_in.rt", index(built_in_names(), 32, 128))

@@ -16,4 +16,5 @@ pub use hesc_scan::{find, openings, scan};
 pub use hesc_specs::{Class, Element, Quotes, TableFault};
 pub use hesc_table as table;
 pub use hesc_table::entities::NAMED_ENTITIES;
+pub use hesc_table::index::NameIndex;
 pub use hesc_table::{EntityTable, entities};

@@ -58,13 +58,17 @@ module _ (rows : List Row) (good : is_table rows ≡ true) (name : List ℕ) whe
       nat_list_cmp_total.antisymm (row_at rows k).0 name ∙ ap ordering_reverse on)
       (cases_eq k middle)
 
-  -- it has the name
+  -- a row has the name
+  pub found_at : (i : ℕ) → i < length rows → bytes_eq (row_at rows i).0 name ≡ true → value_of rows name ≡ Some (row_at rows i).1
+  found_at i within here =
+      let same : (row_at rows i).0 ≡ name = (bytes_eq-Decides (row_at rows i).0 name).0 here in
+      value_here rows i name within
+      (λ k below. other_name rows k name Less (rw same at (ascending rows good k i below within)) refl) here
+
+  -- the row in the middle has it
   pub found_in_middle : (middle : ℕ) → middle < length rows → slice_cmp nat_cmp (row_at rows middle).0 name ≡ Equal → value_of rows name ≡ Some (row_at rows middle).1
   found_in_middle middle within equal =
-      let here : bytes_eq (row_at rows middle).0 name ≡ true = sym (is_eq-slice_cmp (row_at rows middle).0 name) ∙ ap is_eq equal in
-      let same : (row_at rows middle).0 ≡ name = (bytes_eq-Decides (row_at rows middle).0 name).0 here in
-      value_here rows middle name within
-      (λ k below. other_name rows k name Less (rw same at (ascending rows good k middle below within)) refl) here
+      found_at middle within (sym (is_eq-slice_cmp (row_at rows middle).0 name) ∙ ap is_eq equal)
 
   -- no row has the name
   pub nowhere : (low high : ℕ) → high ≤ low → Below rows name low → Above rows name high → value_of rows name ≡ None

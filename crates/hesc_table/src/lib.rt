@@ -10,10 +10,13 @@ ghost use Rattle.hesc_table.specs.Rows.{are_near, rows_in};
 
 pub mod entities;
 pub mod growth;
+pub mod index;
 mod row_faults;
 
 use crate::entities::NAMED_ENTITIES;
 use crate::growth::{Growth, growth_of};
+use crate::index::NameIndex;
+use crate::index::built_in::{SEEDS, SLOTS};
 use crate::row_faults::{COMMON_ENTITIES, fault_of_row, first_value};
 use hesc_specs::TableFault;
 use std::cmp::Ordering;
@@ -27,6 +30,7 @@ static BUILT_IN: [(&[u8], &str); 77] = NAMED_ENTITIES;
 pub struct EntityTable<'a> {
     rows: &'a [(&'a [u8], &'a str)],
     growth: Growth,
+    index: NameIndex<'a>,
     ghost good: { IsTrue (is_table (rows_in rows.now)) },
     ghost grows: { IsTrue (grow_by growth (rows_in rows.now)) },
 }
@@ -44,6 +48,7 @@ impl EntityTable<'static> {
         EntityTable {
             rows: &BUILT_IN,
             growth: Growth::Never,
+            index: NameIndex::of(&SEEDS, &SLOTS),
         }
     }
 }
@@ -72,8 +77,12 @@ impl<'a> EntityTable<'a> {
                 return Err(TableFault::MissingCommon(k));
             }
         }
-        let growth = growth_of(rows);
-        Ok(EntityTable { rows, growth })
+        let table = EntityTable {
+            rows,
+            growth: growth_of(rows),
+            index: NameIndex::none(),
+        };
+        Ok(table)
     }
 
     /// The table of rows that are shown to have no fault: nothing is checked when this is called.
@@ -87,15 +96,29 @@ impl<'a> EntityTable<'a> {
         EntityTable {
             rows,
             growth: Growth::Unknown,
+            index: NameIndex::none(),
         }
     }
 
     /// The same of rows whose values are also shown to be at most a fifth longer than their
     /// references, as all of HTML's are: decoding then asks for its room without counting first.
     ///
+    /// Of the six names that every table has, `get(b"nbsp")` is `Some("\u{A0}")`, and `get(b"copy")` is
+    /// `None`.
+    pub fn of_near(rows: &'a [(&'a [u8], &'a str)]) -> EntityTable<'a>
+        requires table { IsTrue (is_table (rows_in rows.now)) }
+        requires near { IsTrue (are_near (rows_in rows.now)) }
+        ensures { rows_of result ≡ rows_in rows.now }
+    {
+        EntityTable::of_near_indexed(rows, NameIndex::none())
+    }
+
+    /// The same with an index of the rows' names, by which a name is found at the first row that is
+    /// looked at. Nothing is asked of the index: a wrong one costs time alone.
+    ///
     /// `html_entities()` of the crate `html_entities` is made so: its `get(b"hearts")` is
     /// `Some("\u{2665}")`.
-    pub fn of_near(rows: &'a [(&'a [u8], &'a str)]) -> EntityTable<'a>
+    pub fn of_near_indexed(rows: &'a [(&'a [u8], &'a str)], index: NameIndex<'a>) -> EntityTable<'a>
         requires table { IsTrue (is_table (rows_in rows.now)) }
         requires near { IsTrue (are_near (rows_in rows.now)) }
         ensures { rows_of result ≡ rows_in rows.now }
@@ -103,13 +126,27 @@ impl<'a> EntityTable<'a> {
         EntityTable {
             rows,
             growth: Growth::AtMostAFifth,
+            index,
         }
     }
 
-    /// The value of exactly this name, found by halving the rows.
+    /// The value of exactly this name, found by the index of the names or else by halving the rows.
     ///
     /// Of the built-in table, `get(b"amp")` is `Some("&")`, and `get(b"copy")` is `None`.
     pub fn get(&self, name: &[u8]) -> Option<&'a str>
+        ensures { option_map (λ value. value.now) result ≡ value_of (rows_of self.now) name.now }
+    {
+        if let Some(candidate) = self.index.candidate(name)
+            && candidate < self.rows.len()
+            && self.rows[candidate].0 == name
+        {
+            return Some(self.rows[candidate].1);
+        }
+        self.get_by_halving(name)
+    }
+
+    // The value of exactly this name, found by halving the rows.
+    fn get_by_halving(&self, name: &[u8]) -> Option<&'a str>
         ensures { option_map (λ value. value.now) result ≡ value_of (rows_of self.now) name.now }
     {
         let mut low = 0;

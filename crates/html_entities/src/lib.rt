@@ -10,10 +10,12 @@ ghost use Rattle.hesc_table.specs.NamedRows.{named_rows};
 ghost use Rattle.hesc_table.specs.Table.{rows_of};
 ghost use Rattle.html_entities.specs.NamedReferences.{named_references};
 
+mod index;
 mod rows;
 
+use crate::index::{SEEDS, SLOTS};
 pub use crate::rows::ROWS;
-use html_escape::EntityTable;
+use html_escape::{EntityTable, NameIndex};
 
 /// The table of [`ROWS`]. It is total: the rows are shown to make a table when this crate is
 /// proved, and no row is checked when a program runs.
@@ -22,7 +24,7 @@ use html_escape::EntityTable;
 pub fn html_entities() -> EntityTable<'static>
     ensures { rows_of result ≡ named_references }
 {
-    EntityTable::of_near(all_rows())
+    EntityTable::of_near_indexed(all_rows(), NameIndex::of(&SEEDS, &SLOTS))
 }
 
 // The checker follows the references of a constant one by one, and stops at 2,048 of them: so the

@@ -31,6 +31,7 @@ pub use hesc_core::Element as BodyKind;
 pub use hesc_core::EntityTable;
 pub use hesc_core::Found;
 pub use hesc_core::NAMED_ENTITIES;
+pub use hesc_core::NameIndex;
 pub use hesc_core::Piece;
 pub use hesc_core::Pieces;
 pub use hesc_core::Quotes;

@@ -59,6 +59,17 @@ static TEXTS: [(&str, &str); 5] = [
 ];
 
 #[test]
+fn each_name_has_its_value_and_others_have_none(rt: HostRuntime) {
+    let table = html_entities();
+    for (name, value) in table.rows() {
+        assert!(rt; table.get(name) == Some(*value));
+    }
+    for name in [b"".as_slice(), b"h", b"heart", b"hearts;", b"zwnk"] {
+        assert!(rt; table.get(name).is_none());
+    }
+}
+
+#[test]
 fn texts_are_decoded(rt: HostRuntime) -> Result<(), Fail> {
     let table = html_entities();
     for &(text, wanted) in &TEXTS {

@@ -1,5 +1,5 @@
 //! Tables of entities: each name has its value, and rows make a table or have their first fault.
-use html_escape::{EntityTable, TableFault};
+use html_escape::{EntityTable, NameIndex, TableFault};
 use std::process::Abort;
 use std::test::Fail;
 
@@ -88,4 +88,17 @@ fn each_common_name_is_missed(rt: HostRuntime) -> Result<(), Fail> {
         assert!(rt; fault == Some(TableFault::MissingCommon(missing)));
     }
     Ok(())
+}
+
+#[test]
+fn rows_are_found_by_any_index(rt: HostRuntime) {
+    let table = EntityTable::of_near(&COMMON);
+    assert!(rt; table.get(b"nbsp") == Some("\u{A0}"));
+    assert!(rt; table.get(b"copy").is_none());
+    for index in [NameIndex::none(), NameIndex::of(&[1], &[3])] {
+        let table = EntityTable::of_near_indexed(&COMMON, index);
+        for (name, value) in &COMMON {
+            assert!(rt; table.get(name) == Some(*value));
+        }
+    }
 }

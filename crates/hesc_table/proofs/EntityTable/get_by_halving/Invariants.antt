@@ -1,7 +1,7 @@
 use Rattle.std.proofs.Common.{◌≤◌, ◌-◌, length}
 use Rattle.hesc_table.specs.Table.{rows_of}
 use Rattle.hesc_table.proofs.Halving.{Below, Above}
-use Rattle.hesc_table.proofs.EntityTable.get.Given as goal
+use Rattle.hesc_table.proofs.EntityTable.get_by_halving.Given as goal
 
 -- the rows that are not looked at any more are of lower and of higher names
 abbrev pub invariant-halving : goal.invariant-halving

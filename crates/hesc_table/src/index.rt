@@ -1,0 +1,99 @@
+//! An index from names to the rows that may have them.
+ghost use Rattle.std.specs.Prelude.{◌≡◌, ◌<◌, [], Contains, IfSome, length};
+ghost use Rattle.hesc_table.specs.Index.{seeds_of, slots_of};
+
+pub(crate) mod built_in;
+
+/// 2^64 divided by the golden ratio, which scatters the numbers that it multiplies.
+const SCATTER: u64 = 0x9E37_79B9_7F4A_7C15;
+
+/// For each name the one row that may have it: a table with an index looks at this row before it
+/// halves its rows.
+///
+/// It is made beforehand, by hash and displace (Belazzougui, Botelho, Dietzfelbinger: Hash, displace,
+/// and compress, 2009): the hash of a name chooses a seed, and the seed puts the names that choose it
+/// into slots of their own. Nothing is asked of an index, since the row's name is compared: a wrong one
+/// costs time alone.
+#[derive(Clone, Copy)]
+pub struct NameIndex<'a> {
+    seeds: &'a [u16],
+    slots: &'a [u16],
+}
+
+impl<'a> NameIndex<'a> {
+    /// The index of these seeds, and of the numbers of rows in these slots. Names are spread over all
+    /// of them where either count is a power of two; `tools/named_references.py` finds the seeds.
+    ///
+    /// By `NameIndex::of(&[1], &[3])` each name is looked for in the fourth row first, and a table has
+    /// the values that it has without it.
+    pub const fn of(seeds: &'a [u16], slots: &'a [u16]) -> NameIndex<'a>
+        ensures seeds { seeds_of result ≡ seeds.now }
+        ensures slots { slots_of result ≡ slots.now }
+    {
+        NameIndex { seeds, slots }
+    }
+
+    /// The index of no names.
+    ///
+    /// A table by it finds each name by halving its rows.
+    pub const fn none() -> NameIndex<'static>
+        ensures { slots_of result ≡ [] }
+    {
+        NameIndex {
+            seeds: &[],
+            slots: &[],
+        }
+    }
+
+    /// The row that may have a name: a name of fewer than two bytes has none.
+    #[inline(always)]
+    pub(crate) fn candidate(&self, name: &[u8]) -> Option<usize>
+        ensures { IfSome result (λ row. Contains (slots_of self.now) row) }
+    {
+        if self.seeds.is_empty() || self.slots.is_empty() {
+            return None;
+        }
+        let hash = hash_of(name)?;
+        let seed = place(self.seeds, hash);
+        Some(place(self.slots, hash.wrapping_mul(seed as u64)) as usize)
+    }
+}
+
+// The entry that a hash falls on.
+#[inline(always)]
+fn place(entries: &[u16], hash: u64) -> u16
+    requires { 0 < length entries.now }
+    ensures { Contains entries.now result }
+{
+    entries[(hash >> 48) as usize & (entries.len() - 1)]
+}
+
+// A number of the first and the last bytes of a name and of its length, which tell apart all names of
+// HTML. A name of one byte has none.
+#[inline(always)]
+fn hash_of(name: &[u8]) -> Option<u64> {
+    let (first, last) = ends(name)?;
+    let ends = first.wrapping_add(last.rotate_left(23));
+    Some(ends.wrapping_add(name.len() as u64).wrapping_mul(SCATTER))
+}
+
+// The first and the last eight bytes, or four, or two, which may overlap.
+#[inline(always)]
+fn ends(name: &[u8]) -> Option<(u64, u64)> {
+    if let (Some(first), Some(last)) = (name.first_chunk::<8>(), name.last_chunk::<8>()) {
+        return Some((u64::from_le_bytes(*first), u64::from_le_bytes(*last)));
+    }
+    if let (Some(first), Some(last)) = (name.first_chunk::<4>(), name.last_chunk::<4>()) {
+        return Some((
+            u32::from_le_bytes(*first) as u64,
+            u32::from_le_bytes(*last) as u64,
+        ));
+    }
+    if let (Some(first), Some(last)) = (name.first_chunk::<2>(), name.last_chunk::<2>()) {
+        return Some((
+            u16::from_le_bytes(*first) as u64,
+            u16::from_le_bytes(*last) as u64,
+        ));
+    }
+    None
+}
