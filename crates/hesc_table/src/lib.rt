@@ -2,7 +2,9 @@
 #![tactic(auto)]
 
 ghost use Rattle.std.specs.Prelude.{◌≡◌, IsTrue};
+ghost use Rattle.std.specs.Cmp.Lexicographic.{slice_cmp};
 ghost use Rattle.std.specs.Option.{option_map};
+ghost use Rattle.std.specs.Ordering.{nat_cmp};
 ghost use Rattle.hesc_specs.specs.References.Rows.{value_of};
 ghost use Rattle.hesc_specs.specs.References.TableFaults.{is_table};
 ghost use Rattle.hesc_table.specs.Growth.{grow_by};
@@ -153,7 +155,7 @@ impl<'a> EntityTable<'a> {
         let mut high = self.rows.len();
         'halving: while low < high {
             let middle = low + (high - low) / 2;
-            match self.rows[middle].0.cmp(name) {
+            match compare_names(self.rows[middle].0, name) {
                 Ordering::Less => low = middle + 1,
                 Ordering::Greater => high = middle,
                 Ordering::Equal => return Some(self.rows[middle].1),
@@ -178,5 +180,16 @@ impl<'a> EntityTable<'a> {
         ensures { rows_in result.now ≡ rows_of self.now }
     {
         self.rows
+    }
+}
+
+// The order of two names, most of which differ in their first bytes.
+#[inline(always)]
+fn compare_names(name: &[u8], other: &[u8]) -> Ordering
+    ensures { result ≡ slice_cmp nat_cmp name.now other.now }
+{
+    match (name, other) {
+        ([first, ..], [second, ..]) if first != second => first.cmp(second),
+        _ => name.cmp(other),
     }
 }
