@@ -1,3 +1,4 @@
+mod Candidates
 mod Halving
 pub mod NamedTable
 pub mod NearRows

@@ -1,6 +1,6 @@
 //! An index from names to the rows that may have them.
-ghost use Rattle.std.specs.Prelude.{◌≡◌, ◌<◌, [], Contains, IfSome, length};
-ghost use Rattle.hesc_table.specs.Index.{seeds_of, slots_of};
+ghost use Rattle.std.specs.Prelude.{◌≡◌, ◌<◌, [], length};
+ghost use Rattle.hesc_table.specs.Index.{candidate_of, ends_of, hash_of, place_of, seeds_of, slots_of};
 
 pub(crate) mod built_in;
 
@@ -13,7 +13,8 @@ const SCATTER: u64 = 0x9E37_79B9_7F4A_7C15;
 /// It is made beforehand, by hash and displace (Belazzougui, Botelho, Dietzfelbinger: Hash, displace,
 /// and compress, 2009): the hash of a name chooses a seed, and the seed puts the names that choose it
 /// into slots of their own. Nothing is asked of an index, since the row's name is compared: a wrong one
-/// costs time alone.
+/// costs time alone. That of the built-in table is shown to give each name its row, so a name that it
+/// gives another row is in none.
 #[derive(Clone, Copy)]
 pub struct NameIndex<'a> {
     seeds: &'a [u16],
@@ -48,7 +49,7 @@ impl<'a> NameIndex<'a> {
     /// The row that may have a name: a name of fewer than two bytes has none.
     #[inline(always)]
     pub(crate) fn candidate(&self, name: &[u8]) -> Option<usize>
-        ensures { IfSome result (λ row. Contains (slots_of self.now) row) }
+        ensures { result ≡ candidate_of (seeds_of self.now) (slots_of self.now) name.now }
     {
         if self.seeds.is_empty() || self.slots.is_empty() {
             return None;
@@ -63,7 +64,7 @@ impl<'a> NameIndex<'a> {
 #[inline(always)]
 fn place(entries: &[u16], hash: u64) -> u16
     requires { 0 < length entries.now }
-    ensures { Contains entries.now result }
+    ensures { result ≡ place_of entries.now hash }
 {
     entries[(hash >> 48) as usize & (entries.len() - 1)]
 }
@@ -71,7 +72,9 @@ fn place(entries: &[u16], hash: u64) -> u16
 // A number of the first and the last bytes of a name and of its length, which tell apart all names of
 // HTML. A name of one byte has none.
 #[inline(always)]
-fn hash_of(name: &[u8]) -> Option<u64> {
+fn hash_of(name: &[u8]) -> Option<u64>
+    ensures { result ≡ hash_of name.now }
+{
     let (first, last) = ends(name)?;
     let ends = first.wrapping_add(last.rotate_left(23));
     Some(ends.wrapping_add(name.len() as u64).wrapping_mul(SCATTER))
@@ -79,7 +82,9 @@ fn hash_of(name: &[u8]) -> Option<u64> {
 
 // The first and the last eight bytes, or four, or two, which may overlap.
 #[inline(always)]
-fn ends(name: &[u8]) -> Option<(u64, u64)> {
+fn ends(name: &[u8]) -> Option<(u64, u64)>
+    ensures { result ≡ ends_of name.now }
+{
     if let (Some(first), Some(last)) = (name.first_chunk::<8>(), name.last_chunk::<8>()) {
         return Some((u64::from_le_bytes(*first), u64::from_le_bytes(*last)));
     }

@@ -1,13 +1,14 @@
 //! Tables of entities: which rows make one, and the value of a name.
 #![tactic(auto)]
 
-ghost use Rattle.std.specs.Prelude.{◌≡◌, IsTrue};
+ghost use Rattle.std.specs.Prelude.{◌≡◌, ◌||◌, IsTrue, not};
 ghost use Rattle.std.specs.Cmp.Lexicographic.{slice_cmp};
 ghost use Rattle.std.specs.Option.{option_map};
 ghost use Rattle.std.specs.Ordering.{nat_cmp};
 ghost use Rattle.hesc_specs.specs.References.Rows.{value_of};
 ghost use Rattle.hesc_specs.specs.References.TableFaults.{is_table};
 ghost use Rattle.hesc_table.specs.Growth.{grow_by};
+ghost use Rattle.hesc_table.specs.Index.{are_candidates};
 ghost use Rattle.hesc_table.specs.Rows.{are_near, rows_in};
 
 pub mod entities;
@@ -33,8 +34,11 @@ pub struct EntityTable<'a> {
     rows: &'a [(&'a [u8], &'a str)],
     growth: Growth,
     index: NameIndex<'a>,
+    // Whether the index gives each name its row: a name that it gives another row is then in none.
+    is_complete: bool,
     ghost good: { IsTrue (is_table (rows_in rows.now)) },
     ghost grows: { IsTrue (grow_by growth (rows_in rows.now)) },
+    ghost complete: { IsTrue (not is_complete || are_candidates index.seeds.now index.slots.now 0 (rows_in rows.now)) },
 }
 
 impl EntityTable<'static> {
@@ -51,12 +55,13 @@ impl EntityTable<'static> {
             rows: &BUILT_IN,
             growth: Growth::Never,
             index: NameIndex::of(&SEEDS, &SLOTS),
+            is_complete: true,
         }
     }
 }
 
 impl<'a> EntityTable<'a> {
-    ghost use Rattle.std.specs.Prelude.{IfOk};
+    ghost use Rattle.std.specs.Prelude.{IfOk, IfSome, IsNone, None, Some};
     ghost use Rattle.std.specs.Result.{result_err};
     ghost use Rattle.hesc_specs.specs.References.TableFaults.{first_fault};
     ghost use Rattle.hesc_table.specs.Table.{rows_of};
@@ -83,6 +88,7 @@ impl<'a> EntityTable<'a> {
             rows,
             growth: growth_of(rows),
             index: NameIndex::none(),
+            is_complete: false,
         };
         Ok(table)
     }
@@ -99,6 +105,7 @@ impl<'a> EntityTable<'a> {
             rows,
             growth: Growth::Unknown,
             index: NameIndex::none(),
+            is_complete: false,
         }
     }
 
@@ -129,6 +136,7 @@ impl<'a> EntityTable<'a> {
             rows,
             growth: Growth::AtMostAFifth,
             index,
+            is_complete: false,
         }
     }
 
@@ -138,13 +146,27 @@ impl<'a> EntityTable<'a> {
     pub fn get(&self, name: &[u8]) -> Option<&'a str>
         ensures { option_map (λ value. value.now) result ≡ value_of (rows_of self.now) name.now }
     {
-        if let Some(candidate) = self.index.candidate(name)
-            && candidate < self.rows.len()
-            && self.rows[candidate].0 == name
-        {
+        match self.get_by_index(name) {
+            Some(value) => Some(value),
+            None if self.is_complete => None,
+            None => self.get_by_halving(name),
+        }
+    }
+
+    // The value of exactly this name, if the index gives its row.
+    #[inline(always)]
+    fn get_by_index(&self, name: &[u8]) -> Option<&'a str>
+        ensures found { IfSome result (λ value. value_of (rows_of self.now) name.now ≡ Some value.now) }
+        ensures missed { IsNone result → IsTrue self.now.is_complete → value_of (rows_of self.now) name.now ≡ None }
+    {
+        let candidate = self.index.candidate(name)?;
+        if candidate >= self.rows.len() {
+            return None;
+        }
+        if self.rows[candidate].0 == name {
             return Some(self.rows[candidate].1);
         }
-        self.get_by_halving(name)
+        None
     }
 
     // The value of exactly this name, found by halving the rows.

@@ -14,6 +14,7 @@ pub invariant_of-result : goal.invariant_of-result
 invariant_of-result c = record {
   good = subst (λ rows. IsTrue (is_table rows)) (sym constant-named_rows) good-named_rows;
   grows = subst (λ rows. IsTrue (are_short rows)) (sym constant-named_rows) short-named_rows;
+  complete = rw (c.of.ensures.seeds, c.of.ensures.slots) refl;
 }
 
 pub returns : goal.returns
