@@ -33,7 +33,8 @@ pub(crate) fn is_space(byte: u8) -> bool
     matches!(byte, b'\t' | b'\n' | b'\x0c' | b' ' | b'\r')
 }
 
-fn content_phase(content: Content) -> Phase
+/// Where the content of an element begins.
+pub(crate) fn content_phase(content: Content) -> Phase
     ensures { (word : List ℕ) → state_of result word ≡ content_state content }
 {
     match content {
@@ -57,12 +58,12 @@ fn in_tag(blank: Move, content: Content, byte: u8, other: Move) -> Move
         → moved blank word ≡ at state content → moved other word ≡ t.next
         → moved result word ≡ (in_tag state content byte t).next }
 {
-    if is_space(byte) {
+    if byte == b'>' {
+        opened(content)
+    } else if is_space(byte) {
         blank
     } else if byte == b'/' {
         to(Phase::SelfClosing, content)
-    } else if byte == b'>' {
-        opened(content)
     } else {
         other
     }
@@ -105,7 +106,7 @@ pub(crate) fn end_tag_open_byte(content: Content, byte: u8) -> Move
 fn ends_name(byte: u8) -> bool
     ensures { result ≡ ends_name byte }
 {
-    is_space(byte) || byte == b'/' || byte == b'>'
+    byte == b'>' || is_space(byte) || byte == b'/'
 }
 
 /// In the name of a start tag.
@@ -134,10 +135,10 @@ pub(crate) fn tag_name_byte(content: Content, name: &[u8], byte: u8) -> Move
 pub(crate) fn end_tag_byte(byte: u8) -> Move
     ensures { (word : List ℕ) → moved result word ≡ (end_tag_byte byte).next }
 {
-    if is_space(byte) {
-        to(Phase::AfterEndTagName, Content::Normal)
-    } else if byte == b'>' {
+    if byte == b'>' {
         to(Phase::In(SlotPlace::Text), Content::Normal)
+    } else if is_space(byte) {
+        to(Phase::AfterEndTagName, Content::Normal)
     } else {
         refuses()
     }
