@@ -1,12 +1,13 @@
 //! Where the name of a tag or an attribute begins, and how it goes on.
 ghost use Rattle.std.specs.Prelude.{◌≡◌, ◌≤◌, ◌++◌, ◌∷◌, [], ℕ, List, length, take, IfSome, IsTrue};
-ghost use Rattle.html_tokenizer.specs.Tokenizer.Phases.{state_of};
+ghost use Rattle.html_tokenizer.specs.Tokenizer.Phases.{moved, state_of};
 ghost use Rattle.html_tokenizer.specs.Tokenizer.States.{at};
 ghost use Rattle.html_tokenizer.specs.Tokenizer.Tokenization.{consume, state_after};
 ghost use Rattle.html_tokenizer.specs.declared.states.Content.{Content};
 
 use crate::slot_place::SlotPlace;
-use crate::states::{Content, Phase};
+use crate::states::{Content, Move, Phase};
+use crate::tags::{attribute_name_byte, end_tag_name_byte, tag_name_byte};
 
 /// Whether the byte is one more of a name as it stands, in a state that holds a name.
 #[inline(always)]
@@ -59,6 +60,21 @@ pub(crate) fn begun_name(phase: Phase, content: Content, byte: u8) -> Option<Pha
         (Phase::TagOpen, b'a'..=b'z') if content == Content::Normal => Some(Phase::TagName),
         (Phase::EndTagOpen, b'a'..=b'z') => Some(Phase::EndTagName),
         (Phase::BeforeName, b'a'..=b'z') => Some(Phase::Name),
+        _ => None,
+    }
+}
+
+/// Where the tokenizer goes at a byte in a state that holds a name.
+#[inline(always)]
+#[tactic(auto, unfolding(crate::specs::Tokenizer::Tokenization::consume))]
+pub(crate) fn name_byte(phase: Phase, content: Content, name: &[u8], byte: u8) -> Option<Move>
+    ensures { IfSome result (λ next. moved next name.now
+        ≡ (consume (at (state_of phase name.now) content) byte).next) }
+{
+    match phase {
+        Phase::TagName => Some(tag_name_byte(content, name, byte)),
+        Phase::EndTagName => Some(end_tag_name_byte(content, name, byte)),
+        Phase::Name => Some(attribute_name_byte(content, name, byte)),
         _ => None,
     }
 }

@@ -1,5 +1,5 @@
 //! The running tokenizer.
-ghost use Rattle.std.specs.Prelude.{◌≡◌, ◌≤◌, ◌++◌, ◌∷◌, [], ◌↔◌, OnOk, IfOk, IsTrue, length, take};
+ghost use Rattle.std.specs.Prelude.{◌≡◌, ◌≤◌, ◌<◌, ◌++◌, ◌∷◌, [], ◌↔◌, OnOk, IfOk, IsTrue, length, take};
 ghost use Rattle.html_tokenizer.specs.Standing.{AfterStanding, is_refused, may_end, standing};
 ghost use Rattle.html_tokenizer.specs.Tokenizer.CodeStrings.{script_escape_byte};
 ghost use Rattle.html_tokenizer.specs.Tokenizer.Names.{reference_read};
@@ -8,12 +8,14 @@ ghost use Rattle.html_tokenizer.specs.Tokenizer.States.{data_state};
 ghost use Rattle.html_tokenizer.specs.Tokenizer.Tokenization.{consume, state_after};
 ghost use Rattle.html_tokenizer.specs.declared.states.Kind.TheVariants as kind;
 
+use crate::attributes::content_after;
 use crate::consume::byte_in;
-use crate::names::{before_name, begun_name, lengthens_name};
+use crate::names::{before_name, begun_name, lengthens_name, name_byte};
 use crate::slot_place::SlotPlace;
 use crate::states::{Content, Kind, Move, Phase, Word};
 use crate::stretches::{has_stretches, stretch};
 use crate::strings::script_escape_byte;
+use crate::tags::content_phase;
 use std::alloc::{AllocError, Allocator};
 
 /// Where a slot stands.
@@ -51,6 +53,7 @@ impl<A: Allocator> Reader<A> {
         }
     }
 
+    #[inline(always)]
     fn go(&mut self, next: Move) -> Result<(), AllocError>
         ensures { OnOk result (tokenizer_of self.new ≡ moved next self.old.word.items) }
     {
@@ -102,6 +105,7 @@ impl<A: Allocator> Reader<A> {
         ensures within { IfOk result (λ count. count ≤ length bytes.now) }
         ensures read { IfOk result (λ count. tokenizer_of self.new
             ≡ state_after (tokenizer_of self.old) (take count bytes.now)) }
+        ensures kind { IfOk result (λ count. self.new.kind ≡ kind.Ordinary) }
     {
         let phase = self.phase;
         let mut count = 0;
@@ -112,9 +116,58 @@ impl<A: Allocator> Reader<A> {
         Ok(count)
     }
 
-    // Reads over the beginning of a name and over its letters, if one begins, and answers how many
+    // Reads over the byte that follows the letters of a name, if one is read, and answers how many
     // bytes.
     #[inline(always)]
+    fn end_name(&mut self, bytes: &[u8]) -> Result<usize, AllocError>
+        requires { self.old.kind ≡ kind.Ordinary }
+        ensures within { IfOk result (λ count. count ≤ length bytes.now) }
+        ensures read { IfOk result (λ count. tokenizer_of self.new
+            ≡ state_after (tokenizer_of self.old) (take count bytes.now)) }
+    {
+        if bytes.is_empty() {
+            return Ok(0);
+        }
+        let Some(next) = name_byte(self.phase, self.content, &self.word, bytes[0]) else {
+            return Ok(0);
+        };
+        self.go(next)?;
+        Ok(1)
+    }
+
+    // Reads over the quote mark that opens a value, if one stands there, and answers how many bytes.
+    #[inline(always)]
+    fn open_value(&mut self, bytes: &[u8]) -> usize
+        ensures within { result ≤ length bytes.now }
+        ensures read { tokenizer_of self.new
+            ≡ state_after (tokenizer_of self.old) (take result bytes.now) }
+    {
+        match self.phase {
+            Phase::BeforeValue if !bytes.is_empty() && bytes[0] == b'"' => {
+                self.phase = Phase::In(SlotPlace::DoubleQuoted);
+                1
+            }
+            _ => 0,
+        }
+    }
+
+    // Reads on in a name, if one is read, over its end and over the quote mark of its value, and
+    // answers how many bytes.
+    #[inline(always)]
+    fn read_name(&mut self, bytes: &[u8]) -> Result<usize, AllocError>
+        requires { self.old.kind ≡ kind.Ordinary }
+        ensures within { IfOk result (λ count. count ≤ length bytes.now) }
+        ensures read { IfOk result (λ count. tokenizer_of self.new
+            ≡ state_after (tokenizer_of self.old) (take count bytes.now)) }
+    {
+        let letters = self.name_bytes(bytes)?;
+        let ended = letters + self.end_name(&bytes[letters..])?;
+        Ok(ended + self.open_value(&bytes[ended..]))
+    }
+
+    // Reads over the beginning of a name and over the name, if one begins, and answers how many
+    // bytes.
+    #[inline(never)]
     fn begin_name(&mut self, bytes: &[u8]) -> Result<usize, AllocError>
         requires { self.old.kind ≡ kind.Ordinary }
         ensures within { IfOk result (λ count. count ≤ length bytes.now) }
@@ -133,30 +186,98 @@ impl<A: Allocator> Reader<A> {
         self.word.push(bytes[count])?;
         self.phase = phase;
         let begun = count + 1;
-        let more = self.name_bytes(&bytes[begun..])?;
+        let more = self.read_name(&bytes[begun..])?;
         Ok(begun + more)
     }
 
-    // Reads over the first bytes that lead to no other state, or only into a name, and answers how
-    // many.
+    // Reads over the quote mark that ends a value, if one stands there, and answers how many bytes.
     #[inline(always)]
-    fn pass(&mut self, bytes: &[u8]) -> Result<usize, AllocError>
+    fn close_value(&mut self, bytes: &[u8]) -> usize
+        ensures within { result ≤ length bytes.now }
+        ensures read { tokenizer_of self.new
+            ≡ state_after (tokenizer_of self.old) (take result bytes.now) }
+    {
+        match self.phase {
+            Phase::In(SlotPlace::DoubleQuoted) if !bytes.is_empty() && bytes[0] == b'"' => {
+                self.phase = Phase::AfterValue;
+                self.content = content_after(self.content, self.kind, &self.word);
+                self.kind = Kind::Ordinary;
+                1
+            }
+            _ => 0,
+        }
+    }
+
+    // Reads over the `>` after a value, if one stands there, and answers how many bytes.
+    #[inline(always)]
+    fn close_tag(&mut self, bytes: &[u8]) -> usize
+        requires { self.old.kind ≡ kind.Ordinary }
+        ensures within { result ≤ length bytes.now }
+        ensures read { tokenizer_of self.new
+            ≡ state_after (tokenizer_of self.old) (take result bytes.now) }
+        ensures kind { self.new.kind ≡ kind.Ordinary }
+    {
+        match self.phase {
+            Phase::AfterValue if !bytes.is_empty() && bytes[0] == b'>' => {
+                self.phase = content_phase(self.content);
+                1
+            }
+            _ => 0,
+        }
+    }
+
+    // Reads on in text and through the name that follows, and answers how many bytes.
+    #[inline(always)]
+    fn read_text(&mut self, bytes: &[u8]) -> Result<usize, AllocError>
+        requires { self.old.kind ≡ kind.Ordinary }
         ensures within { IfOk result (λ count. count ≤ length bytes.now) }
         ensures read { IfOk result (λ count. tokenizer_of self.new
             ≡ state_after (tokenizer_of self.old) (take count bytes.now)) }
     {
-        match (self.phase, self.kind) {
-            (Phase::TagName | Phase::EndTagName | Phase::Name, Kind::Ordinary) => {
-                self.name_bytes(bytes)
+        let count = stretch(self.phase, self.content, self.kind, bytes);
+        let more = self.begin_name(&bytes[count..])?;
+        Ok(count + more)
+    }
+
+    // Reads on in a value, over its end, and over the end of its tag or through the name that follows,
+    // and answers how many bytes.
+    #[inline(always)]
+    fn read_value(&mut self, bytes: &[u8]) -> Result<usize, AllocError>
+        ensures within { IfOk result (λ count. count ≤ length bytes.now) }
+        ensures read { IfOk result (λ count. tokenizer_of self.new
+            ≡ state_after (tokenizer_of self.old) (take count bytes.now)) }
+    {
+        let inside = stretch(self.phase, self.content, self.kind, bytes);
+        let closed = inside + self.close_value(&bytes[inside..]);
+        match self.kind {
+            Kind::Ordinary => {
+                let ended = closed + self.close_tag(&bytes[closed..]);
+                let more = self.begin_name(&bytes[ended..])?;
+                Ok(ended + more)
             }
-            (Phase::In(SlotPlace::Text), Kind::Ordinary) => {
-                let count = stretch(self.phase, self.content, self.kind, bytes);
-                let more = self.begin_name(&bytes[count..])?;
-                Ok(count + more)
-            }
-            (Phase::BeforeName | Phase::AfterValue, Kind::Ordinary) => self.begin_name(bytes),
-            _ => Ok(stretch(self.phase, self.content, self.kind, bytes)),
+            _ => Ok(closed),
         }
+    }
+
+    // Reads over the first bytes that lead to no other state, or only through a name or a value.
+    // Answers how many, and whether more such bytes may follow.
+    #[inline(always)]
+    fn pass(&mut self, bytes: &[u8]) -> Result<(usize, bool), AllocError>
+        ensures within { IfOk result (λ passed. passed.0 ≤ length bytes.now) }
+        ensures read { IfOk result (λ passed. tokenizer_of self.new
+            ≡ state_after (tokenizer_of self.old) (take passed.0 bytes.now)) }
+        ensures more { IfOk result (λ passed. IsTrue passed.1 → 0 < passed.0) }
+    {
+        let count = match (self.phase, self.kind) {
+            (Phase::TagName | Phase::EndTagName | Phase::Name, Kind::Ordinary) => {
+                self.read_name(bytes)?
+            }
+            (Phase::In(SlotPlace::Text), Kind::Ordinary) => self.read_text(bytes)?,
+            (Phase::BeforeName | Phase::AfterValue, Kind::Ordinary) => self.begin_name(bytes)?,
+            (Phase::In(SlotPlace::DoubleQuoted), _) => self.read_value(bytes)?,
+            _ => return Ok((stretch(self.phase, self.content, self.kind, bytes), false)),
+        };
+        Ok((count, count != 0))
     }
 
     /// Reads on.
@@ -169,7 +290,11 @@ impl<A: Allocator> Reader<A> {
         let mut done = 0;
         'bytes: while done < bytes.len() {
             if has_stretches(self.phase) {
-                done += self.pass(&bytes[done..])?;
+                let (count, more) = self.pass(&bytes[done..])?;
+                done += count;
+                if more {
+                    continue 'bytes;
+                }
                 if done == bytes.len() {
                     return Ok(());
                 }

@@ -17,4 +17,4 @@ returns-clause-read g c =
     rw c.requires (sym (c.before_name-phase.ensures.read self.content self.word.items)) in
     let begun : named ≡ state_after start (take (place + 1) bytes) =
     reads_longer start opened named bytes place (omega (arith, c.before_name-phase.ensures.within, c.if-count-bytes.false)) before (c.in-Some.ensures self.word.items) in
-    reads_more start named (tokenizer_of c.name_bytes.new.self) bytes (place + 1) c.in_ok-more.more begun (rw (c.requires, c.in_ok-push.ensures.items, c.clear.ensures.items) at c.in_ok-more.ensures.read)
+    reads_more start named (tokenizer_of c.read_name.new.self) bytes (place + 1) c.in_ok-more.more begun (rw (c.requires, c.in_ok-push.ensures.items, c.clear.ensures.items) at c.in_ok-more.ensures.read)
