@@ -1,34 +1,20 @@
 //! Texts that are bound to names.
 ghost use Rattle.std.specs.Prelude.{◌≡◌, IfOk, IfSome, Some, map};
-ghost use Rattle.std.specs.Option.{option_map, option_or};
+ghost use Rattle.std.specs.Option.{option_or};
 ghost use Rattle.std.specs.Result.{result_err};
 ghost use Rattle.html_template.specs.Templates.{texts_of};
 ghost use Rattle.html_template_source.specs.Bindings.{
   AnswersBind,
   binding_fault,
   bindings_of,
-  bound,
   is_among,
   missing_fault,
   text_of,
 };
 
 use crate::faults::BindFault;
-use crate::matching::match_names;
+use crate::matching::{find, match_names};
 use std::alloc::Allocator;
-
-fn bound<'b>(bindings: &[(&'b str, &'b str)], name: &str) -> Option<&'b str>
-    ensures { option_map (λ text. text.now) result ≡ bound (bindings_of bindings.now) name.now }
-{
-    let mut rest = bindings;
-    'bindings: while let [(other, text), others @ ..] = rest {
-        if *other == name {
-            return Some(*text);
-        }
-        rest = others;
-    }
-    None
-}
 
 fn is_slot(name: &str, names: &[&str]) -> bool
     ensures { result ≡ is_among name.now (texts_of names.now) }
@@ -90,7 +76,7 @@ fn texts_for<'b, A: Allocator>(
     let mut texts = Vec::new(alloc);
     let mut rest = names;
     'names: while let [name, others @ ..] = rest {
-        let Some(text) = bound(bindings, *name) else {
+        let Some((_, text)) = find(bindings, *name) else {
             return Err(BindFault::Missing(names.len() - rest.len()));
         };
         let Ok(()) = texts.push(text) else {
@@ -113,7 +99,7 @@ fn early_fault(names: &[&str], bindings: &[(&str, &str)]) -> Option<BindFault>
     let [name, ..] = names else {
         return None;
     };
-    match bound(bindings, *name) {
+    match find(bindings, *name) {
         Some(_) => None,
         None => Some(BindFault::Missing(0)),
     }

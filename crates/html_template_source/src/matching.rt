@@ -13,8 +13,8 @@ const MOST: usize = 64;
 // For so many names, at most: a fault of the first binding is not told after a pass over a long list.
 const MOST_NAMES: usize = 256;
 
-// The first binding of this name: its place and its text.
-fn find<'b>(bindings: &[(&'b str, &'b str)], name: &str) -> Option<(usize, &'b str)>
+/// The first binding of this name: its place and its text.
+pub(crate) fn find<'b>(bindings: &[(&'b str, &'b str)], name: &str) -> Option<(usize, &'b str)>
     ensures within { IfSome result (λ f. f.0 < length bindings.now) }
     ensures place { option_map (λ f. f.0) result
         ≡ place_from 0 (bindings_of bindings.now) name.now }

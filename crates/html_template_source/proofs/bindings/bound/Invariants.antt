@@ -1,9 +1,0 @@
-use Rattle.std.proofs.Common.{◌≡◌, length}
-use Rattle.html_template_source.specs.Bindings.{bindings_of, bound}
-use Rattle.html_template_source.proofs.bindings.bound.Given as goal
-
-abbrev pub invariant-bindings : goal.invariant-bindings
-invariant-bindings l = bound (bindings_of l.rest) l.name ≡ bound (bindings_of l.bindings) l.name
-
-abbrev pub decreases-bindings : goal.decreases-bindings
-decreases-bindings l = length l.rest
