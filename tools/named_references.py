@@ -112,8 +112,8 @@ def hash_of(name):
     count = 8 if len(name) >= 8 else 4 if len(name) >= 4 else 2
     first = int.from_bytes(name[:count], "little")
     last = int.from_bytes(name[-count:], "little")
-    turned = last << 23 | last >> 41
-    return (first + turned + len(name)) * 0x9E3779B97F4A7C15 % 2**64
+    scatter = 0x9E3779B97F4A7C15
+    return (first + last * scatter + len(name)) * scatter % 2**64
 
 
 def place(count, number):

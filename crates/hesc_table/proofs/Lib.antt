@@ -1,4 +1,5 @@
 mod Candidates
 mod Halving
+mod NamesOfRows
 pub mod NamedTable
 pub mod NearRows

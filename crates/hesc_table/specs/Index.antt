@@ -1,6 +1,6 @@
 -- What an index of names holds, and the row that it gives for a name.
 use Rattle.std.specs.Prelude.{ℕ, suc, ◌+◌, ◌-◌, ◌*◌, ◌/◌, ◌%◌, ◌^◌, Bool, true, false, ◌&&◌, ◌||◌, ◌==◌, List, [], ◌∷◌, Option, Some, None, length, take, drop, nat_le, slice_index, if◌then◌else◌}
-use Rattle.std.specs.Int.{w16, w32, w64, from_le_bytes, rotate_left}
+use Rattle.std.specs.Int.{w16, w32, w64, from_le_bytes}
 use Rattle.std.specs.Int.Bits.{bit_and}
 use Rattle.std.specs.Option.{option_map}
 use Rattle.hesc_specs.specs.References.Rows.{Row}
@@ -25,7 +25,7 @@ ends_of name =
 -- the hash of a name: of its ends and its length, scattered by 2^64 over the golden ratio
 abbrev pub hash_of : List ℕ → Option ℕ
 hash_of name =
-    option_map (λ ends. (((ends.0 + rotate_left w64 ends.1 23) % 2 ^ 64 + length name) % 2 ^ 64 * 0x9E3779B97F4A7C15) % 2 ^ 64) (ends_of name)
+    option_map (λ ends. (((ends.0 + (ends.1 * 0x9E3779B97F4A7C15) % 2 ^ 64) % 2 ^ 64 + length name) % 2 ^ 64 * 0x9E3779B97F4A7C15) % 2 ^ 64) (ends_of name)
 
 -- the entry that a hash falls on
 abbrev pub place_of : List ℕ → ℕ → ℕ

@@ -46,6 +46,12 @@ impl<'a> NameIndex<'a> {
         }
     }
 
+    /// Whether it gives a row for any name.
+    #[inline(always)]
+    pub(crate) fn is_empty(&self) -> bool {
+        self.slots.is_empty()
+    }
+
     /// The row that may have a name: a name of fewer than two bytes has none.
     #[inline(always)]
     pub(crate) fn candidate(&self, name: &[u8]) -> Option<usize>
@@ -76,7 +82,7 @@ fn hash_of(name: &[u8]) -> Option<u64>
     ensures { result ≡ hash_of name.now }
 {
     let (first, last) = ends(name)?;
-    let ends = first.wrapping_add(last.rotate_left(23));
+    let ends = first.wrapping_add(last.wrapping_mul(SCATTER));
     Some(ends.wrapping_add(name.len() as u64).wrapping_mul(SCATTER))
 }
 

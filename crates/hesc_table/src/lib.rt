@@ -1,11 +1,11 @@
 //! Tables of entities: which rows make one, and the value of a name.
 #![tactic(auto)]
 
-ghost use Rattle.std.specs.Prelude.{◌≡◌, ◌||◌, IsTrue, not};
+ghost use Rattle.std.specs.Prelude.{◌≡◌, ◌||◌, List, None, IsFalse, IsTrue, not};
 ghost use Rattle.std.specs.Cmp.Lexicographic.{slice_cmp};
 ghost use Rattle.std.specs.Option.{option_map};
 ghost use Rattle.std.specs.Ordering.{nat_cmp};
-ghost use Rattle.hesc_specs.specs.References.Rows.{value_of};
+ghost use Rattle.hesc_specs.specs.References.Rows.{Row, value_of};
 ghost use Rattle.hesc_specs.specs.References.TableFaults.{is_table};
 ghost use Rattle.hesc_table.specs.Growth.{grow_by};
 ghost use Rattle.hesc_table.specs.Index.{are_candidates};
@@ -20,7 +20,7 @@ use crate::entities::NAMED_ENTITIES;
 use crate::growth::{Growth, growth_of};
 use crate::index::NameIndex;
 use crate::index::built_in::{SEEDS, SLOTS};
-use crate::row_faults::{COMMON_ENTITIES, fault_of_row, first_value};
+use crate::row_faults::{COMMON_ENTITIES, fault_of_row, first_value, is_alphanumeric};
 use hesc_specs::TableFault;
 use std::cmp::Ordering;
 
@@ -149,6 +149,8 @@ impl<'a> EntityTable<'a> {
         match self.get_by_index(name) {
             Some(value) => Some(value),
             None if self.is_complete => None,
+            // What an index misses is mostly no name.
+            None if !self.index.is_empty() && !may_be_name(name) => None,
             None => self.get_by_halving(name),
         }
     }
@@ -203,6 +205,16 @@ impl<'a> EntityTable<'a> {
     {
         self.rows
     }
+}
+
+// Whether the first bytes, eight at most, may be those of a name. What stands between a bare `&` and
+// the next `;` mostly has a space or a mark among them.
+#[inline(always)]
+fn may_be_name(name: &[u8]) -> bool
+    ensures { IsFalse result → (rows : List Row) → IsTrue (is_table rows) → value_of rows name.now ≡ None }
+{
+    let front = &name[..name.len().min(8)];
+    !front.is_empty() && is_alphanumeric(front)
 }
 
 // The order of two names, most of which differ in their first bytes.

@@ -40,18 +40,19 @@ pub fn fault_of_row(rows: &[(&[u8], &str)], i: usize) -> Option<TableFault>
     first_of(i, name.is_empty(), is_bad, is_unordered(rows, i), is_wrong)
 }
 
+/// Whether each byte is an ASCII letter or digit.
+pub fn is_alphanumeric(name: &[u8]) -> bool
+    ensures { result ≡ is_alphanumeric name.now }
+{
+    name.iter().all(u8::is_ascii_alphanumeric)
+}
+
 // Whether the name of a row is not above that of the row before it.
 fn is_unordered(rows: &[(&[u8], &str)], i: usize) -> bool
     requires { i < length rows.now }
     ensures { result ≡ nat_le 1 i && not (is_ascending (rows_in rows.now) i) }
 {
     i > 0 && !rows[i - 1].0.cmp(rows[i].0).is_lt()
-}
-
-fn is_alphanumeric(name: &[u8]) -> bool
-    ensures { result ≡ is_alphanumeric name.now }
-{
-    name.iter().all(u8::is_ascii_alphanumeric)
 }
 
 // Whether the name is a common one, and has another value.
