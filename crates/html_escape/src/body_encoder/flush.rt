@@ -4,10 +4,14 @@ ghost use Rattle.std.specs.Str.{IsAscii};
 ghost use Rattle.hesc_specs.specs.Bodies.Openings.{is_opening};
 ghost use Rattle.hesc_specs.specs.Bodies.Sessions.{is_partial, flushed, decided_encoding};
 
+use crate::body_encoder::carry::MOST_BYTES;
 use crate::body_encoder::decided::EncodeDecided;
 use hesc_core::forms::Parts;
 use hesc_core::openings::first_opening;
 use hesc_core::{Element, Sink, run};
+
+/// The longest text that is made on the stack.
+const SHORT: usize = 384;
 
 /// Whether an opening begins with what is held, which the first bytes of it and of what follows
 /// decide.
@@ -43,12 +47,27 @@ impl Parts for Flushed<'_> {
         run(&EncodeDecided(self.element), self.piece, sink)
     }
 
-    // An opening has four bytes at least, and gets one more. Where there is room for as many as there
-    // may be, nothing is measured.
+    // Where there is room for what any piece of this length may add, nothing is measured.
     #[inline(always)]
     fn may_fit(&self, spare: usize) -> bool {
+        let most = self.most();
+        most > SHORT && most <= spare
+    }
+
+    #[inline(always)]
+    fn short_bound(&self) -> Option<usize> {
+        let most = self.most();
+        if most <= SHORT { Some(most) } else { None }
+    }
+}
+
+impl Flushed<'_> {
+    // An upper bound of the length, computed without a scan of the piece: an opening has four bytes at
+    // least, and gets one more.
+    #[inline(always)]
+    fn most(&self) -> usize {
         let most = self.piece.len() + self.piece.len() / 4;
-        self.held.len() < spare && most < spare - self.held.len()
+        most.saturating_add(MOST_BYTES)
     }
 }
 
