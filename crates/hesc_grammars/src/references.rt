@@ -37,7 +37,8 @@ pub fn reference(bytes: &[u8]) -> Step
     }
 }
 
-// What a `&` before the bytes begins, by a search for its `;`.
+// What a `&` before the bytes begins, by a search for its `;`. Not inlined, since most references are
+// told without it.
 #[inline(never)]
 fn searched_reference(bytes: &[u8]) -> Step
     ensures { result ≡ reference bytes.now }

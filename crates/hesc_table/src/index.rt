@@ -23,7 +23,8 @@ pub struct NameIndex<'a> {
 
 impl<'a> NameIndex<'a> {
     /// The index of these seeds, and of the numbers of rows in these slots. Names are spread over all
-    /// of them where either count is a power of two; `tools/named_references.py` finds the seeds.
+    /// of them where both counts are powers of two, 65,536 at most. `index_of` in
+    /// `tools/named_references.py` makes both from names.
     ///
     /// By `NameIndex::of(&[1], &[3])` each name is looked for in the fourth row first, and a table has
     /// the values that it has without it.
@@ -36,7 +37,8 @@ impl<'a> NameIndex<'a> {
 
     /// The index of no names.
     ///
-    /// A table by it finds each name by halving its rows.
+    /// By it a table finds each name by halving its rows: of the six names that every table has,
+    /// `get(b"nbsp")` is `Some("\u{A0}")`.
     pub const fn none() -> NameIndex<'static>
         ensures { slots_of result ≡ [] }
     {

@@ -1,4 +1,4 @@
-//! Where the name of a tag or an attribute begins, and how it goes on.
+//! Where the name of a tag or an attribute begins, how it goes on, and where its end leads.
 ghost use Rattle.std.specs.Prelude.{◌≡◌, ◌≤◌, ◌++◌, ◌∷◌, [], ℕ, List, length, take, IfSome, IsTrue};
 ghost use Rattle.html_tokenizer.specs.Tokenizer.Phases.{moved, state_of};
 ghost use Rattle.html_tokenizer.specs.Tokenizer.States.{at};

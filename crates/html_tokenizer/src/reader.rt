@@ -166,7 +166,7 @@ impl<A: Allocator> Reader<A> {
     }
 
     // Reads over the beginning of a name and over the name, if one begins, and answers how many
-    // bytes.
+    // bytes. Not inlined, since three kinds of passes end in it.
     #[inline(never)]
     fn begin_name(&mut self, bytes: &[u8]) -> Result<usize, AllocError>
         requires { self.old.kind ≡ kind.Ordinary }

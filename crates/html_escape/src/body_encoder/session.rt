@@ -185,7 +185,7 @@ impl BodyEncoder {
         self.add_to_held(piece, end, output)
     }
 
-    // The same, where the piece is partial from `end` on.
+    // The same, where the piece is partial from `end` on, its length where it has no partial end.
     fn add_to_held<A: Allocator>(
         &mut self,
         piece: &str,
