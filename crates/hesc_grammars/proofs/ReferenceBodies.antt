@@ -1,16 +1,10 @@
 -- A reference is read by its body, which goes up to the first `;`.
-use Rattle.std.proofs.Common.{ℕ, zero, suc, ◌≡◌, ◌<◌, ◌≤◌, ◌+◌, Bool, true, false, not, ◌&&◌, List, [], ◌∷◌, ◌++◌, ◌==◌, Some, None, length, refl, ap, ◌∙◌, arith, zero-add, add-zero}
-use Rattle.std.specs.Char.{is_digit}
+use Rattle.std.proofs.Common.{ℕ, ◌≡◌, ◌+◌, Bool, true, false, not, List, [], ◌∷◌, ◌++◌, ◌==◌, Some, length, refl, ap, arith, zero-add, add-zero}
 use Rattle.std.specs.List.{list_all, position_from}
-use Rattle.std.specs.Prelude.{slice_index}
 use Rattle.std.proofs.Math.Seq.{take-append_seam}
 use Rattle.std.proofs.lemmas.Bool.{and_parts}
-use Rattle.std.proofs.lemmas.Bool.Decides.{nat_tests}
 use Rattle.hesc_specs.specs.Text.Ascii.{semicolon}
-use Rattle.hesc_specs.specs.Text.FirstPlace.{IsFirstPlace}
-use Rattle.hesc_grammars.specs.declared.step.Mode.TheVariants.{Plain}
-use Rattle.hesc_grammars.specs.declared.step.Step.TheVariants.{Character}
-use Rattle.hesc_grammars.specs.References.{reference, body_character, character_or_nothing, digits_character}
+use Rattle.hesc_grammars.specs.References.{reference, body_character, character_or_nothing}
 
 -- no byte is a `;`
 abbrev pub HasNoSemicolon : List ℕ → Type 0
@@ -34,48 +28,3 @@ pub reference-body : (body rest : List ℕ) → HasNoSemicolon body →
     reference (body ++ semicolon ∷ rest) ≡ character_or_nothing (length body + 1) (body_character body)
 reference-body body rest none =
     rw (position_from-body body rest 0 none, zero-add (length body), take-append_seam body (semicolon ∷ rest)) refl
-
--- what has a character is made of digits, and no digit is a `;`
-digits_only : (digits : List ℕ) (character : ℕ) → digits_character 16 digits ≡ Some character → list_all (λ d. is_digit d 16) digits ≡ true
-digits_only digits character is = grind arith
-
-digit_goes_on : (d : ℕ) → is_digit d 16 ≡ true → (d == semicolon) ≡ false
-digit_goes_on d is = grind (arith, nat_tests)
-
--- the number of a character of one byte, in two digits
-pub reference-two_digits : (bytes : List ℕ) (character : ℕ) → 5 ≤ length bytes →
-    slice_index bytes 0 ≡ 35 → slice_index bytes 1 ≡ 120 → slice_index bytes 4 ≡ semicolon →
-    digits_character 16 (slice_index bytes 2 ∷ slice_index bytes 3 ∷ []) ≡ Some character →
-    reference bytes ≡ Character 5 character Plain
-reference-two_digits (a ∷ b ∷ high ∷ low ∷ e ∷ rest) character long number hex ends is =
-    let digits = digits_only (high ∷ low ∷ []) character is in
-    let first = and_parts (is_digit high 16) (is_digit low 16 && true) digits in
-    let second = and_parts (is_digit low 16) true first.1 in
-    rw (number, hex, ends, digit_goes_on high first.0, digit_goes_on low second.0) (rw is refl)
-reference-two_digits bytes character long number hex ends is = absurd (omega arith)
-
--- the first place of a byte that passes a test, as a position counted from the front
-found_from : (test : ℕ → Bool) (i : ℕ) (bytes : List ℕ) (n : ℕ) → n < length bytes →
-    ((k : ℕ) → k < n → test (slice_index bytes k) ≡ false) → test (slice_index bytes n) ≡ true →
-    position_from test i bytes ≡ Some (i + n)
-found_from test i [] n within before found = absurd (omega arith)
-found_from test i (b ∷ bytes) zero within before found = rw (found, add-zero i) refl
-found_from test i (b ∷ bytes) (suc n) within before found =
-    rw (before 0 (omega arith))
-    (found_from test (i + 1) bytes n (omega arith) (λ k below. before (suc k) (omega arith)) found ∙ ap Some (omega arith))
-
-absent_from : (test : ℕ → Bool) (i : ℕ) (bytes : List ℕ) →
-    ((k : ℕ) → k < length bytes → test (slice_index bytes k) ≡ false) → position_from test i bytes ≡ None
-absent_from test i [] before = refl
-absent_from test i (b ∷ bytes) before =
-    rw (before 0 (omega arith)) (absent_from test (i + 1) bytes (λ k below. before (suc k) (omega arith)))
-
-pub found_first : (test : ℕ → Bool) (bytes : List ℕ) (place : ℕ) → IsFirstPlace test bytes 0 place → place < length bytes →
-    position_from test 0 bytes ≡ Some place
-found_first test bytes place first within =
-    found_from test 0 bytes place within (λ k below. first.before k (omega arith) below) (first.found within) ∙ ap Some (omega arith)
-
-pub absent_first : (test : ℕ → Bool) (bytes : List ℕ) (place : ℕ) → IsFirstPlace test bytes 0 place → place ≡ length bytes →
-    position_from test 0 bytes ≡ None
-absent_first test bytes place first is_end =
-    absent_from test 0 bytes (λ k below. first.before k (omega arith) (omega arith))

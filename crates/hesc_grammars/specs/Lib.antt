@@ -1,5 +1,6 @@
 pub mod Words
 pub mod References
+pub mod NumberedReferences
 pub mod Html
 pub mod ScriptStrings
 pub mod StyleStrings

@@ -1,5 +1,5 @@
 //! Character references, as a reader takes them: six names, and numbers.
-ghost use Rattle.std.specs.Prelude.{◌≡◌, ◌≤◌, ◌<◌, ◌+◌, ◌*◌, Option, if◌then◌else◌, Some, None};
+ghost use Rattle.std.specs.Prelude.{◌≡◌, ◌≤◌, ◌<◌, ◌+◌, ◌*◌, Option, if◌then◌else◌, Some, None, length};
 ghost use Rattle.std.specs.Str.Parse.{digits_value};
 ghost use Rattle.hesc_specs.specs.References.Numbers.{base_of, capped};
 ghost use Rattle.hesc_grammars.specs.References.{
@@ -10,9 +10,12 @@ ghost use Rattle.hesc_grammars.specs.References.{
   numbered_character,
   reference,
 };
+ghost use Rattle.hesc_grammars.specs.NumberedReferences.{numbered_reference};
+ghost use Rattle.hesc_grammars.specs.declared.step.Mode.TheVariants.{Plain};
+ghost use Rattle.hesc_grammars.specs.declared.step.Step.TheVariants.{Character, Nothing};
+ghost use Rattle.hesc_specs.specs.Text.Words.{begins};
 
 use crate::step::{Mode, Step};
-use hesc_scan::find::first_byte;
 
 /// The number right after that of the last character, for which any greater one stands.
 const PAST_CHARACTERS: u32 = 0x110000;
@@ -23,34 +26,61 @@ const PAST_CHARACTERS: u32 = 0x110000;
 pub fn reference(bytes: &[u8]) -> Step
     ensures { result ≡ reference bytes.now }
 {
-    // What the encoders write most is told by its bytes, and the end is not searched for.
-    match bytes {
-        [b'l', b't', b';', ..] => Step::Character(3, '<', Mode::Plain),
-        [b'g', b't', b';', ..] => Step::Character(3, '>', Mode::Plain),
-        [b'a', b'm', b'p', b';', ..] => Step::Character(4, '&', Mode::Plain),
-        [b'q', b'u', b'o', b't', b';', ..] => Step::Character(5, '"', Mode::Plain),
-        [b'#', b'x', high, low, b';', ..] => match digits_character(true, &[*high, *low]) {
-            Some(character) => Step::Character(5, character, Mode::Plain),
-            None => searched_reference(bytes),
+    // A reference is read in one pass, with no search for its `;`.
+    let Some((first, rest)) = bytes.split_first() else {
+        return Step::Nothing;
+    };
+    match *first {
+        b'l' => named_reference('<', b"t;", rest),
+        b'g' => named_reference('>', b"t;", rest),
+        b'a' if rest.starts_with(b"mp;") => Step::Character(4, '&', Mode::Plain),
+        b'a' => named_reference('\'', b"pos;", rest),
+        b'q' => named_reference('"', b"uot;", rest),
+        b'n' => named_reference('\u{a0}', b"bsp;", rest),
+        b'#' => match rest {
+            [b'x' | b'X', digits @ ..] => numbered_reference(true, 2, digits),
+            _ => numbered_reference(false, 1, rest),
         },
-        _ => searched_reference(bytes),
+        _ => Step::Nothing,
     }
 }
 
-// What a `&` before the bytes begins, by a search for its `;`. Not inlined, since most references are
-// told without it.
-#[inline(never)]
-fn searched_reference(bytes: &[u8]) -> Step
-    ensures { result ≡ reference bytes.now }
+// What a `&` and the first byte of a name begin before the bytes, where the word is the rest of the name
+// and its `;`.
+#[inline(always)]
+fn named_reference(character: char, word: &[u8], bytes: &[u8]) -> Step
+    requires { length word.now ≤ 4 }
+    ensures { result ≡ if begins word.now bytes.now
+        then Character (length word.now + 1) character Plain else Nothing }
 {
-    let count = first_byte(b';', bytes, 0);
-    if count == bytes.len() {
-        return Step::Nothing;
+    if bytes.starts_with(word) {
+        Step::Character(word.len() + 1, character, Mode::Plain)
+    } else {
+        Step::Nothing
     }
-    match body_character(&bytes[..count]) {
-        Some(character) => Step::Character(count + 1, character, Mode::Plain),
-        None => Step::Nothing,
+}
+
+// What a `&` and the marks of a base begin before the bytes: `#`, or `#x` for hex. The digits are added up
+// as they are met, and the first other byte has to be the `;`.
+#[inline(always)]
+fn numbered_reference(is_hex: bool, mark_count: usize, bytes: &[u8]) -> Step
+    requires { mark_count ≤ 2 }
+    ensures { result ≡ numbered_reference (base_of is_hex) mark_count bytes.now }
+{
+    let mut number = 0;
+    for (count, byte) in bytes.iter().enumerate() {
+        let Some(digit) = (*byte as char).to_digit(base(is_hex)) else {
+            if *byte != b';' || count == 0 {
+                return Step::Nothing;
+            }
+            return match numbered_character(number) {
+                Some(character) => Step::Character(mark_count + count + 1, character, Mode::Plain),
+                None => Step::Nothing,
+            };
+        };
+        number = with_digit(is_hex, number, digit);
     }
+    Step::Nothing
 }
 
 /// The character of a reference's body, which stands between its `&` and its `;`.
