@@ -287,6 +287,10 @@ impl<A: Allocator> Reader<A> {
         ensures { OnOk result (tokenizer_of self.new
             ≡ state_after (tokenizer_of self.old) bytes.now) }
     {
+        // The search for a stretch of one byte costs more than a step.
+        if let [byte] = bytes {
+            return self.step(*byte);
+        }
         let mut done = 0;
         'bytes: while done < bytes.len() {
             if has_stretches(self.phase) {

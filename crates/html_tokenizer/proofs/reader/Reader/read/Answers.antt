@@ -29,7 +29,7 @@ bytes-preserved g c =
     ] in
     record {
       within = omega arith;
-      read = reads_longer (tokenizer_of c.args.self.now) (tokenizer_of join.self) (tokenizer_of c.step.new.self) c.args.bytes.now join.done
+      read = reads_longer (tokenizer_of c.args.self.now) (tokenizer_of join.self) (tokenizer_of c.step-in-bytes.new.self) c.args.bytes.now join.done
           within passed (sym c.in_ok-step.ensures);
     }
 
