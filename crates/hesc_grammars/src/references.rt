@@ -1,5 +1,6 @@
 //! Character references, as a reader takes them: six names, and numbers.
-ghost use Rattle.std.specs.Prelude.{◌≡◌, ◌≤◌, ◌<◌, ◌+◌, ◌*◌, Option, if◌then◌else◌, Some, None, length};
+ghost use Rattle.std.specs.Prelude.{◌≡◌, ◌≤◌, ◌<◌, ◌+◌, ◌*◌, Option, if◌then◌else◌, Some, None, length, ◌∷◌};
+ghost use Rattle.std.specs.Char.{digit_value, is_digit};
 ghost use Rattle.std.specs.Str.Parse.{digits_value};
 ghost use Rattle.hesc_specs.specs.References.Numbers.{base_of, capped};
 ghost use Rattle.hesc_grammars.specs.References.{
@@ -37,10 +38,7 @@ pub fn reference(bytes: &[u8]) -> Step
         b'a' => named_reference('\'', b"pos;", rest),
         b'q' => named_reference('"', b"uot;", rest),
         b'n' => named_reference('\u{a0}', b"bsp;", rest),
-        b'#' => match rest {
-            [b'x' | b'X', digits @ ..] => numbered_reference(true, 2, digits),
-            _ => numbered_reference(false, 1, rest),
-        },
+        b'#' => number_reference(rest),
         _ => Step::Nothing,
     }
 }
@@ -60,6 +58,23 @@ fn named_reference(character: char, word: &[u8], bytes: &[u8]) -> Step
     }
 }
 
+// What `&#` before the bytes begins.
+#[inline(always)]
+fn number_reference(bytes: &[u8]) -> Step
+    ensures { result ≡ reference (35 ∷ bytes.now) }
+{
+    // What the encoders write has two digits.
+    if let [b'x', high, low, b';', ..] = bytes
+        && let Some(character) = digits_character(true, &[*high, *low])
+    {
+        return Step::Character(5, character, Mode::Plain);
+    }
+    match bytes {
+        [b'x' | b'X', digits @ ..] => numbered_reference(true, 2, digits),
+        _ => numbered_reference(false, 1, bytes),
+    }
+}
+
 // What a `&` and the marks of a base begin before the bytes: `#`, or `#x` for hex. The digits are added up
 // as they are met, and the first other byte has to be the `;`.
 #[inline(always)]
@@ -69,7 +84,7 @@ fn numbered_reference(is_hex: bool, mark_count: usize, bytes: &[u8]) -> Step
 {
     let mut number = 0;
     for (count, byte) in bytes.iter().enumerate() {
-        let Some(digit) = (*byte as char).to_digit(base(is_hex)) else {
+        let Some(digit) = digit_of(is_hex, *byte) else {
             if *byte != b';' || count == 0 {
                 return Step::Nothing;
             }
@@ -132,6 +147,20 @@ fn digits_number(is_hex: bool, digits: &[u8]) -> Option<u32>
         number = with_digit(is_hex, number, value);
     }
     Some(number)
+}
+
+// The value of a digit.
+#[inline(always)]
+fn digit_of(is_hex: bool, byte: u8) -> Option<u32>
+    ensures { result ≡ if is_digit byte (base_of is_hex) then Some (digit_value byte) else None }
+{
+    let value = match byte {
+        b'0'..=b'9' => byte - b'0',
+        b'a'..=b'f' if is_hex => byte - b'a' + 10,
+        b'A'..=b'F' if is_hex => byte - b'A' + 10,
+        _ => return None,
+    };
+    Some(value as u32)
 }
 
 // The number that a number's digits and one more digit write.

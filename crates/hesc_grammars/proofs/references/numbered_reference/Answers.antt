@@ -3,7 +3,7 @@ use Rattle.std.proofs.lemmas.Bool.Decides.{nat_tests}
 use Rattle.std.proofs.lemmas.Grind.{common_steps}
 use Rattle.std.proofs.lemmas.Int.Digits.{digits_value_more}
 use Rattle.std.proofs.lemmas.List.{take_all}
-use Rattle.std.specs.Char.{is_digit}
+use Rattle.std.specs.Char.{digit_value, is_digit}
 use Rattle.std.specs.List.{list_all}
 use Rattle.std.specs.Str.Parse.{digits_value}
 use Rattle.hesc_specs.specs.References.Numbers.{base_of}
@@ -52,11 +52,14 @@ returns-in-None c =
 pub loop-count-preserved : goal.loop-count-preserved
 loop-count-preserved c =
     let base = base_of c.args.is_hex in
+    let byte = slice_index c.args.bytes.now c.loop-count.count in
     let more = digits_value_more base c.args.bytes.now c.loop-count.count c.loop-count-test.true in
     let held = capped-digit c.args.is_hex (digits_value base (take c.loop-count.count c.args.bytes.now)) c.in-Some.digit in
+    let value : c.in-Some.digit ≡ digit_value byte = grind arith in
+    let one_more : is_digit byte base ≡ true = grind arith in
     record {
-      number = cc (held, more, c.with_digit-number.ensures, c.loop-count.invariant.number, c.in-Some.ensures.value.1);
-      digits = grind (arith, common_steps);
+      number = cc (held, more, c.with_digit-number.ensures, c.loop-count.invariant.number, value);
+      digits = grind (arith, common_steps, one_more);
     }
 
 pub returns : goal.returns

@@ -1,11 +1,7 @@
-use borrow.Author.Tests.{ltb-true}
-use Rattle.std.proofs.lemmas.Bool.Decides.{nat_tests}
-use Rattle.std.proofs.Common.{take, drop, length, length-drop, ◌-◌, slice_index, ◌⊎◌, ◌==◌, ◌≡◌, ◌∷◌, ◌∙◌, ℕ, false, sym, ap, arith, ne_eqb, codes}
-use Rattle.std.proofs.lemmas.List.{take_all}
+use Rattle.std.proofs.Common.{◌==◌, ◌≡◌, ◌∷◌, ◌∙◌, ℕ, false, sym, ap, arith, ne_eqb, codes}
 use Rattle.hesc_specs.specs.Text.Words.{begins}
-use Rattle.hesc_grammars.proofs.NamedReferences.{begins_is, reference-less_than, reference-greater_than, reference-ampersand, reference-double_quote, reference-no_break_space, reference-decimal, reference-hex, reference-other, has_first}
+use Rattle.hesc_grammars.proofs.NamedReferences.{begins_is, reference-less_than, reference-greater_than, reference-ampersand, reference-double_quote, reference-no_break_space, reference-other}
 use Rattle.hesc_grammars.proofs.references.reference.Goals as goal
-use Rattle.hesc_grammars.proofs.references.reference.Goals.{in_default-rest-via-then-rest-lt1, in_default-rest-via-else-rest-lt1+in_default-1}
 
 pub returns-in-108 : goal.returns-in-108
 returns-in-108 c =
@@ -40,30 +36,11 @@ returns-in-110 c =
     c.in-Some.ensures.cases.0 ∙ ap (λ first. first ∷ c.in-Some.rest.now) c.in-110.is in
     rw whole (c.named_reference-in-110.ensures ∙ sym (reference-no_break_space c.in-Some.rest.now))
 
-pub returns-in-120 : goal.returns-in-120
-returns-in-120 c =
-    let rest = c.in-Some.rest.now in
-    let whole : c.args.bytes.now ≡ 35 ∷ rest =
-    c.in-Some.ensures.cases.0 ∙ ap (λ first. first ∷ rest) c.in-35.is in
-    let mark : (slice_index rest 0 ≡ 120) ⊎ (slice_index rest 0 ≡ 88) = grind arith in
-    let digits : take (length rest - 1) (drop 1 rest) ≡ drop 1 rest =
-    take_all (length rest - 1) (drop 1 rest) (omega (arith, length-drop 1 rest)) in
-    rw whole ((rw digits at c.numbered_reference.ensures) ∙ sym (reference-hex rest c.in-120.len_at_least mark))
-
-pub returns-in_default-rest : goal.returns-in_default-rest
-returns-in_default-rest c =
-    let rest = c.in-Some.rest.now in
-    let whole : c.args.bytes.now ≡ 35 ∷ rest =
-    c.in-Some.ensures.cases.0 ∙ ap (λ first. first ∷ rest) c.in-35.is in
-    let small : slice_index rest 0 ≡ 120 → ⊥ = λ is. elim c.in_default-rest.branch [
-      | in_default-rest-via-then-rest-lt1 w ↦ omega (arith, ltb-true, has_first rest (omega arith))
-      | in_default-rest-via-else-rest-lt1+in_default-1 w ↦ grind (arith, nat_tests)
-    ] in
-    let large : slice_index rest 0 ≡ 88 → ⊥ = λ is. elim c.in_default-rest.branch [
-      | in_default-rest-via-then-rest-lt1 w ↦ omega (arith, ltb-true, has_first rest (omega arith))
-      | in_default-rest-via-else-rest-lt1+in_default-1 w ↦ grind (arith, nat_tests)
-    ] in
-    rw whole (c.numbered_reference-in_default-rest.ensures ∙ sym (reference-decimal rest small large))
+pub returns-in-35 : goal.returns-in-35
+returns-in-35 c =
+    let whole : c.args.bytes.now ≡ 35 ∷ c.in-Some.rest.now =
+    c.in-Some.ensures.cases.0 ∙ ap (λ first. first ∷ c.in-Some.rest.now) c.in-35.is in
+    rw whole c.number_reference.ensures
 
 pub returns-in_default-first : goal.returns-in_default-first
 returns-in_default-first c =
