@@ -83,9 +83,10 @@ fn numbered_reference(is_hex: bool, mark_count: usize, bytes: &[u8]) -> Step
     ensures { result ≡ numbered_reference (base_of is_hex) mark_count bytes.now }
 {
     let mut number = 0;
-    for (count, byte) in bytes.iter().enumerate() {
-        let Some(digit) = digit_of(is_hex, *byte) else {
-            if *byte != b';' || count == 0 {
+    for count in 0..bytes.len() {
+        let byte = bytes[count];
+        let Some(digit) = digit_of(is_hex, byte) else {
+            if byte != b';' || count == 0 {
                 return Step::Nothing;
             }
             return match numbered_character(number) {
@@ -154,10 +155,13 @@ fn digits_number(is_hex: bool, digits: &[u8]) -> Option<u32>
 fn digit_of(is_hex: bool, byte: u8) -> Option<u32>
     ensures { result ≡ if is_digit byte (base_of is_hex) then Some (digit_value byte) else None }
 {
+    if !is_hex {
+        return (byte as char).to_digit(10);
+    }
     let value = match byte {
         b'0'..=b'9' => byte - b'0',
-        b'a'..=b'f' if is_hex => byte - b'a' + 10,
-        b'A'..=b'F' if is_hex => byte - b'A' + 10,
+        b'a'..=b'f' => byte - b'a' + 10,
+        b'A'..=b'F' => byte - b'A' + 10,
         _ => return None,
     };
     Some(value as u32)
