@@ -1,13 +1,14 @@
 -- Where each row is what an index gives for its name, a name that another row is given for is in none.
 use Rattle.std.proofs.Common.{◌≡◌, ℕ, ◌+◌, ◌<◌, zero, suc, List, [], ◌∷◌, Bool, true, false, Some, None, length, refl, subst, arith}
-use Rattle.std.specs.Prelude.{Option, ◌||◌, not}
+use Rattle.std.specs.Prelude.{Option}
 use Rattle.std.specs.Str.{bytes_eq}
 use Rattle.std.proofs.lemmas.Bool.{and_parts}
 use Rattle.std.proofs.lemmas.Bool.Decides.{nat_tests}
 use Rattle.std.proofs.lemmas.Slice.Eq.{bytes_eq-Decides}
 use Rattle.hesc_specs.specs.References.Rows.{Row, row_at, value_of}
 use Rattle.hesc_specs.proofs.References.Tables.{value_absent}
-use Rattle.hesc_table.specs.Index.{are_candidates, candidate_of, is_candidate}
+use Rattle.hesc_table.specs.Index.{are_candidates, candidate_of, is_candidate, is_index_of, seeds_of, slots_of}
+use Rattle.hesc_table.specs.declared.index.NameIndex.{NameIndex}
 
 candidate_is : (found : Option ℕ) (i : ℕ) → is_candidate found i ≡ true → found ≡ Some i
 candidate_is None i is = absurd (cc)
@@ -32,9 +33,15 @@ module _ (seeds slots : List ℕ) where
     pub missed : value_of rows name ≡ None
     missed = value_absent rows name (λ k within. other_row k within _ refl)
 
-pub all_candidates : (is_complete : Bool) (all : Bool) → not is_complete || all ≡ true → is_complete ≡ true → all ≡ true
-all_candidates true all is complete = is
-all_candidates false all is complete = absurd (cc)
+pub all_candidates : (is_complete : Bool) (index : NameIndex) (rows : List Row) → is_index_of is_complete index rows ≡ true → is_complete ≡ true → are_candidates (seeds_of index) (slots_of index) 0 rows ≡ true
+unfolding is_index_of
+all_candidates true index rows is complete = is
+all_candidates false index rows is complete = absurd (cc)
+
+-- nothing is known of an index that is not complete
+pub not_complete : (index : NameIndex) (rows : List Row) → is_index_of false index rows ≡ true
+unfolding is_index_of
+not_complete index rows = refl
 
 pub same_row : (found : Option ℕ) (a b : ℕ) → found ≡ Some a → found ≡ Some b → a ≡ b
 same_row found a b one other = cc (one, other)

@@ -1,5 +1,5 @@
 -- What an index of names holds, and the row that it gives for a name.
-use Rattle.std.specs.Prelude.{ℕ, suc, ◌+◌, ◌-◌, ◌*◌, ◌/◌, ◌%◌, ◌^◌, Bool, true, false, ◌&&◌, ◌||◌, ◌==◌, List, [], ◌∷◌, Option, Some, None, length, take, drop, nat_le, slice_index, if◌then◌else◌}
+use Rattle.std.specs.Prelude.{ℕ, suc, ◌+◌, ◌-◌, ◌*◌, ◌/◌, ◌%◌, ◌^◌, Bool, true, false, not, ◌&&◌, ◌||◌, ◌==◌, List, [], ◌∷◌, Option, Some, None, length, take, drop, nat_le, slice_index, if◌then◌else◌}
 use Rattle.std.specs.Int.{w16, w32, w64, from_le_bytes}
 use Rattle.std.specs.Int.Bits.{bit_and}
 use Rattle.std.specs.Option.{option_map}
@@ -45,3 +45,7 @@ is_candidate (Some k) i = k == i
 abbrev pub are_candidates : List ℕ → List ℕ → ℕ → List Row → Bool
 are_candidates seeds slots i [] = true
 are_candidates seeds slots i (row ∷ rows) = is_candidate (candidate_of seeds slots row.0) i && are_candidates seeds slots (suc i) rows
+
+-- what is known of a table's index: where it is complete, it gives each row for its name
+unfoldable pub is_index_of : Bool → NameIndex → List Row → Bool
+is_index_of is_complete index rows = not is_complete || are_candidates (seeds_of index) (slots_of index) 0 rows

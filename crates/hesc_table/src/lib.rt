@@ -1,14 +1,14 @@
 //! Tables of entities: which rows make one, and the value of a name.
 #![tactic(auto)]
 
-ghost use Rattle.std.specs.Prelude.{◌≡◌, ◌||◌, List, None, IsFalse, IsTrue, not};
+ghost use Rattle.std.specs.Prelude.{◌≡◌, List, None, IsFalse, IsTrue};
 ghost use Rattle.std.specs.Cmp.Lexicographic.{slice_cmp};
 ghost use Rattle.std.specs.Option.{option_map};
 ghost use Rattle.std.specs.Ordering.{nat_cmp};
 ghost use Rattle.hesc_specs.specs.References.Rows.{Row, value_of};
 ghost use Rattle.hesc_specs.specs.References.TableFaults.{is_table};
 ghost use Rattle.hesc_table.specs.Growth.{grow_by};
-ghost use Rattle.hesc_table.specs.Index.{are_candidates};
+ghost use Rattle.hesc_table.specs.Index.{is_index_of};
 ghost use Rattle.hesc_table.specs.Rows.{are_near, rows_in};
 
 pub mod entities;
@@ -38,7 +38,7 @@ pub struct EntityTable<'a> {
     is_complete: bool,
     ghost good: { IsTrue (is_table (rows_in rows.now)) },
     ghost grows: { IsTrue (grow_by growth (rows_in rows.now)) },
-    ghost complete: { IsTrue (not is_complete || are_candidates index.seeds.now index.slots.now 0 (rows_in rows.now)) },
+    ghost complete: { IsTrue (is_index_of is_complete index (rows_in rows.now)) },
 }
 
 impl EntityTable<'static> {

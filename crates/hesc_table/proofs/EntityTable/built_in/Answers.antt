@@ -2,6 +2,7 @@ use Rattle.std.proofs.Common.{◌≡◌, true, refl, sym, subst}
 use Rattle.std.specs.Prelude.{IsTrue}
 use Rattle.hesc_specs.specs.References.Rows.{are_short}
 use Rattle.hesc_specs.specs.References.TableFaults.{is_table}
+use Rattle.hesc_table.specs.Index.{is_index_of}
 use Rattle.hesc_table.specs.NamedRows.{named_rows}
 use Rattle.hesc_table.proofs.NamedTable.{constant-named_rows, short-named_rows}
 use Rattle.hesc_table.proofs.EntityTable.built_in.Goals as goal
@@ -11,6 +12,7 @@ unfolding lib.Utf8.encode
 good-named_rows = refl
 
 pub invariant_of-result : goal.invariant_of-result
+unfolding is_index_of
 invariant_of-result c = record {
   good = subst (λ rows. IsTrue (is_table rows)) (sym constant-named_rows) good-named_rows;
   grows = subst (λ rows. IsTrue (are_short rows)) (sym constant-named_rows) short-named_rows;

@@ -11,13 +11,13 @@ use Rattle.hesc_table.proofs.EntityTable.get_by_index.Goals as goal
 pub returns-in_err-candidate-clause-missed : goal.returns-in_err-candidate-clause-missed
 returns-in_err-candidate-clause-missed c none complete =
     let self = c.args.self.now in
-    missed self.index.seeds.now self.index.slots.now (rows_in self.rows.now) c.args.name.now (all_candidates self.is_complete _ self.complete complete)
+    missed self.index.seeds.now self.index.slots.now (rows_in self.rows.now) c.args.name.now (all_candidates self.is_complete self.index (rows_in self.rows.now) self.complete complete)
     (λ k within is. no_row _ k _ (sym c.candidate.ensures ∙ c.in_err-candidate.was) is)
 
 pub returns-then-candidate-self-clause-missed : goal.returns-then-candidate-self-clause-missed
 returns-then-candidate-self-clause-missed c none complete =
     let self = c.args.self.now in
-    missed self.index.seeds.now self.index.slots.now (rows_in self.rows.now) c.args.name.now (all_candidates self.is_complete _ self.complete complete)
+    missed self.index.seeds.now self.index.slots.now (rows_in self.rows.now) c.args.name.now (all_candidates self.is_complete self.index (rows_in self.rows.now) self.complete complete)
     (λ k within is.
     let same : k ≡ c.in_ok-candidate.candidate = same_row _ _ _ is (sym c.candidate.ensures ∙ c.in_ok-candidate.was) in
     absurd (omega (arith, same, c.if-candidate-self.true, rw (length-map self.rows.now) at within)))
@@ -25,7 +25,7 @@ returns-then-candidate-self-clause-missed c none complete =
 pub returns-clause-missed : goal.returns-clause-missed
 returns-clause-missed c none complete =
     let self = c.args.self.now in
-    missed self.index.seeds.now self.index.slots.now (rows_in self.rows.now) c.args.name.now (all_candidates self.is_complete _ self.complete complete)
+    missed self.index.seeds.now self.index.slots.now (rows_in self.rows.now) c.args.name.now (all_candidates self.is_complete self.index (rows_in self.rows.now) self.complete complete)
     (λ k within is.
     let same : k ≡ c.in_ok-candidate.candidate = same_row _ _ _ is (sym c.candidate.ensures ∙ c.in_ok-candidate.was) in
     rw (same, stored_name self.rows.now c.in_ok-candidate.candidate c.if-candidate-self.false) (sym c.if-eq.ensures))

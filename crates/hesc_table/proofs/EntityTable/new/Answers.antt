@@ -2,6 +2,7 @@ use Rattle.std.proofs.Common.{◌≡◌, ◌∙◌, sym, ◌<◌, length, refl, 
 use Rattle.std.proofs.lemmas.List.{length-map}
 use Rattle.hesc_specs.proofs.References.Tables.{first_fault-row}
 use Rattle.hesc_table.specs.Rows.{rows_in}
+use Rattle.hesc_table.proofs.Candidates.{not_complete}
 use Rattle.hesc_table.proofs.EntityTable.new.Goals as goal
 
 pub returns-in-Some-clause-fault : goal.returns-in-Some-clause-fault
@@ -21,3 +22,6 @@ pub loop-k-init : goal.loop-k-init
 loop-k-init c =
     let all : length (rows_in c.args.rows.now) ≡ c.loop-i.i = rw (length-map c.args.rows.now) (omega (arith, c.loop-i-test.false, c.loop-i.auto.i-end)) in
     record { faultless = rw all c.loop-i.invariant; there = refl }
+
+pub invariant_of-table-clause-complete : goal.invariant_of-table-clause-complete
+invariant_of-table-clause-complete c = not_complete _ _
