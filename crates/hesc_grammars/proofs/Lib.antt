@@ -1,7 +1,6 @@
 pub mod HexEscapes
 pub mod EscapedMarks
 pub mod ReferenceBodies
-pub mod NumberedReferences
 pub mod NamedReferences
 pub mod ReferenceImages
 pub mod HtmlPieces

@@ -12,8 +12,7 @@ use Rattle.hesc_grammars.specs.declared.step.Step.{Step}
 use Rattle.hesc_grammars.specs.declared.step.Step.TheVariants.{Character, Nothing}
 use Rattle.hesc_grammars.specs.NumberedReferences.{number_of_length, numbered_reference}
 use Rattle.hesc_grammars.specs.References.{reference, reference_of_length, body_character, character_or_nothing, no_break_space}
-use Rattle.hesc_grammars.proofs.NumberedReferences.{and_false, position_from-later}
-use Rattle.hesc_grammars.proofs.ReferenceBodies.{HasNoSemicolon}
+use Rattle.hesc_grammars.proofs.ReferenceBodies.{HasNoSemicolon, and_false, position_from-later}
 
 -- the first `;`
 abbrev pub end_of : List ℕ → Option ℕ

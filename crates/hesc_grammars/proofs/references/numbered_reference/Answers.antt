@@ -9,7 +9,7 @@ use Rattle.std.specs.Str.Parse.{digits_value}
 use Rattle.hesc_specs.specs.References.Numbers.{base_of}
 use Rattle.hesc_specs.specs.Text.Ascii.{semicolon}
 use Rattle.hesc_specs.proofs.References.Capped.{capped-digit}
-use Rattle.hesc_grammars.proofs.NumberedReferences.{numbered_reference-stops, numbered_reference-empty, numbered_reference-ends, numbered_reference-unended}
+use Rattle.hesc_grammars.proofs.ReferenceBodies.{numbered_reference-stops, numbered_reference-empty, numbered_reference-ends, numbered_reference-unended}
 use Rattle.hesc_grammars.proofs.references.numbered_reference.Goals as goal
 use Rattle.hesc_grammars.proofs.references.numbered_reference.Goals.{then-byte-ne59-via-then-byte-ne59, then-byte-ne59-via-else-byte-ne59+then-count-eq0}
 
