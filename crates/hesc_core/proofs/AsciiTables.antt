@@ -1,25 +1,19 @@
 -- Tables with a text for each ASCII byte: each of the 128 rows, computed.
-use Rattle.std.proofs.Common.{◌≡◌, ℕ, ◌≤◌, ◌<◌, true, Bool, List, [], ◌∷◌, nat_le, nat_lt, take, get_or}
-use Rattle.std.proofs.lemmas.Bool.{agree_below, agree_below_at, and_parts, leb-true}
+use Rattle.std.proofs.Common.{◌≡◌, ℕ, ◌≤◌, ◌<◌, true, Bool, List, [], nat_le, nat_lt, take, get_or}
+use Rattle.std.proofs.lemmas.Bool.{agree_below, agree_below_at, leb-true}
 use Rattle.std.proofs.lemmas.Slice.Eq.{bytes_eq-Decides}
-use Rattle.std.proofs.lemmas.Str.Ascii.{IsAscii-cons, IsAscii-nil}
 use Rattle.std.specs.List.{list_all}
 use Rattle.std.specs.Str.{IsAscii, bytes_eq}
+use Rattle.hesc_sinks.proofs.AsciiRows.{IsAscii-tells}
 
 abbrev Rows : Type 0
 Rows = List (List ℕ × ℕ)
 
-abbrev row_of : Rows → ℕ → List ℕ × ℕ
+abbrev pub row_of : Rows → ℕ → List ℕ × ℕ
 row_of rows b = get_or rows b ([], 0)
 
 abbrev are_ascii : List ℕ → Bool
 are_ascii bytes = list_all (λ c. nat_lt c 128) bytes
-
-IsAscii-tells : (bytes : List ℕ) → are_ascii bytes ≡ true → IsAscii bytes
-IsAscii-tells [] all = IsAscii-nil
-IsAscii-tells (b ∷ bytes) all =
-    let parts = and_parts (nat_lt b 128) (are_ascii bytes) all in
-    IsAscii-cons b bytes (leb-true _ _ parts.0) (IsAscii-tells bytes parts.1)
 
 pub row_is_short : (rows : Rows) → agree_below (λ k. nat_le (row_of rows k).1 6) (λ _. true) 128 ≡ true
     → (b : ℕ) (row : List ℕ × ℕ) → b < 128 → row ≡ row_of rows b → row.1 ≤ 6

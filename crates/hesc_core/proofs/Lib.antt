@@ -5,3 +5,4 @@ pub mod ElementWords
 pub mod HandsOnConstant
 pub mod HandsOnTable
 mod StringEscapes
+mod StyleEscapes

@@ -52,3 +52,9 @@ stretch_of segment = kept_unless_empty segment.start segment.kept.now
 -- more than the segments that pieces still have: a change ends after its place
 abbrev pub segments_left : {R : Type 0} {rules : Ghosts R} → Pieces R rules → ℕ
 segments_left pieces = if pieces.is_done then 0 else (length pieces.text.now - pieces.from) + 1
+
+-- some bytes of what was to come were taken, and the others are still to come
+pub record TookFirst (coming later old new : List ℕ) : Type 0 where
+  pub put : List ℕ
+  pub taken : new ≡ old ++ put
+  pub left : coming ≡ put ++ later

@@ -1,6 +1,7 @@
 //! What is known of the bytes ahead: at which of them a rule that looks for certain bytes may change
 //! something.
-ghost use Rattle.std.specs.Prelude.{ℕ, Bool};
+ghost use Rattle.std.specs.Prelude.{◌≤◌, ℕ, Bool, List, length};
+ghost use Rattle.hesc_sinks.specs.Hits.{AreHits};
 ghost use Rattle.hesc_engine.specs.Ahead.{IsAhead};
 
 /// The mask of the bytes from `start` on, 32 of them or as many as the text has: bit `k` of `hits`
@@ -25,5 +26,16 @@ impl Ahead {
             start: text.len(),
             hits: 0,
         }
+    }
+    // The hits from `from` on, as far as they are known.
+    #[inline(always)]
+    pub(crate) fn hits_from(&self, from: usize) -> u64
+        ensures { (is_sought : ℕ → Bool) (source : List ℕ) → from ≤ length source
+            → IsAhead is_sought source self.now → AreHits is_sought source from result }
+    {
+        if from < self.start || from - self.start >= 32 {
+            return 0;
+        }
+        self.hits >> (from - self.start)
     }
 }

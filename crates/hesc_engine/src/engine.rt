@@ -113,6 +113,7 @@ fn put_left<R: Rule, S: Sink>(pieces: &mut Pieces<'_, R>, sink: &mut S) -> Resul
 {
     'putting: while let Some(segment) = pieces.change() {
         sink.put_segment(segment)?;
+        pieces.put_hits(sink);
     }
     sink.put_some(pieces.rest())
 }

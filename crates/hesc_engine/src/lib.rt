@@ -19,6 +19,7 @@ pub use crate::pieces::{Piece, Pieces};
 pub use crate::rule::Rule;
 pub use crate::unchanged::Unchanged;
 pub use hesc_sinks::{
-    CountOverflow, Counter, Found, Replacement, Segment, Sink, SmallText, StackFull, StackSink,
-    StringSink, VecSink, WriterSink, found, segment, sink, sinks, small_text,
+    AsciiTexts, CountOverflow, Counter, Found, Replacement, Segment, Sink, SmallText, StackFull,
+    StackSink, StringSink, VecSink, WriterSink, ascii_texts, found, segment, sink, sinks,
+    small_text,
 };

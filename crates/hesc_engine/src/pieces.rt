@@ -6,6 +6,7 @@ use crate::ahead::Ahead;
 use crate::rule::Rule;
 use hesc_sinks::found::{Found, Replacement};
 use hesc_sinks::segment::Segment;
+use hesc_sinks::sink::Sink;
 
 /// A piece of a rule's text.
 #[derive(Clone, Copy)]
@@ -72,6 +73,7 @@ impl<'t, R: Rule> Pieces<'t, R> {
       IsAtSegment,
       IsBeforeRest,
       IsFoundNext,
+      TookFirst,
       parts_left,
       rest_bytes,
       stretch_of,
@@ -159,6 +161,29 @@ impl<'t, R: Rule> Pieces<'t, R> {
         match self.rule.next_ahead(self.text, self.from, &mut self.ahead) {
             Some(found) => Some(self.segment_before(found)),
             None => None,
+        }
+    }
+
+    /// Hands the changes that are known to the sink, as many of them as it takes at once.
+    #[inline(always)]
+    pub(crate) fn put_hits<S: Sink>(&mut self, sink: &mut S)
+        requires { IsBeforeRest self.old }
+        ensures taken { TookFirst (joined (parts_left self.old)) (joined (parts_left self.new))
+            (S.taken sink.old) (S.taken sink.new) }
+        ensures failures { S.failures sink.new ≡ S.failures sink.old }
+        ensures room { S.room sink.old + length (S.taken sink.old)
+            ≤ S.room sink.new + length (S.taken sink.new) }
+        ensures same_reference { S.reference sink.new ≡ S.reference sink.old }
+        ensures same_before { S.before sink.new ≡ S.before sink.old }
+        ensures less { segments_left self.new ≤ segments_left self.old }
+        ensures before_rest { IsBeforeRest self.new }
+    {
+        let hits = self.ahead.hits_from(self.from);
+        if hits == 0 {
+            return;
+        }
+        if let Some(texts) = self.rule.texts(self.text) {
+            self.from = sink.put_hits(self.text, self.from, hits, texts);
         }
     }
 

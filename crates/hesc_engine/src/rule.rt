@@ -3,10 +3,12 @@ ghost use Rattle.std.specs.Prelude.{◌≡◌, ◌≤◌, ◌<◌, ◌^◌, ◌+
 ghost use Rattle.std.specs.Str.{IsCharBoundary, IsUtf8};
 ghost use Rattle.hesc_specs.specs.Text.Beginning.{TookBeginning};
 ghost use Rattle.hesc_specs.specs.Text.Changes.{Change, applied};
+ghost use Rattle.hesc_sinks.specs.Hits.{Replaces, ascii_rows};
 ghost use Rattle.hesc_engine.specs.Ahead.{IsAhead};
 ghost use Rattle.hesc_engine.specs.Next.{IsNext};
 
 use crate::ahead::Ahead;
+use hesc_sinks::ascii_texts::AsciiTexts;
 use hesc_sinks::found::Found;
 use hesc_sinks::sink::Sink;
 
@@ -130,6 +132,18 @@ pub trait Rule {
             + length (applied text.now from (changes_from self.now text.now from)))) }
         ensures same_reference { S.reference sink.new ≡ S.reference sink.old }
         ensures same_before { S.before sink.new ≡ S.before sink.old }
+    {
+        None
+    }
+
+    /// The texts that ASCII bytes of `text` become, where the first byte at or after a place that the rule
+    /// looks for is its next change if it has a text. `None` where the rule has no such texts.
+    ///
+    /// Of the rule of HTML classes the text for `<` is `&lt;`.
+    #[inline(always)]
+    fn texts(&self, text: &str) -> Option<AsciiTexts>
+        ensures { IfSome result (λ texts. Replaces (ascii_rows texts) (is_sought self.now) text.now
+            (λ from. applied text.now from (changes_from self.now text.now from))) }
     {
         None
     }

@@ -1,3 +1,5 @@
+pub mod AsciiRows
+pub mod Hits
 pub mod Progress
 pub mod Stores
 pub mod TakenText

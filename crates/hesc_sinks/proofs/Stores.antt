@@ -1,6 +1,6 @@
 -- Stores of a constant length, of which less is wanted.
 use Rattle.std.proofs.Common.{◌≡◌, ℕ, ◌+◌, ◌-◌, ◌≤◌, List, ◌++◌, ◌∙◌, ap, sym, length, take, drop, arith, length-append, length-take, length-take-le, take-take, take_all}
-use Rattle.std.proofs.lemmas.List.{append_assoc, length-drop, take-append-drop, take-append-le, take_rest}
+use Rattle.std.proofs.lemmas.List.{append_assoc, drop-take, drop_at, length-drop, take-append-drop, take-append-le, take_at, take_rest}
 use Rattle.std.proofs.Math.Seq.{take-append-add}
 use Rattle.hesc_sinks.specs.Stores.{Stored}
 
@@ -66,6 +66,24 @@ taken_after old new before taken bytes all tail place end len stored within long
     ∙ append_assoc before taken bytes
     ∙ ap (λ (l : List ℕ). before ++ l) (sym is)
 
+-- a store ends within the bytes that it goes into
+pub stored_within : (old new bytes : List ℕ) (place end : ℕ) → place ≤ length old → Stored old new place bytes end → end ≤ length old
+stored_within old new bytes place end within stored =
+    omega (arith, stored.after, stored.long, length-take-le place old within, length-append (take place old) bytes, length-take end new, ap length stored.before)
+
+-- what was taken is what was stored, where it is read again in that vector
+pub read_after : (old new taken bytes all read tail : List ℕ) (place end len : ℕ) → Stored old new place bytes end → place ≤ length old → length old ≡ len
+    → read ≡ take len (new ++ tail) → all ≡ taken ++ take (end - place) (drop place read) → all ≡ taken ++ bytes
+read_after old new taken bytes all read tail place end len stored within long is_read is =
+    let whole : read ≡ new = is_read ∙ take_at new tail len (stored.long ∙ long) in
+    let there : place + (end - place) ≡ end = omega (arith, stored.after) in
+    let back : take (end - place) (drop place new) ≡ bytes =
+    sym (drop-take place (end - place) new)
+    ∙ ap (λ n. drop place (take n new)) there
+    ∙ ap (drop place) stored.before
+    ∙ drop_at (take place old) bytes place (length-take-le place old within) in
+    is ∙ ap (λ (l : List ℕ). taken ++ take (end - place) (drop place l)) whole ∙ ap (λ (l : List ℕ). taken ++ l) back
+
 -- no more bytes than the vector has, which are no more than the limit
 pub filled_after : (n limit : ℕ) (bytes : List ℕ) → n ≤ limit → length (take n bytes) ≤ limit
 filled_after n limit bytes within = omega (arith, within, length-take n bytes)
@@ -78,3 +96,9 @@ appended_after old mid new before taken bytes all end within cut more held is =
     ∙ ap (λ (l : List ℕ). l ++ bytes) (cut ∙ held)
     ∙ append_assoc before taken bytes
     ∙ ap (λ (l : List ℕ). before ++ l) (sym is)
+
+-- the same, where as much is read as was stored
+pub read_again : (old new taken bytes all : List ℕ) (place end : ℕ) → Stored old new place bytes end → place ≤ length old → all ≡ taken ++ take (length (take end new) - place) (drop place (take end new)) → all ≡ taken ++ bytes
+read_again old new taken bytes all place end stored within is =
+    let back : drop place (take end new) ≡ bytes = ap (drop place) stored.before ∙ drop_at (take place old) bytes place (length-take-le place old within) in
+    is ∙ ap (λ (l : List ℕ). taken ++ l) (take_all _ _ (omega (arith, length-drop place (take end new))) ∙ back)

@@ -1,3 +1,5 @@
+pub mod AsciiRows
+pub mod Hits
 pub mod Room
 pub mod Sinks
 pub mod Stores

@@ -4,12 +4,14 @@
 //! that text after what it had taken, and on a fault a beginning of it.
 #![tactic(auto)]
 
+pub mod ascii_texts;
 pub mod found;
 pub mod segment;
 pub mod sink;
 pub mod sinks;
 pub mod small_text;
 
+pub use crate::ascii_texts::AsciiTexts;
 pub use crate::found::{Found, Replacement};
 pub use crate::segment::Segment;
 pub use crate::sink::Sink;

@@ -1,9 +1,12 @@
 //! Sinks: what takes the pieces of a text.
 ghost use Rattle.std.specs.Prelude.{◌≡◌, ◌≤◌, ◌<◌, ◌+◌, ℕ, List, ◌++◌, length, Option, IsOk, OnOk, OnErr};
 ghost use Rattle.std.specs.Borrow.{GName};
+ghost use Rattle.std.specs.Str.{IsCharBoundary};
 ghost use Rattle.hesc_specs.specs.Text.Beginning.{TookBeginning};
+ghost use Rattle.hesc_sinks.specs.Hits.{TookHits, ascii_rows};
 ghost use Rattle.hesc_sinks.specs.Text.{segment_bytes};
 
+use crate::ascii_texts::AsciiTexts;
 use crate::segment::Segment;
 
 /// Takes texts, one after another.
@@ -97,5 +100,27 @@ pub trait Sink {
             return Ok(());
         }
         self.put(piece)
+    }
+    /// Takes a text from `from` on, a character boundary, with the bytes replaced that `hits` tells of, up
+    /// to the end of one of them, and answers where that is: bit `k` tells whether byte `from + k` is
+    /// sought. How many it takes is up to the sink, which need take none.
+    ///
+    /// Of `a<b` from 0, the hits `0b10` and the texts of the HTML references it takes `a&lt;` and answers
+    /// 2, or it takes nothing and answers 0.
+    #[inline(always)]
+    fn put_hits(&mut self, text: &str, from: usize, hits: u64, texts: AsciiTexts) -> usize
+        requires { IsCharBoundary text.now from }
+        ensures taken { TookHits (ascii_rows texts) text.now from hits result
+            (taken self.old) (taken self.new) }
+        ensures ordered { from ≤ result }
+        ensures boundary { IsCharBoundary text.now result }
+        ensures failures { failures self.new ≡ failures self.old }
+        ensures room { room self.old + length (taken self.old)
+            ≤ room self.new + length (taken self.new) }
+        ensures same_reference { reference self.new ≡ reference self.old }
+        ensures same_before { before self.new ≡ before self.old }
+    {
+        let (_text, _hits, _texts) = (text.len(), hits, texts);
+        from
     }
 }

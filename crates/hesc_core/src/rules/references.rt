@@ -15,6 +15,7 @@ mod values;
 use crate::rules::ahead::{Sought, next_hit_or_end};
 use crate::rules::references::values::value_of_body;
 use hesc_engine::ahead::Ahead;
+use hesc_engine::ascii_texts::AsciiTexts;
 use hesc_engine::found::Found;
 use hesc_engine::rule::Rule;
 use hesc_scan::find::first_of_two;
@@ -50,6 +51,11 @@ impl Rule for References<'_> {
             Growth::AtMostAFifth => text.len().checked_add(text.len() / 5),
             Growth::Unknown => None,
         }
+    }
+
+    #[inline(always)]
+    fn texts(&self, _text: &str) -> Option<AsciiTexts> {
+        None
     }
 
     ghost makes = { λ rule source _. applied-reference_changes (rows_of rule.0.now) source };

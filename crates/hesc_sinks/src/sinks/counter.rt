@@ -1,6 +1,7 @@
 //! The sink that only counts.
 ghost use Rattle.std.specs.Prelude.{◌≡◌, ◌-◌, ◌^◌, [], length, None};
 
+use crate::ascii_texts::AsciiTexts;
 use crate::sink::Sink;
 use crate::sinks::log::Log;
 
@@ -71,5 +72,10 @@ impl Sink for Counter {
                 Err(CountOverflow)
             }
         }
+    }
+    // Written here, so that it is inlined.
+    #[inline(always)]
+    fn put_hits(&mut self, _text: &str, from: usize, _hits: u64, _texts: AsciiTexts) -> usize {
+        from
     }
 }

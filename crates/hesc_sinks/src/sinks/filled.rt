@@ -3,11 +3,12 @@ ghost use Rattle.std.specs.Prelude.{◌≡◌, ◌≤◌, ◌-◌, ◌++◌, Som
 ghost use Rattle.std.specs.Str.{IsUtf8};
 ghost use Rattle.std.specs.Vec.{vec_capacity};
 
+use crate::ascii_texts::AsciiTexts;
 use crate::found::Replacement;
 use crate::segment::Segment;
 use crate::sink::Sink;
 use crate::sinks::log::Log;
-use crate::sinks::stores::{store, store_both, store_short};
+use crate::sinks::stores::{store, store_both, store_hits, store_short};
 use crate::small_text::SmallText;
 use std::alloc::{AllocError, Allocator};
 use std::snapshot::Snapshot;
@@ -262,5 +263,15 @@ impl<A: Allocator> Sink for FilledSink<'_, A> {
         );
         self.log = self.log.after_taking(kept);
         Ok(())
+    }
+
+    // One call for many hits, so that the loop has the registers to itself.
+    #[inline(never)]
+    fn put_hits(&mut self, text: &str, from: usize, hits: u64, texts: AsciiTexts) -> usize {
+        let start = self.end;
+        let (end, reached) = store_hits(self.output.as_mut_slice(), start, text, from, hits, texts);
+        self.end = end;
+        self.log = self.log.after_taking(&self.output.as_slice()[start..end]);
+        reached
     }
 }

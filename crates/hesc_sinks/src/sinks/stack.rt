@@ -2,11 +2,12 @@
 ghost use Rattle.std.specs.Prelude.{◌≡◌, ◌≤◌, length, take};
 ghost use Rattle.std.specs.Str.{IsUtf8};
 
+use crate::ascii_texts::AsciiTexts;
 use crate::found::Replacement;
 use crate::segment::Segment;
 use crate::sink::Sink;
 use crate::sinks::log::Log;
-use crate::sinks::stores::{store, store_both, store_short};
+use crate::sinks::stores::{store, store_both, store_hits, store_short};
 use crate::small_text::SmallText;
 use std::str;
 
@@ -143,5 +144,15 @@ impl<const N: usize> Sink for StackSink<N> {
         self.end = store_short(&mut self.bytes, self.end, segment.rest, kept.len());
         self.log = self.log.after_taking(kept);
         Ok(())
+    }
+
+    #[inline(never)]
+    fn put_hits(&mut self, text: &str, from: usize, hits: u64, texts: AsciiTexts) -> usize {
+        let start = self.end;
+        let (end, reached) = store_hits(&mut self.bytes, start, text, from, hits, texts);
+        self.end = end;
+        let stored = &self.bytes[..end];
+        self.log = self.log.after_taking(&stored[start..]);
+        reached
     }
 }

@@ -1,10 +1,50 @@
 //! Short texts stored into a slice by a store or two of a constant length.
 ghost use Rattle.std.specs.Prelude.{◌≡◌, ◌≤◌, ◌+◌, ◌++◌, length, take};
+ghost use Rattle.std.specs.Str.{IsCharBoundary};
+ghost use Rattle.hesc_sinks.specs.Hits.{StoredHits, ascii_rows};
 ghost use Rattle.hesc_sinks.specs.Stores.{Stored};
 ghost use Rattle.hesc_sinks.specs.Text.{small_text_bytes};
 
+use crate::ascii_texts::AsciiTexts;
 use crate::small_text::SmallText;
 use std::simd::Simd;
+
+/// Stores a text from `from` on, with the bytes replaced that `hits` tells of, at a place of the room:
+/// as many of them as stand near enough to one another and find room for a block of each. Answers
+/// the place after what was stored, and how far in the text it came. What stands there afterwards is
+/// lost.
+#[inline(always)]
+pub(crate) fn store_hits(
+    room: &mut [u8],
+    place: usize,
+    text: &str,
+    from: usize,
+    hits: u64,
+    texts: AsciiTexts,
+) -> (usize, usize)
+    requires boundary { IsCharBoundary text.now from }
+    requires within { place ≤ length room.old }
+    ensures stored { StoredHits (ascii_rows texts) text.now from hits result.1
+        room.old room.new place result.0 }
+    ensures ordered { from ≤ result.1 }
+    ensures boundary { IsCharBoundary text.now result.1 }
+{
+    let bytes = text.as_bytes();
+    let (mut end, mut reached, mut left) = (place, from, hits);
+    'storing: while left != 0 && bytes.len() - reached >= 16 && room.len() - end >= 24 {
+        let count = left.trailing_zeros() as usize;
+        if count >= 16 {
+            break;
+        }
+        let Some(small) = texts.text_for(bytes[reached + count]) else {
+            break;
+        };
+        end = store_both(room, end, &bytes[reached..], count, small);
+        reached += count + 1;
+        left = (left >> count) >> 1;
+    }
+    (end, reached)
+}
 
 /// Stores the first `count` of the bytes, and after them the text, at a place where a block of each
 /// fits, and answers the place after both. What stands there afterwards is lost.

@@ -10,8 +10,9 @@ ghost use Rattle.hesc_engine.specs.Ahead.{IsAhead};
 ghost use Rattle.hesc_engine.specs.Next.{IsNext};
 
 use crate::rules::ahead::{Sought, next_hit};
-use crate::rules::html::references::reference;
+use crate::rules::html::references::{reference, references};
 use hesc_engine::ahead::Ahead;
+use hesc_engine::ascii_texts::AsciiTexts;
 use hesc_engine::found::{Found, Replacement};
 use hesc_engine::rule::Rule;
 use hesc_scan::length::{encoded_length, longest_escaped};
@@ -58,6 +59,11 @@ impl Rule for HtmlEscape {
     #[inline(always)]
     fn longest(&self, text: &str) -> Option<usize> {
         longest_escaped(self.class, text)
+    }
+
+    #[inline(always)]
+    fn texts(&self, _text: &str) -> Option<AsciiTexts> {
+        Some(references())
     }
 
     ghost makes = { λ rule source text. applied-escape_changes rule.class source text };

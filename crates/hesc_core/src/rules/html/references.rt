@@ -1,9 +1,12 @@
 //! The references to the ASCII bytes.
-ghost use Rattle.std.specs.Prelude.{◌≡◌, ◌<◌};
+ghost use Rattle.std.specs.Prelude.{◌≡◌, ◌<◌, ℕ};
 ghost use Rattle.hesc_specs.specs.Html.{reference_to};
+ghost use Rattle.hesc_engine.specs.AsciiRows.{text_at};
+ghost use Rattle.hesc_engine.specs.Hits.{ascii_rows};
 ghost use Rattle.hesc_engine.specs.Text.{small_text_bytes};
 
 use crate::rules::ascii_rows::row_at;
+use hesc_engine::ascii_texts::AsciiTexts;
 use hesc_engine::small_text::SmallText;
 
 /// The reference that stands for each ASCII byte, and its length; after it padding.
@@ -146,4 +149,12 @@ pub(crate) fn reference(byte: u8) -> SmallText
 {
     let (bytes, len) = row_at(&REFERENCES, byte as usize);
     SmallText::from_ascii(bytes, len)
+}
+
+/// The references that stand for the ASCII bytes.
+#[inline(always)]
+pub(crate) fn references() -> AsciiTexts
+    ensures { (b : ℕ) → b < 128 → text_at (ascii_rows result) b ≡ reference_to b }
+{
+    AsciiTexts::new(&REFERENCES)
 }

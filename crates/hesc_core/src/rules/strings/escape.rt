@@ -18,8 +18,9 @@ ghost use Rattle.hesc_engine.specs.Next.{IsNext};
 ghost use Rattle.hesc_engine.specs.Text.{replacement_bytes};
 
 use crate::rules::ahead::{Sought, next_hit_or_end};
-use crate::rules::strings::escapes::{script_escape, style_escape};
+use crate::rules::strings::escapes::{escapes, script_escape, style_escape};
 use hesc_engine::ahead::Ahead;
+use hesc_engine::ascii_texts::AsciiTexts;
 use hesc_engine::found::{Found, Replacement};
 use hesc_engine::rule::Rule;
 use hesc_engine::small_text::SmallText;
@@ -62,6 +63,11 @@ impl Rule for StringEscape {
     #[inline(always)]
     fn longest(&self, text: &str) -> Option<usize> {
         longest_escaped(self.class, text)
+    }
+
+    #[inline(always)]
+    fn texts(&self, _text: &str) -> Option<AsciiTexts> {
+        Some(escapes(self.element))
     }
 
     ghost makes = { λ rule source text. applied-escape_changes rule.class source text };

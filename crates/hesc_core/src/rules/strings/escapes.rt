@@ -1,12 +1,16 @@
 //! The escapes of ASCII characters, by a table for each element: in dense texts marks and numbers mix,
 //! and a branch is guessed wrongly.
-ghost use Rattle.std.specs.Prelude.{◌≡◌, ◌<◌};
+ghost use Rattle.std.specs.Prelude.{◌≡◌, ◌<◌, ℕ};
 ghost use Rattle.hesc_specs.specs.Strings.Encoding.{string_escape};
 ghost use Rattle.hesc_specs.specs.declared.elements.Element.TheVariants.{Script, Style};
+ghost use Rattle.hesc_engine.specs.AsciiRows.{HasText, text_at};
+ghost use Rattle.hesc_engine.specs.Hits.{ascii_rows};
 ghost use Rattle.hesc_engine.specs.Text.{small_text_bytes};
 
 use crate::rules::ascii_rows::row_at;
+use hesc_engine::ascii_texts::AsciiTexts;
 use hesc_engine::small_text::SmallText;
+use hesc_specs::Element;
 
 // The escape of each ASCII character in a script, and its length; after it padding.
 const SCRIPT_ESCAPES: [([u8; 8], usize); 128] = [
@@ -142,7 +146,7 @@ const SCRIPT_ESCAPES: [([u8; 8], usize); 128] = [
 
 // The same in a style, where NUL has none.
 const STYLE_ESCAPES: [([u8; 8], usize); 128] = [
-    (*b"\\00 \0\0\0\0", 4),
+    (*b"\0\0\0\0\0\0\0\0", 0),
     (*b"\\01 \0\0\0\0", 4),
     (*b"\\02 \0\0\0\0", 4),
     (*b"\\03 \0\0\0\0", 4),
@@ -291,4 +295,16 @@ pub(crate) fn style_escape(byte: u8) -> SmallText
 {
     let (bytes, len) = row_at(&STYLE_ESCAPES, byte as usize);
     SmallText::from_ascii(bytes, len)
+}
+
+/// The escapes of the ASCII characters in an element; NUL has none in a style.
+#[inline(always)]
+pub(crate) fn escapes(element: Element) -> AsciiTexts
+    ensures { (b : ℕ) → b < 128 → HasText (ascii_rows result) b
+        → text_at (ascii_rows result) b ≡ string_escape element b }
+{
+    match element {
+        Element::Script => AsciiTexts::new(&SCRIPT_ESCAPES),
+        Element::Style => AsciiTexts::new(&STYLE_ESCAPES),
+    }
 }

@@ -13,6 +13,7 @@ ghost use Rattle.hesc_engine.specs.Text.{replacement_bytes};
 use crate::rules::ahead::{Sought, next_hit_or_end};
 use crate::rules::strings::tokens::{escape, is_after_less};
 use hesc_engine::ahead::Ahead;
+use hesc_engine::ascii_texts::AsciiTexts;
 use hesc_engine::found::{Found, Replacement};
 use hesc_engine::rule::Rule;
 use hesc_engine::small_text::SmallText;
@@ -45,6 +46,11 @@ impl Rule for StringUnescape {
     #[inline(always)]
     fn bound(&self, text: &str) -> Option<usize> {
         Some(text.len())
+    }
+
+    #[inline(always)]
+    fn texts(&self, _text: &str) -> Option<AsciiTexts> {
+        None
     }
 
     ghost makes = { λ rule source _. applied-string_decoding_changes rule.0 rule.1 source };

@@ -6,7 +6,7 @@ use hesc_core::forms::{
     Parts, append_parts, append_parts_to_vec, append_to_string, append_to_vec, onto_string,
     onto_vec, to_cow, to_writer,
 };
-use hesc_core::rules::Escape;
+use hesc_core::rules::{Escape, HtmlEscape};
 use hesc_core::{Class, Counter, Piece, Pieces, Replacement, Rule, SmallText, run};
 use hesc_engine::Ahead;
 use hesc_engine::engine::run_made;
@@ -28,6 +28,14 @@ fn a_rule_answers_as_it_is_said_to(rt: HostRuntime) {
     let encoder = Escape(Class::ScriptQuoted);
     assert!(rt; encoder.bound("\u{20AC}") == Some(6));
     assert!(rt; encoder.total("\u{20AC}") == Some(3));
+    let encoder = HtmlEscape { class: Class::Text };
+    let Some(texts) = encoder.texts("a<b") else {
+        panic!(rt; "it has texts");
+    };
+    let Some(text) = texts.text_for(b'<') else {
+        panic!(rt; "it has a text");
+    };
+    assert!(rt; text.as_str() == "&lt;");
 }
 
 #[test]

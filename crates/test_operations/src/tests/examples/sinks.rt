@@ -3,6 +3,7 @@ ghost use Rattle.std.specs.Prelude.{◌≡◌, codes};
 
 use hesc_core::rules::Escape;
 use hesc_core::{Class, Counter, Replacement, Segment, Sink, StringSink, VecSink, WriterSink, run};
+use hesc_engine::AsciiTexts;
 use hesc_engine::sinks::filled::FilledSink;
 use hesc_engine::sinks::log::Log;
 use hesc_engine::sinks::stack::StackSink;
@@ -53,6 +54,28 @@ fn segments_and_stretches_are_put_as_they_are_said_to(rt: HostRuntime) -> Result
     assert!(rt; sink.put_segment(segment).is_ok() && sink.as_str() == "a&lt;");
     let mut sink = StackSink::<16>::new();
     assert!(rt; sink.put_stretch(segment).is_ok() && sink.as_str() == "a");
+    Ok(())
+}
+
+const LESS_THAN: [([u8; 8], usize); 128] = [(*b"&lt;\0\0\0\0", 4); 128];
+
+#[test]
+fn hits_are_put_as_they_are_said_to_be(rt: HostRuntime) -> Result<(), Fail> {
+    let texts = AsciiTexts::new(&LESS_THAN);
+    let Some(text) = texts.text_for(b'<') else {
+        panic!(rt; "it has a text");
+    };
+    assert!(rt; text.as_str() == "&lt;");
+    assert!(rt; texts.text_for(0x80).is_none());
+    let long = "a<b, and then so many bytes that a block of them can be loaded";
+    let mut counter = Counter::new();
+    assert!(rt; counter.put_hits(long, 0, 0b10, texts) == 0 && counter.count() == 0);
+    let mut sink = StackSink::<64>::new();
+    assert!(rt; sink.put_hits(long, 0, 0b10, texts) == 2 && sink.as_str() == "a&lt;");
+    let mut vec = Vec::with_capacity(rt.alloc(), 64)?;
+    let mut sink = FilledSink::new(&mut vec, 64);
+    assert!(rt; sink.put_hits(long, 0, 0b10, texts) == 2);
+    assert!(rt; sink.into_output().as_slice() == b"a&lt;".as_slice());
     Ok(())
 }
 
