@@ -8,7 +8,7 @@ use crate::found::Replacement;
 use crate::segment::Segment;
 use crate::sink::Sink;
 use crate::sinks::log::Log;
-use crate::sinks::stores::{store, store_both, store_hits, store_short};
+use crate::sinks::stores::{store, store_both, store_hits, store_padded, store_short};
 use crate::small_text::SmallText;
 use std::alloc::{AllocError, Allocator};
 use std::snapshot::Snapshot;
@@ -135,7 +135,24 @@ impl<'a, A: Allocator> FilledSink<'a, A> {
         self.log = log.after_taking(text.as_str().as_bytes());
     }
 
-    // A short text after a long stretch, or where there are few zeros.
+    // A short text, where there are zeros for a block.
+    #[inline(always)]
+    fn put_padded(&mut self, text: SmallText)
+        requires { 8 ≤ filled_sink_left self.old }
+        ensures taken { filled_sink_taken self.new
+            ≡ filled_sink_taken self.old ++ small_text_bytes text }
+        ensures failures { filled_sink_failures self.new ≡ filled_sink_failures self.old }
+        ensures room { filled_sink_room self.old
+            ≤ filled_sink_room self.new + length (small_text_bytes text) }
+        ensures same_reference { (filled_sink_output self.new).ghost_name
+            ≡ (filled_sink_output self.old).ghost_name }
+        ensures same_start { filled_sink_start self.new ≡ filled_sink_start self.old }
+    {
+        self.end = store_padded(self.output.as_mut_slice(), self.end, text);
+        self.log = self.log.after_taking(text.as_str().as_bytes());
+    }
+
+    // A short text, where there are few zeros.
     #[inline(never)]
     fn put_small(&mut self, text: SmallText) -> Result<(), AllocError>
         ensures ok_taken { OnOk result
@@ -153,9 +170,7 @@ impl<'a, A: Allocator> FilledSink<'a, A> {
             ≡ (filled_sink_output self.old).ghost_name }
         ensures same_start { filled_sink_start self.new ≡ filled_sink_start self.old }
     {
-        if self.left() < 24 {
-            self.fill();
-        }
+        self.fill();
         self.put_some(text.as_str())
     }
 
@@ -240,6 +255,10 @@ impl<A: Allocator> Sink for FilledSink<'_, A> {
                     return Ok(());
                 }
                 self.put_some(segment.kept)?;
+                if self.left() >= 8 {
+                    self.put_padded(text);
+                    return Ok(());
+                }
                 self.put_small(text)
             }
             Replacement::Borrowed(text) => {

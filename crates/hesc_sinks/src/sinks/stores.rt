@@ -113,9 +113,9 @@ pub(crate) fn store_short(room: &mut [u8], place: usize, bytes: &[u8], count: us
     store(room, place, &bytes[..count])
 }
 
-// The text with its padding, by one store.
+/// Stores the text at a place where a block fits, and answers the place after it.
 #[inline(always)]
-fn store_padded(room: &mut [u8], place: usize, text: SmallText) -> usize
+pub(crate) fn store_padded(room: &mut [u8], place: usize, text: SmallText) -> usize
     requires { place + 8 ≤ length room.old }
     ensures { Stored room.old room.new place (small_text_bytes text) result }
 {

@@ -15,7 +15,7 @@ pub returns-in_err-put_some-in-Small-clause-err_taken : goal.returns-in_err-put_
 returns-in_err-put_some-in-Small-clause-err_taken g c =
     rw c.in-Small.is (on_err c.from_residual.result (TookBeginning-front _ _ _ (small_text_bytes c.in-Small.text) c.in_err-put_some-in-Small.ensures.err_taken))
 
-pub returns-in_ok-put_some-in-Small-clause-err_taken : goal.returns-in_ok-put_some-in-Small-clause-err_taken
-returns-in_ok-put_some-in-Small-clause-err_taken g c =
+pub returns-else-left-ge8-clause-err_taken : goal.returns-else-left-ge8-clause-err_taken
+returns-else-left-ge8-clause-err_taken g c =
     rw c.in-Small.is
     (then_on_err c.put_small.result (TookBeginning-following _ _ _ c.args.segment.kept.now (small_text_bytes c.in-Small.text) c.in_ok-put_some-in-Small.ensures.ok_taken) c.put_small.ensures.err_taken)
