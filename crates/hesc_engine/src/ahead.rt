@@ -27,6 +27,7 @@ impl Ahead {
             hits: 0,
         }
     }
+
     // The hits from `from` on, as far as they are known.
     #[inline(always)]
     pub(crate) fn hits_from(&self, from: usize) -> u64

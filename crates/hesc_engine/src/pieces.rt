@@ -164,6 +164,18 @@ impl<'t, R: Rule> Pieces<'t, R> {
         }
     }
 
+    /// The place from which on the bytes ahead are known.
+    #[inline(always)]
+    pub(crate) fn known_from(&self) -> usize {
+        self.ahead.start
+    }
+
+    /// Whether so many of the known bytes are looked for that it pays to hand them to the sink at once.
+    #[inline(always)]
+    pub(crate) fn is_dense(&self) -> bool {
+        self.ahead.hits.count_ones() >= 4
+    }
+
     /// Hands the changes that are known to the sink, as many of them as it takes at once.
     #[inline(always)]
     pub(crate) fn put_hits<S: Sink>(&mut self, sink: &mut S)
@@ -179,9 +191,6 @@ impl<'t, R: Rule> Pieces<'t, R> {
         ensures before_rest { IsBeforeRest self.new }
     {
         let hits = self.ahead.hits_from(self.from);
-        if hits == 0 {
-            return;
-        }
         if let Some(texts) = self.rule.texts(self.text) {
             self.from = sink.put_hits(self.text, self.from, hits, texts);
         }

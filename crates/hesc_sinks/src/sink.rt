@@ -101,6 +101,7 @@ pub trait Sink {
         }
         self.put(piece)
     }
+
     /// Takes a text from `from` on, a character boundary, with the bytes replaced that `hits` tells of, up
     /// to the end of one of them, and answers where that is: bit `k` tells whether byte `from + k` is
     /// sought. How many it takes is up to the sink, which need take none.

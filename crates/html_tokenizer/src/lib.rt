@@ -2,8 +2,8 @@
 //!
 //! A [`Reader`] reads markup as the HTML Standard's tokenizer does, in a profile that refuses what it
 //! cannot tell: at once stretches of bytes that leave its state as it is, and names with what stands
-//! between them and their values, and else byte by byte. It says at which place of the page a slot stands. One function for each group of states, and
-//! one definition for each of them.
+//! between them and their values, and else byte by byte. It says at which place of the page a slot
+//! stands. One function for each group of states, and one definition for each of them.
 #![tactic(auto)]
 
 mod attributes;

@@ -146,6 +146,7 @@ impl<const N: usize> Sink for StackSink<N> {
         Ok(())
     }
 
+    // As in a `FilledSink`.
     #[inline(never)]
     fn put_hits(&mut self, text: &str, from: usize, hits: u64, texts: AsciiTexts) -> usize {
         let start = self.end;

@@ -2,6 +2,7 @@
 ghost use Rattle.std.specs.Prelude.{◌≡◌, [], ◌++◌, Some};
 ghost use Rattle.std.specs.String.{string_bytes};
 
+use crate::ascii_texts::AsciiTexts;
 use crate::segment::Segment;
 use crate::sink::Sink;
 use crate::sinks::log::Log;
@@ -90,5 +91,10 @@ impl<A: Allocator> Sink for StringSink<'_, A> {
     fn put_segment(&mut self, segment: Segment<'_>) -> Result<(), AllocError> {
         self.put_some(segment.kept)?;
         self.put_some(segment.new.as_str())
+    }
+    // As by default, and inlined.
+    #[inline(always)]
+    fn put_hits(&mut self, _text: &str, from: usize, _hits: u64, _texts: AsciiTexts) -> usize {
+        from
     }
 }

@@ -2,6 +2,7 @@
 ghost use Rattle.std.specs.Prelude.{◌≡◌, [], ◌++◌, Some};
 ghost use Rattle.std.specs.Str.{IsUtf8};
 
+use crate::ascii_texts::AsciiTexts;
 use crate::segment::Segment;
 use crate::sink::Sink;
 use crate::sinks::log::Log;
@@ -92,5 +93,10 @@ impl<A: Allocator> Sink for VecSink<'_, A> {
     fn put_segment(&mut self, segment: Segment<'_>) -> Result<(), AllocError> {
         self.put_some(segment.kept)?;
         self.put_some(segment.new.as_str())
+    }
+    // As by default, and inlined.
+    #[inline(always)]
+    fn put_hits(&mut self, _text: &str, from: usize, _hits: u64, _texts: AsciiTexts) -> usize {
+        from
     }
 }

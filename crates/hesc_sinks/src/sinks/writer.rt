@@ -94,7 +94,8 @@ impl<W: Write> Sink for WriterSink<'_, W> {
         }
         Ok(())
     }
-    // Written here, so that it is inlined.
+
+    // As by default, and inlined.
     #[inline(always)]
     fn put_hits(&mut self, _text: &str, from: usize, _hits: u64, _texts: AsciiTexts) -> usize {
         from
