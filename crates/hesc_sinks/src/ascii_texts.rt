@@ -13,7 +13,7 @@ pub struct AsciiTexts {
 }
 
 impl AsciiTexts {
-    ghost use Rattle.std.specs.Prelude.{◌≡◌, ◌<◌, IfSome};
+    ghost use Rattle.std.specs.Prelude.{◌≡◌, ◌<◌, IfSome, IsSome};
     ghost use Rattle.hesc_sinks.specs.AsciiRows.{HasText, text_at};
     ghost use Rattle.hesc_sinks.specs.Hits.{ascii_rows};
     ghost use Rattle.hesc_sinks.specs.Text.{small_text_bytes};
@@ -37,6 +37,7 @@ impl AsciiTexts {
     pub fn text_for(&self, byte: u8) -> Option<SmallText>
         ensures text { IfSome result (λ text. small_text_bytes text ≡ text_at (ascii_rows self.now) byte) }
         ensures some { IfSome result (λ _. HasText (ascii_rows self.now) byte) }
+        ensures all { HasText (ascii_rows self.now) byte → IsSome result }
         ensures ascii { IfSome result (λ _. byte < 128) }
     {
         if byte >= 128 {

@@ -1,5 +1,5 @@
 //! An index from names to the rows that may have them.
-ghost use Rattle.std.specs.Prelude.{◌≡◌, ◌<◌, [], length};
+ghost use Rattle.std.specs.Prelude.{◌≡◌, ◌<◌, ◌==◌, [], length};
 ghost use Rattle.hesc_table.specs.Index.{candidate_of, ends_of, hash_of, place_of, seeds_of, slots_of};
 
 pub(crate) mod built_in;
@@ -50,7 +50,9 @@ impl<'a> NameIndex<'a> {
 
     /// Whether it gives a row for any name.
     #[inline(always)]
-    pub(crate) fn is_empty(&self) -> bool {
+    pub(crate) fn is_empty(&self) -> bool
+        ensures { result ≡ (length (slots_of self.now) == 0) }
+    {
         self.slots.is_empty()
     }
 

@@ -1,12 +1,12 @@
 //! Tables of entities: which rows make one, and the value of a name.
 #![tactic(auto)]
 
-ghost use Rattle.std.specs.Prelude.{◌≡◌, List, None, IsFalse, IsTrue};
+ghost use Rattle.std.specs.Prelude.{◌≡◌, ◌&&◌, ◌==◌, List, None, IsFalse, IsTrue, length, not, take};
 ghost use Rattle.std.specs.Cmp.Lexicographic.{slice_cmp};
 ghost use Rattle.std.specs.Option.{option_map};
 ghost use Rattle.std.specs.Ordering.{nat_cmp};
 ghost use Rattle.hesc_specs.specs.References.Rows.{Row, value_of};
-ghost use Rattle.hesc_specs.specs.References.TableFaults.{is_table};
+ghost use Rattle.hesc_specs.specs.References.TableFaults.{is_alphanumeric, is_table};
 ghost use Rattle.hesc_table.specs.Growth.{grow_by};
 ghost use Rattle.hesc_table.specs.Index.{is_index_of};
 ghost use Rattle.hesc_table.specs.Rows.{are_near, rows_in};
@@ -43,13 +43,14 @@ pub struct EntityTable<'a> {
 
 impl EntityTable<'static> {
     ghost use Rattle.hesc_table.specs.NamedRows.{named_rows};
-    ghost use Rattle.hesc_table.specs.Table.{rows_of};
+    ghost use Rattle.hesc_table.specs.Table.{knows_its_index, rows_of};
 
     /// The table of [`NAMED_ENTITIES`].
     ///
     /// `built_in().get(b"AElig")` is `Some("\u{C6}")`.
     pub fn built_in() -> EntityTable<'static>
-        ensures { rows_of result ≡ named_rows }
+        ensures rows { rows_of result ≡ named_rows }
+        ensures index { IsTrue (knows_its_index result) }
     {
         EntityTable {
             rows: &BUILT_IN,
@@ -64,7 +65,8 @@ impl<'a> EntityTable<'a> {
     ghost use Rattle.std.specs.Prelude.{IfOk, IfSome, IsNone, None, Some};
     ghost use Rattle.std.specs.Result.{result_err};
     ghost use Rattle.hesc_specs.specs.References.TableFaults.{first_fault};
-    ghost use Rattle.hesc_table.specs.Table.{rows_of};
+    ghost use Rattle.hesc_table.specs.Index.{candidate_of, seeds_of, slots_of};
+    ghost use Rattle.hesc_table.specs.Table.{IsOtherRow, has_whole_index, rows_of};
 
     /// The table of these rows, or their first fault: the rows are checked in order, at each row
     /// the faults in the order of `TableFault`, and at last whether a common name is missing.
@@ -160,6 +162,8 @@ impl<'a> EntityTable<'a> {
     fn get_by_index(&self, name: &[u8]) -> Option<&'a str>
         ensures found { IfSome result (λ value. value_of (rows_of self.now) name.now ≡ Some value.now) }
         ensures missed { IsNone result → IsTrue self.now.is_complete → value_of (rows_of self.now) name.now ≡ None }
+        ensures other { IsNone result → IsOtherRow (candidate_of (seeds_of self.now.index) (slots_of self.now.index) name.now)
+            (rows_of self.now) name.now }
     {
         let candidate = self.index.candidate(name)?;
         if candidate >= self.rows.len() {
@@ -188,6 +192,25 @@ impl<'a> EntityTable<'a> {
         None
     }
 
+    /// Whether the index gives each name its row, so that a name is found at the first row that is
+    /// looked at. All rows are gone through: this is for a test of an index.
+    ///
+    /// Of the built-in table it is `true`, and of a table without an index `false`.
+    pub fn has_whole_index(&self) -> bool
+        ensures { result ≡ has_whole_index self.now }
+    {
+        let mut rest = self.rows;
+        let mut number = 0;
+        'rows: while let [row, others @ ..] = rest {
+            if self.index.candidate(row.0) != Some(number) {
+                return false;
+            }
+            number += 1;
+            rest = others;
+        }
+        true
+    }
+
     /// How much longer than its source a decoded text may be.
     ///
     /// Of the built-in table it is `Growth::Never`.
@@ -211,7 +234,8 @@ impl<'a> EntityTable<'a> {
 // the next `;` mostly has a space or a mark among them.
 #[inline(always)]
 fn may_be_name(name: &[u8]) -> bool
-    ensures { IsFalse result → (rows : List Row) → IsTrue (is_table rows) → value_of rows name.now ≡ None }
+    ensures front { result ≡ (not (length name.now == 0) && is_alphanumeric (take 8 name.now)) }
+    ensures missed { IsFalse result → (rows : List Row) → IsTrue (is_table rows) → value_of rows name.now ≡ None }
 {
     let front = &name[..name.len().min(8)];
     !front.is_empty() && is_alphanumeric(front)

@@ -19,5 +19,5 @@ invariant_of-result c = record {
   complete = rw (c.of.ensures.seeds, c.of.ensures.slots) refl;
 }
 
-pub returns : goal.returns
-returns c = constant-named_rows
+pub returns-clause-rows : goal.returns-clause-rows
+returns-clause-rows c = constant-named_rows

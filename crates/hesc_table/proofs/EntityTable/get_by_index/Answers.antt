@@ -22,13 +22,17 @@ returns-then-candidate-self-clause-missed c none complete =
     let same : k ≡ c.in_ok-candidate.candidate = same_row _ _ _ is (sym c.candidate.ensures ∙ c.in_ok-candidate.was) in
     absurd (omega (arith, same, c.if-candidate-self.true, rw (length-map self.rows.now) at within)))
 
+pub returns-clause-other : goal.returns-clause-other
+returns-clause-other c none k within is =
+    let self = c.args.self.now in
+    let same : k ≡ c.in_ok-candidate.candidate = same_row _ _ _ is (sym c.candidate.ensures ∙ c.in_ok-candidate.was) in
+    rw (same, stored_name self.rows.now c.in_ok-candidate.candidate c.if-candidate-self.false) (sym c.if-eq.ensures)
+
 pub returns-clause-missed : goal.returns-clause-missed
 returns-clause-missed c none complete =
     let self = c.args.self.now in
     missed self.index.seeds.now self.index.slots.now (rows_in self.rows.now) c.args.name.now (all_candidates self.is_complete self.index (rows_in self.rows.now) self.complete complete)
-    (λ k within is.
-    let same : k ≡ c.in_ok-candidate.candidate = same_row _ _ _ is (sym c.candidate.ensures ∙ c.in_ok-candidate.was) in
-    rw (same, stored_name self.rows.now c.in_ok-candidate.candidate c.if-candidate-self.false) (sym c.if-eq.ensures))
+    (returns-clause-other c none)
 
 pub returns-then-eq-clause-found : goal.returns-then-eq-clause-found
 returns-then-eq-clause-found c =
