@@ -66,6 +66,8 @@ impl<'t, R: Rule> Pieces<'t, R> {
       IfNone,
       IfSome,
       None,
+      count_ones,
+      nat_le,
     };
     ghost use Rattle.hesc_specs.specs.Text.Changes.{applied};
     ghost use Rattle.hesc_specs.specs.Text.Parts.{joined, parts, renewed};
@@ -166,13 +168,17 @@ impl<'t, R: Rule> Pieces<'t, R> {
 
     /// The place from which on the bytes ahead are known.
     #[inline(always)]
-    pub(crate) fn known_from(&self) -> usize {
+    pub(crate) fn known_from(&self) -> usize
+        ensures { result ≡ self.now.ahead.start }
+    {
         self.ahead.start
     }
 
     /// Whether so many of the known bytes are looked for that it pays to hand them to the sink at once.
     #[inline(always)]
-    pub(crate) fn is_dense(&self) -> bool {
+    pub(crate) fn is_dense(&self) -> bool
+        ensures { result ≡ nat_le 4 (count_ones self.now.ahead.hits) }
+    {
         self.ahead.hits.count_ones() >= 4
     }
 

@@ -2,6 +2,7 @@ pub mod ParserLaws
 pub mod AttributeLaws
 pub mod ScriptTexts
 pub mod BodyValues
+pub mod FormBounds
 pub mod FormLaw
 pub mod PageLaw
 pub mod AttributeTurns

@@ -5,6 +5,7 @@ pub mod StyleStrings
 pub mod Bodies
 pub mod PlaceLaw
 pub mod EnclosedTexts
+pub mod MostBytes
 pub mod UnquotedEndings
 pub mod PartsTaken
 pub mod Trials

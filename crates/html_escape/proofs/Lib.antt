@@ -1,4 +1,6 @@
+mod DecidedBound
 mod DecoderBounds
+pub mod EncoderBounds
 pub mod Sessions
 pub mod Steps
 pub mod WholePieces

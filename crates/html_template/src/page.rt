@@ -29,6 +29,9 @@ pub(crate) struct Page<'p> {
 impl Parts for Page<'_> {
     ghost text = { λ parts. page (map chunk_of parts.pieces.now) (texts_of parts.texts.now) };
 
+    // The texts may outgrow the room after all.
+    ghost known_length = { λ parts. parts.markup };
+
     fn put_into<S: Sink>(&self, sink: &mut S) -> Result<(), S::Fault> {
         put_pieces(self.pieces, self.texts, sink)
     }

@@ -1,5 +1,5 @@
 //! A rule's text as a text that is borrowed where nothing changes.
-ghost use Rattle.std.specs.Prelude.{◌≡◌, ◌≤◌, IfOk};
+ghost use Rattle.std.specs.Prelude.{◌≡◌, ◌≤◌, IfOk, length};
 ghost use Rattle.std.specs.String.{string_bytes};
 ghost use Rattle.hesc_engine.specs.Forms.{AnswersText};
 
@@ -46,14 +46,13 @@ fn new_by_stack<const N: usize, P: Parts, A: Allocator>(
     alloc: A,
     parts: &P,
 ) -> Result<String<A>, AllocError>
-    requires { N ≤ 416 }
+    requires few { N ≤ 416 }
+    requires suffices { length (P.text parts.now) ≤ N }
     ensures { IfOk result (λ string. string_bytes string ≡ P.text parts.now) }
 {
     let mut short = StackSink::<N>::new();
-    if parts.put_into(&mut short).is_ok() {
-        return String::from_str(alloc, short.as_str());
-    }
-    new_measured(alloc, parts)
+    let _whole = parts.put_into(&mut short);
+    String::from_str(alloc, short.as_str())
 }
 
 #[inline(never)]

@@ -68,7 +68,11 @@ impl<'m, R: Rule> Made<'m, R> {
 }
 
 impl<R: Rule> Parts for Made<'_, R> {
+    ghost use Rattle.std.specs.Prelude.{length};
+
     ghost text = { λ made. R.made made.rule.now made.text.now };
+
+    ghost known_length = { λ made. length (R.made made.rule.now made.text.now) };
 
     #[inline(always)]
     fn put_into<S: Sink>(&self, sink: &mut S) -> Result<(), S::Fault> {

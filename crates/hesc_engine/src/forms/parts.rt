@@ -26,6 +26,9 @@ pub(crate) const STACK_BOUND: usize = 384;
 pub trait Parts {
     ghost text: { Self → List ℕ };
 
+    // How many of its bytes `may_fit` knows of: all of them, where nothing is put twice.
+    ghost known_length: { Self → ℕ };
+
     /// Puts all parts, in order.
     ///
     /// Of what the encoder of text makes of `a<b` it puts `a`, `&lt;` and `b`.
@@ -53,22 +56,27 @@ pub trait Parts {
         Ok(counter.count())
     }
 
-    /// Whether to put the parts into an output that has room for `spare` before anything is measured.
-    /// Where that room does not suffice, they are put twice.
+    /// Whether to put the parts into an output that has room for `spare` before anything is measured:
+    /// only where that room suffices, as far as is known. Where more comes than is known, they are put
+    /// twice.
     ///
     /// Of what a rule makes of a text it is `false`.
     #[inline(always)]
-    fn may_fit(&self, spare: usize) -> bool {
+    fn may_fit(&self, spare: usize) -> bool
+        ensures { IsTrue result → known_length self.now ≤ spare }
+    {
         let _spare = spare;
         false
     }
 
-    /// At least as many bytes as the text has, where it is so short that it is made on the stack
-    /// first. If they are too few, the text is measured after all: a wrong bound costs time alone.
+    /// At least as many bytes as the text has, where they are so few that it is made on the stack first.
     ///
     /// Of what the encoder of text makes of `a<b` it is 18.
     #[inline(always)]
-    fn short_bound(&self) -> Option<usize> {
+    fn short_bound(&self) -> Option<usize>
+        ensures enough { IfSome result (λ bound. length (text self.now) ≤ bound) }
+        ensures short { IfSome result (λ bound. bound ≤ 384) }
+    {
         None
     }
 }
@@ -141,31 +149,29 @@ pub(crate) fn append_short<P: Parts, O: Output>(
     ensures utf8 { IfSome result (λ outcome. OnOk outcome (IsUtf8 (P.text parts.now))) }
 {
     match parts.short_bound() {
-        Some(bound) if bound <= SMALL_BOUND => append_by_stack::<SMALL_STACK, P, O>(output, parts),
-        Some(_) => append_by_stack::<STACK, P, O>(output, parts),
+        Some(bound) if bound <= SMALL_BOUND => {
+            Some(append_by_stack::<SMALL_STACK, P, O>(output, parts))
+        }
+        Some(_) => Some(append_by_stack::<STACK, P, O>(output, parts)),
         None => None,
     }
 }
 
-// The array is set up in this function and no other.
+// The array is set up in this function and no other. It suffices, so that the text is put whole.
 #[inline(never)]
 fn append_by_stack<const N: usize, P: Parts, O: Output>(
     output: &mut O,
     parts: &P,
-) -> Option<Result<(), AllocError>>
-    requires { N ≤ 416 }
-    ensures none { IfNone result (output.new ≡ output.old) }
-    ensures appended { IfSome result (λ outcome.
-        Appended (O.bytes output.old) (O.bytes output.new) (P.text parts.now) outcome) }
-    ensures fits { length (P.text parts.now) ≤ O.room output.old
-        → IfSome result (λ outcome. IsOk outcome) }
-    ensures utf8 { IfSome result (λ outcome. OnOk outcome (IsUtf8 (P.text parts.now))) }
+) -> Result<(), AllocError>
+    requires few { N ≤ 416 }
+    requires suffices { length (P.text parts.now) ≤ N }
+    ensures appended { Appended (O.bytes output.old) (O.bytes output.new) (P.text parts.now) result }
+    ensures fits { length (P.text parts.now) ≤ O.room output.old → IsOk result }
+    ensures utf8 { OnOk result (IsUtf8 (P.text parts.now)) }
 {
     let mut short = StackSink::<N>::new();
-    if parts.put_into(&mut short).is_err() {
-        return None;
-    }
-    Some(output.append_kept(short.as_str()))
+    let _whole = parts.put_into(&mut short);
+    output.append_kept(short.as_str())
 }
 
 // By one request for as much room as is found out first. A call of its own, so that a short text takes

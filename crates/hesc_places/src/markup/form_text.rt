@@ -1,5 +1,5 @@
 //! The text of a form, as parts.
-ghost use Rattle.std.specs.Prelude.{◌≡◌, ◌≤◌, ◌+◌, ◌++◌, length, map, IsOk, OnOk};
+ghost use Rattle.std.specs.Prelude.{◌≡◌, ◌≤◌, ◌<◌, ◌+◌, ◌-◌, ◌^◌, ◌++◌, length, map, IsOk, OnOk};
 ghost use Rattle.std.specs.List.{flat_map};
 ghost use Rattle.hesc_places.specs.Pages.FormTexts.{
   attribute_text,
@@ -27,6 +27,9 @@ pub(crate) struct FormText<'f> {
 impl Parts for FormText<'_> {
     ghost text = { λ form. form_text (map written form.attributes.now) form.script.now };
 
+    ghost known_length = { λ form.
+        length (form_text (map written form.attributes.now) form.script.now) };
+
     fn put_into<S: Sink>(&self, sink: &mut S) -> Result<(), S::Fault> {
         sink.put("<input")?;
         put_attributes(self.attributes, sink)?;
@@ -50,7 +53,7 @@ impl Parts for FormText<'_> {
     #[inline(always)]
     fn may_fit(&self, spare: usize) -> bool {
         let most = self.most();
-        most > SHORT && most <= spare
+        most > SHORT && most < spare
     }
 
     #[inline(always)]
@@ -61,16 +64,15 @@ impl Parts for FormText<'_> {
 }
 
 impl FormText<'_> {
-    // An upper bound of the length, computed without a scan of the values.
-    fn most(&self) -> usize {
-        let mut most = most_encoded(self.script).saturating_add(AROUND);
-        for attribute in self.attributes {
-            let value = most_encoded(attribute.value).saturating_add(AROUND_VALUE);
-            most = most
-                .saturating_add(attribute.name.len())
-                .saturating_add(value);
-        }
-        most
+    // An upper bound of the length, computed without a scan of the values, where it is less than the
+    // greatest `usize`.
+    fn most(&self) -> usize
+        ensures { result < 2 ^ 64 - 1
+            → length (form_text (map written self.now.attributes.now) self.now.script.now) ≤ result }
+    {
+        most_encoded(self.script)
+            .saturating_add(AROUND)
+            .saturating_add(most_attributes(self.attributes))
     }
 }
 
@@ -79,6 +81,28 @@ const AROUND: usize = 36;
 
 // A space, `=` and two quote marks.
 const AROUND_VALUE: usize = 4;
+
+// The same of the attributes alone.
+fn most_attributes(attributes: &[Attribute]) -> usize
+    ensures { result < 2 ^ 64 - 1
+        → length (flat_map attribute_text (map written attributes.now)) ≤ result }
+{
+    let mut most: usize = 0;
+    let mut rest = attributes;
+    'attributes: while let [attribute, others @ ..] = rest {
+        most = most.saturating_add(most_attribute(*attribute));
+        rest = others;
+    }
+    most
+}
+
+fn most_attribute(attribute: Attribute) -> usize
+    ensures { result < 2 ^ 64 - 1 → length (attribute_text (written attribute.entry)) ≤ result }
+{
+    most_encoded(attribute.value)
+        .saturating_add(AROUND_VALUE)
+        .saturating_add(attribute.name.len())
+}
 
 fn put_attributes<S: Sink>(attributes: &[Attribute], sink: &mut S) -> Result<(), S::Fault>
     ensures ok_taken { OnOk result (S.taken sink.new

@@ -1,6 +1,7 @@
 //! What an encoder writes for a text, between the marks of a place, as parts.
-ghost use Rattle.std.specs.Prelude.{◌≡◌, ◌≤◌, ◌+◌, ◌++◌, length, IsOk, OnOk};
+ghost use Rattle.std.specs.Prelude.{◌≡◌, ◌≤◌, ◌<◌, ◌+◌, ◌-◌, ◌^◌, ◌++◌, length, IsOk, OnOk};
 ghost use Rattle.html_escape.specs.Encoders.{encoded};
+ghost use Rattle.html_escape.specs.declared.encoder.Encoder.{Encoder};
 ghost use Rattle.hesc_places.specs.Places.Enclosed.{enclosed};
 
 use crate::place::marks::{closing, opening};
@@ -20,6 +21,8 @@ pub(crate) struct Enclosed<'t> {
 
 impl Parts for Enclosed<'_> {
     ghost text = { λ parts. enclosed parts.encoder parts.place parts.text.now };
+
+    ghost known_length = { λ parts. length (enclosed parts.encoder parts.place parts.text.now) };
 
     fn put_into<S: Sink>(&self, sink: &mut S) -> Result<(), S::Fault> {
         let (before, after) = (opening(self.place), closing(self.place));
@@ -44,7 +47,7 @@ impl Parts for Enclosed<'_> {
     #[inline(always)]
     fn may_fit(&self, spare: usize) -> bool {
         let most = self.most();
-        most > SHORT && most <= spare
+        most > SHORT && most < spare
     }
 
     #[inline(always)]
@@ -55,9 +58,13 @@ impl Parts for Enclosed<'_> {
 }
 
 impl Enclosed<'_> {
-    // An upper bound of the length, computed without a scan of the text.
+    // An upper bound of the length, computed without a scan of the text, where it is less than the
+    // greatest `usize`.
     #[inline(always)]
-    fn most(&self) -> usize {
+    fn most(&self) -> usize
+        ensures { result < 2 ^ 64 - 1
+            → length (enclosed self.now.encoder self.now.place self.now.text.now) ≤ result }
+    {
         most_encoded(self.text).saturating_add(MARKS)
     }
 }
@@ -92,9 +99,11 @@ const MARKS: usize = 17;
 // The most bytes that an encoder writes for one.
 const GROWTH: usize = 6;
 
-/// An upper bound of what any encoder writes for the text.
+/// An upper bound of what any encoder writes for the text, where it is less than the greatest `usize`.
 #[inline(always)]
-pub(crate) fn most_encoded(text: &str) -> usize {
+pub(crate) fn most_encoded(text: &str) -> usize
+    ensures { (encoder : Encoder) → result < 2 ^ 64 - 1 → length (encoded encoder text.now) ≤ result }
+{
     text.len().saturating_mul(GROWTH)
 }
 

@@ -43,7 +43,8 @@ impl<const N: usize> StackSink<N> {
     /// `StackSink::<16>::new().as_str()` is empty.
     #[inline(always)]
     pub fn new() -> StackSink<N>
-        ensures { stack_sink_taken result ≡ [] }
+        ensures nothing { stack_sink_taken result ≡ [] }
+        ensures room { stack_sink_room result ≡ N }
     {
         StackSink {
             bytes: [0; N],

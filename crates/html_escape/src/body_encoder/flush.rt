@@ -35,12 +35,16 @@ pub(crate) struct Flushed<'p> {
     pub(crate) opens: bool,
     pub(crate) piece: &'p str,
     ghost some: { IsTrue opens → 0 < length held.now },
+    ghost few: { length held.now ≤ 8 },
     ghost ascii: { IsAscii held.now },
 }
 
 impl Parts for Flushed<'_> {
     ghost text = { λ parts.
         flushed parts.opens parts.held.now ++ decided_encoding parts.element parts.piece.now };
+
+    ghost known_length = { λ parts. length
+        (flushed parts.opens parts.held.now ++ decided_encoding parts.element parts.piece.now) };
 
     fn put_into<S: Sink>(&self, sink: &mut S) -> Result<(), S::Fault> {
         put_held(self.held, self.opens, sink)?;
@@ -65,7 +69,11 @@ impl Flushed<'_> {
     // An upper bound of the length, computed without a scan of the piece: an opening has four bytes at
     // least, and gets one more.
     #[inline(always)]
-    fn most(&self) -> usize {
+    #[tactic(auto, using(crate::proofs::DecidedBound::most_flushed))]
+    fn most(&self) -> usize
+        ensures { length (flushed self.now.opens self.now.held.now
+            ++ decided_encoding self.now.element self.now.piece.now) ≤ result }
+    {
         let most = self.piece.len() + self.piece.len() / 4;
         most.saturating_add(MOST_BYTES)
     }

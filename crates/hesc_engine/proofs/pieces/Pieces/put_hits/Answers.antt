@@ -1,4 +1,4 @@
-use Rattle.std.proofs.Common.{ℕ, ◌++◌, ◌∙◌, ap, sym}
+use Rattle.std.proofs.Common.{◌++◌, ◌∙◌, ap, sym}
 use Rattle.hesc_specs.proofs.Text.Parts.{parts-joined}
 use Rattle.hesc_specs.specs.Text.Changes.{applied}
 use Rattle.hesc_engine.proofs.pieces.Pieces.put_hits.Goals as goal
