@@ -1,12 +1,13 @@
 //! Escaping by an HTML class: each byte of the class becomes its reference.
-ghost use Rattle.std.specs.Prelude.{◌≡◌, ◌<◌, [], length, IfNone, IfSome};
+ghost use Rattle.std.specs.Prelude.{◌≡◌, ◌<◌, [], length, IfNone, IfSome, IsSome};
 ghost use Rattle.std.specs.Str.{IsCharBoundary};
-ghost use Rattle.hesc_specs.specs.Text.Changes.{html_changes};
+ghost use Rattle.hesc_specs.specs.Text.Changes.{applied, html_changes};
 ghost use Rattle.hesc_specs.specs.Text.Classes.{IsHtml, in_class};
 ghost use Rattle.hesc_specs.specs.Text.Escaped.{escape_changes, escaped};
 ghost use Rattle.hesc_specs.specs.Text.FirstPlace.{IsFirstPlace};
 ghost use Rattle.hesc_specs.proofs.Text.EscapeChanges.{applied-escape_changes};
 ghost use Rattle.hesc_engine.specs.Ahead.{IsAhead};
+ghost use Rattle.hesc_engine.specs.Hits.{Replaces, ascii_rows};
 ghost use Rattle.hesc_engine.specs.Next.{IsNext};
 
 use crate::rules::ahead::{Sought, next_hit};
@@ -62,7 +63,11 @@ impl Rule for HtmlEscape {
     }
 
     #[inline(always)]
-    fn texts(&self, _text: &str) -> Option<AsciiTexts> {
+    fn texts(&self, _text: &str) -> Option<AsciiTexts>
+        ensures replaces { IfSome result (λ texts. Replaces (ascii_rows texts) (in_class self.now.class)
+            _text.now (λ from. applied _text.now from (escape_changes self.now.class _text.now from))) }
+        ensures some { IsSome result }
+    {
         Some(references())
     }
 

@@ -1,11 +1,13 @@
 //! Escaping by a string encoder's class: each character that the encoder replaces becomes its
 //! escape.
-ghost use Rattle.std.specs.Prelude.{◌≡◌, ◌≤◌, ◌<◌, ◌==◌, [], IfNone, IfSome, Some, if◌then◌else◌, length, take};
+ghost use Rattle.std.specs.Prelude.{◌≡◌, ◌≤◌, ◌<◌, ◌==◌, [], IfNone, IfSome, IsSome, Some, if◌then◌else◌, length, take};
 ghost use Rattle.std.specs.Str.{IsAscii, IsCharBoundary};
+ghost use Rattle.hesc_specs.specs.Text.Changes.{applied};
 ghost use Rattle.hesc_specs.specs.Text.Classes.{element_of, in_class};
 ghost use Rattle.hesc_specs.specs.Text.EscapedPlaces.{escapes_at};
 ghost use Rattle.hesc_specs.specs.Text.FirstPlace.{IsFirstAt};
 ghost use Rattle.hesc_engine.specs.Ahead.{IsAhead};
+ghost use Rattle.hesc_engine.specs.Hits.{Replaces, ascii_rows};
 ghost use Rattle.hesc_specs.specs.Text.Escaped.{escape_changes, escaped};
 ghost use Rattle.hesc_specs.proofs.Text.EscapeChanges.{applied-escape_changes};
 ghost use Rattle.hesc_specs.specs.Strings.Encoding.{
@@ -66,7 +68,11 @@ impl Rule for StringEscape {
     }
 
     #[inline(always)]
-    fn texts(&self, _text: &str) -> Option<AsciiTexts> {
+    fn texts(&self, _text: &str) -> Option<AsciiTexts>
+        ensures replaces { IfSome result (λ texts. Replaces (ascii_rows texts) (in_class self.now.class)
+            _text.now (λ from. applied _text.now from (escape_changes self.now.class _text.now from))) }
+        ensures some { IsSome result }
+    {
         Some(escapes(self.element))
     }
 

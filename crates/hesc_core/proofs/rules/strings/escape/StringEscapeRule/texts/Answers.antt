@@ -2,8 +2,8 @@ use Rattle.std.proofs.Common.{arith}
 use Rattle.hesc_core.proofs.StringEscapes.{byte_is_replaced, first_escape}
 use Rattle.hesc_core.proofs.rules.strings.escape.StringEscapeRule.texts.Goals as goal
 
-pub returns : goal.returns
-returns c =
+pub returns-clause-replaces : goal.returns-clause-replaces
+returns-clause-replaces c =
     let rule = c.args.self.now in
     let source = c.args._text.now in
     record {
