@@ -46,6 +46,10 @@ abbrev pub are_candidates : List ℕ → List ℕ → ℕ → List Row → Bool
 are_candidates seeds slots i [] = true
 are_candidates seeds slots i (row ∷ rows) = is_candidate (candidate_of seeds slots row.0) i && are_candidates seeds slots (suc i) rows
 
+-- an index gives each of the rows for its name
+abbrev pub is_whole : NameIndex → List Row → Bool
+is_whole index rows = are_candidates (seeds_of index) (slots_of index) 0 rows
+
 -- what is known of a table's index: where it is complete, it gives each row for its name
 unfoldable pub is_index_of : Bool → NameIndex → List Row → Bool
-is_index_of is_complete index rows = not is_complete || are_candidates (seeds_of index) (slots_of index) 0 rows
+is_index_of is_complete index rows = not is_complete || is_whole index rows

@@ -3,16 +3,20 @@ use Rattle.std.specs.Prelude.{◌≡◌, ◌<◌, ℕ, Bool, false, List, Option
 use Rattle.std.specs.Str.{bytes_eq}
 use Rattle.hesc_specs.specs.Text.Ascii.{ampersand, double_quote, less_than, greater_than}
 use Rattle.hesc_specs.specs.References.Rows.{Row, row_at}
-use Rattle.hesc_table.specs.Index.{are_candidates, seeds_of, slots_of}
+use Rattle.hesc_table.specs.Index.{is_whole}
 use Rattle.hesc_table.specs.Rows.{rows_in}
 use Rattle.hesc_table.specs.declared.EntityTable.{EntityTable}
+use Rattle.hesc_table.specs.declared.index.NameIndex.{NameIndex}
 
 abbrev pub rows_of : EntityTable → List Row
 rows_of table = rows_in table.rows.now
 
+abbrev pub index_of : EntityTable → NameIndex
+index_of table = table.index
+
 -- its index gives each name its row
 abbrev pub has_whole_index : EntityTable → Bool
-has_whole_index table = are_candidates (seeds_of table.index) (slots_of table.index) 0 (rows_of table)
+has_whole_index table = is_whole (index_of table) (rows_of table)
 
 -- and is known to do so
 abbrev pub knows_its_index : EntityTable → Bool

@@ -13,8 +13,8 @@ const SCATTER: u64 = 0x9E37_79B9_7F4A_7C15;
 /// It is made beforehand, by hash and displace (Belazzougui, Botelho, Dietzfelbinger: Hash, displace,
 /// and compress, 2009): the hash of a name chooses a seed, and the seed puts the names that choose it
 /// into slots of their own. Nothing is asked of an index, since the row's name is compared: a wrong one
-/// costs time alone. That of the built-in table is shown to give each name its row, so a name that it
-/// gives another row is in none.
+/// costs time alone. Those of the built-in table and of `html_entities` are shown to give each name its
+/// row, so a name that they give another row is in none.
 #[derive(Clone, Copy)]
 pub struct NameIndex<'a> {
     seeds: &'a [u16],

@@ -65,8 +65,14 @@ impl<'a> EntityTable<'a> {
     ghost use Rattle.std.specs.Prelude.{IfOk, IfSome, IsNone, None, Some};
     ghost use Rattle.std.specs.Result.{result_err};
     ghost use Rattle.hesc_specs.specs.References.TableFaults.{first_fault};
-    ghost use Rattle.hesc_table.specs.Index.{candidate_of, seeds_of, slots_of};
-    ghost use Rattle.hesc_table.specs.Table.{IsOtherRow, has_whole_index, rows_of};
+    ghost use Rattle.hesc_table.specs.Index.{candidate_of, is_whole, seeds_of, slots_of};
+    ghost use Rattle.hesc_table.specs.Table.{
+      IsOtherRow,
+      has_whole_index,
+      index_of,
+      knows_its_index,
+      rows_of,
+    };
 
     /// The table of these rows, or their first fault: the rows are checked in order, at each row
     /// the faults in the order of `TableFault`, and at last whether a common name is missing.
@@ -127,12 +133,12 @@ impl<'a> EntityTable<'a> {
     /// The same with an index of the rows' names, by which a name is found at the first row that is
     /// looked at. Nothing is asked of the index: a wrong one costs time alone.
     ///
-    /// `html_entities()` of the crate `html_entities` is made so: its `get(b"hearts")` is
-    /// `Some("\u{2665}")`.
+    /// Of the six names that every table has, `get(b"nbsp")` is `Some("\u{A0}")` by any index.
     pub fn of_near_indexed(rows: &'a [(&'a [u8], &'a str)], index: NameIndex<'a>) -> EntityTable<'a>
         requires table { IsTrue (is_table (rows_in rows.now)) }
         requires near { IsTrue (are_near (rows_in rows.now)) }
-        ensures { rows_of result ≡ rows_in rows.now }
+        ensures rows { rows_of result ≡ rows_in rows.now }
+        ensures index { index_of result ≡ index.entry }
     {
         EntityTable {
             rows,
@@ -140,6 +146,26 @@ impl<'a> EntityTable<'a> {
             index,
             is_complete: false,
         }
+    }
+
+    /// The same with an index that is shown to give each row for its name: a name that the row it gives
+    /// does not have is then looked for nowhere else.
+    ///
+    /// `html_entities()` of the crate `html_entities` is made so: its `get(b"hearts")` is
+    /// `Some("\u{2665}")`.
+    pub fn of_near_wholly_indexed(
+        rows: &'a [(&'a [u8], &'a str)],
+        index: NameIndex<'a>,
+    ) -> EntityTable<'a>
+        requires table { IsTrue (is_table (rows_in rows.now)) }
+        requires near { IsTrue (are_near (rows_in rows.now)) }
+        requires whole { IsTrue (is_whole index (rows_in rows.now)) }
+        ensures rows { rows_of result ≡ rows_in rows.now }
+        ensures index { IsTrue (knows_its_index result) }
+    {
+        let mut table = EntityTable::of_near_indexed(rows, index);
+        table.is_complete = true;
+        table
     }
 
     /// The value of exactly this name, found by the index of the names or else by halving the rows.
@@ -200,7 +226,7 @@ impl<'a> EntityTable<'a> {
         ensures { result ≡ has_whole_index self.now }
     {
         let mut rest = self.rows;
-        let mut number = 0;
+        let mut number: usize = 0;
         'rows: while let [row, others @ ..] = rest {
             if self.index.candidate(row.0) != Some(number) {
                 return false;

@@ -4,10 +4,10 @@
 //! `decode_html_entities_with(alloc, &html_entities(), "I &hearts; you")?` is `I ♥ you`.
 #![tactic(auto)]
 
-ghost use Rattle.std.specs.Prelude.{◌≡◌, Some, List, ℕ, map};
+ghost use Rattle.std.specs.Prelude.{◌≡◌, IsTrue, Some, List, ℕ, map};
 ghost use Rattle.hesc_specs.specs.References.Rows.{value_of};
 ghost use Rattle.hesc_table.specs.NamedRows.{named_rows};
-ghost use Rattle.hesc_table.specs.Table.{rows_of};
+ghost use Rattle.hesc_table.specs.Table.{knows_its_index, rows_of};
 ghost use Rattle.html_entities.specs.NamedReferences.{named_references};
 
 mod index;
@@ -18,13 +18,14 @@ pub use crate::rows::ROWS;
 use html_escape::{EntityTable, NameIndex};
 
 /// The table of [`ROWS`]. It is total: the rows are shown to make a table when this crate is
-/// proved, and no row is checked when a program runs.
+/// proved, and the index of their names to give each its row. No row is checked when a program runs.
 ///
 /// `html_entities().get(b"hearts")` is `Some("\u{2665}")`.
 pub fn html_entities() -> EntityTable<'static>
-    ensures { rows_of result ≡ named_references }
+    ensures rows { rows_of result ≡ named_references }
+    ensures index { IsTrue (knows_its_index result) }
 {
-    EntityTable::of_near_indexed(all_rows(), NameIndex::of(&SEEDS, &SLOTS))
+    EntityTable::of_near_wholly_indexed(all_rows(), NameIndex::of(&SEEDS, &SLOTS))
 }
 
 // The checker follows the references of a constant one by one, and stops at 2,048 of them: so the

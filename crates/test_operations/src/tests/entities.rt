@@ -86,4 +86,5 @@ fn the_tables_answer_as_they_are_said_to(rt: HostRuntime) {
     built_in_names_law();
     assert!(rt; table.get(b"AElig") == Some("\u{C6}"));
     assert!(rt; EntityTable::built_in().get(b"AElig") == Some("\u{C6}"));
+    assert!(rt; table.has_whole_index() && EntityTable::built_in().has_whole_index());
 }

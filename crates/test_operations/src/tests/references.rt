@@ -94,11 +94,12 @@ fn each_common_name_is_missed(rt: HostRuntime) -> Result<(), Fail> {
 fn rows_are_found_by_any_index(rt: HostRuntime) {
     let table = EntityTable::of_near(&COMMON);
     assert!(rt; table.get(b"nbsp") == Some("\u{A0}"));
-    assert!(rt; table.get(b"copy").is_none());
+    assert!(rt; table.get(b"copy").is_none() && !table.has_whole_index());
     for index in [NameIndex::none(), NameIndex::of(&[1], &[3])] {
         let table = EntityTable::of_near_indexed(&COMMON, index);
         for (name, value) in &COMMON {
             assert!(rt; table.get(name) == Some(*value));
         }
+        assert!(rt; !table.has_whole_index());
     }
 }
