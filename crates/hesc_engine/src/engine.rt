@@ -111,13 +111,16 @@ fn put_left<R: Rule, S: Sink>(pieces: &mut Pieces<'_, R>, sink: &mut S) -> Resul
     ensures same_reference { S.reference sink.new ≡ S.reference sink.old }
     ensures same_before { S.before sink.new ≡ S.before sink.old }
 {
-    let mut known_from = pieces.known_from();
+    // No mask with a change begins at the end.
+    let mut handed_from = pieces.end();
     'putting: while let Some(segment) = pieces.change() {
         sink.put_segment(segment)?;
         // Once for a mask: where the sink stopped, it would mostly stop again.
-        if pieces.known_from() != known_from && pieces.is_dense() {
-            known_from = pieces.known_from();
-            pieces.put_hits(sink);
+        if pieces.known_from() != handed_from {
+            handed_from = pieces.known_from();
+            if pieces.is_dense() {
+                pieces.put_hits(sink);
+            }
         }
     }
     sink.put_some(pieces.rest())

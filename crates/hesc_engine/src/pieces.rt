@@ -60,6 +60,7 @@ impl<'t, R: Rule> Pieces<'t, R> {
       ◌<◌,
       ◌*◌,
       ◌+◌,
+      ◌&&◌,
       [],
       ◌++◌,
       length,
@@ -174,12 +175,22 @@ impl<'t, R: Rule> Pieces<'t, R> {
         self.ahead.start
     }
 
-    /// Whether so many of the known bytes are looked for that it pays to hand them to the sink at once.
+    /// The length of the text.
+    #[inline(always)]
+    pub(crate) fn end(&self) -> usize
+        ensures { result ≡ length self.now.text.now }
+    {
+        self.text.len()
+    }
+
+    /// Whether so many of the known bytes are looked for, and so much of the text is left, that it pays to
+    /// hand them to the sink at once: near the end of the text it takes none.
     #[inline(always)]
     pub(crate) fn is_dense(&self) -> bool
-        ensures { result ≡ nat_le 4 (count_ones self.now.ahead.hits) }
+        ensures { result ≡ (nat_le 4 (count_ones self.now.ahead.hits)
+            && nat_le 20 (length (rest_bytes self.now))) }
     {
-        self.ahead.hits.count_ones() >= 4
+        self.ahead.hits.count_ones() >= 4 && self.rest().len() >= 20
     }
 
     /// Hands the changes that are known to the sink, as many of them as it takes at once.

@@ -5,6 +5,7 @@ mod examples;
 mod first_places;
 mod forms;
 mod long;
+mod masks;
 mod memory;
 mod parts;
 mod pieces;

@@ -6,8 +6,8 @@ use hesc_core::forms::{
     Parts, append_parts, append_parts_to_vec, append_to_string, append_to_vec, onto_string,
     onto_vec, to_cow, to_writer,
 };
-use hesc_core::rules::{Escape, HtmlEscape};
-use hesc_core::{Class, Counter, Piece, Pieces, Replacement, Rule, SmallText, run};
+use hesc_core::rules::{Escape, HtmlEscape, StringEscape};
+use hesc_core::{Class, Counter, Element, Piece, Pieces, Replacement, Rule, SmallText, run};
 use hesc_engine::Ahead;
 use hesc_engine::engine::run_made;
 use std::process::Abort;
@@ -36,6 +36,17 @@ fn a_rule_answers_as_it_is_said_to(rt: HostRuntime) {
         panic!(rt; "it has a text");
     };
     assert!(rt; text.as_str() == "&lt;");
+    let encoder = StringEscape {
+        class: Class::ScriptQuoted,
+        element: Element::Script,
+    };
+    let Some(texts) = encoder.texts("it's") else {
+        panic!(rt; "it has texts");
+    };
+    let Some(text) = texts.text_for(b'\'') else {
+        panic!(rt; "it has a text");
+    };
+    assert!(rt; text.as_str() == "\\'");
 }
 
 #[test]
