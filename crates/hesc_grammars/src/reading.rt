@@ -38,28 +38,29 @@ pub fn read_place<A: Allocator>(
     let mut rest = bytes;
     'reading: while !rest.is_empty() {
         let (plain, other) = rest.split_at(stretch(place, mode, rest));
-        append(&mut value, plain)?;
-        rest = other;
-        match step_of(place, mode, rest) {
+        match step_of(place, mode, other) {
             Step::Close => {
-                let end = bytes.len() - rest.len();
+                append_last(&mut value, plain)?;
+                let end = bytes.len() - other.len();
                 return Ok(Some(Reading { value, end }));
             }
             Step::Nothing => return Ok(None),
             Step::Byte(more, byte, next) => {
-                if more >= rest.len() {
+                if more >= other.len() {
                     return Ok(None);
                 }
+                append(&mut value, plain)?;
                 value.push(byte)?;
-                rest = rest.split_at(more + 1).1;
+                rest = other.split_at(more + 1).1;
                 mode = next;
             }
             Step::Character(more, character, next) => {
-                if more >= rest.len() {
+                if more >= other.len() {
                     return Ok(None);
                 }
+                append(&mut value, plain)?;
                 append_character(&mut value, character)?;
-                rest = rest.split_at(more + 1).1;
+                rest = other.split_at(more + 1).1;
                 mode = next;
             }
         }
@@ -74,6 +75,30 @@ fn append<A: Allocator>(value: &mut Vec<u8, A>, stretch: &[u8]) -> Result<(), Al
     if stretch.is_empty() {
         return Ok(());
     }
+    if stretch.len() >= value.capacity() - value.len() {
+        make_room(value, stretch)?;
+    }
+    value.extend_from_slice(stretch)
+}
+
+// Makes room for a stretch and an item after it, up to a power of two, as pushes alone would: in a room
+// of its own size a long stretch would be doubled by the item.
+#[cold]
+#[inline(never)]
+fn make_room<A: Allocator>(value: &mut Vec<u8, A>, stretch: &[u8]) -> Result<(), AllocError>
+    ensures { value.new.items ≡ value.old.items }
+{
+    let least = value.len() + stretch.len() + 1;
+    let room = least.checked_next_power_of_two().ok_or(AllocError)?;
+    value.reserve(room - value.len())
+}
+
+// No item follows the last stretch, so no more room is asked for.
+#[inline(always)]
+fn append_last<A: Allocator>(value: &mut Vec<u8, A>, stretch: &[u8]) -> Result<(), AllocError>
+    ensures { OnOk result (value.new.items ≡ value.old.items ++ stretch.now) }
+{
+    value.reserve_exact(stretch.len())?;
     value.extend_from_slice(stretch)
 }
 
