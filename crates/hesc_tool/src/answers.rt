@@ -1,5 +1,6 @@
 //! What each command answers to an input, made in memory.
-ghost use Rattle.std.specs.Prelude.{◌≡◌, map, Ok};
+ghost use Rattle.std.specs.Prelude.{◌≡◌, map, MatchResult, Ok};
+ghost use Rattle.std.specs.Str.{IsUtf8};
 ghost use Rattle.hesc_specs.specs.Bodies.Encoding.{body_encoding};
 ghost use Rattle.html_escape.specs.Operations.{operation_text};
 ghost use Rattle.hesc_places.specs.Pages.FormReadings.{form_reading};
@@ -14,6 +15,7 @@ ghost use Rattle.hesc_tool.specs.Answers.{
   page_of,
 };
 ghost use Rattle.hesc_tool.specs.Steps.{IsMade};
+ghost use Rattle.hesc_tool.specs.declared.faults.Fault.TheVariants.{NotUtf8};
 
 use crate::body_lines::append_lines;
 use crate::faults::Fault;
@@ -44,13 +46,22 @@ pub fn make_answer<A: Allocator + Clone>(
     }
 }
 
+// The input, which has to be a text.
+fn text_of(input: &[u8]) -> Result<&str, Fault>
+    ensures { MatchResult result (λ text. (text.now ≡ input.now) × IsUtf8 input.now)
+        (λ fault. (fault ≡ NotUtf8) × (IsUtf8 input.now → ⊥)) }
+{
+    match from_utf8(input) {
+        Ok(text) => Ok(text),
+        Err(_) => Err(Fault::NotUtf8),
+    }
+}
+
 // What the operation makes of a text.
 fn apply<A: Allocator>(alloc: A, operation: Operation, input: &[u8]) -> Result<Vec<u8, A>, Fault>
     ensures { IsMade (AnswersText input.now (Ok (operation_text operation input.now))) result }
 {
-    let Ok(text) = from_utf8(input) else {
-        return Err(Fault::NotUtf8);
-    };
+    let text = text_of(input)?;
     let mut output = String::new(alloc);
     append_to_string(&mut output, &operation, text)?;
     Ok(output.into_bytes())
@@ -64,9 +75,7 @@ fn encoded_by_lines<A: Allocator>(
 ) -> Result<Vec<u8, A>, Fault>
     ensures { IsMade (AnswersText input.now (Ok (body_encoding kind input.now))) result }
 {
-    let Ok(text) = from_utf8(input) else {
-        return Err(Fault::NotUtf8);
-    };
+    let text = text_of(input)?;
     let mut output = String::new(alloc);
     append_lines(&mut output, kind, text)?;
     Ok(output.into_bytes())
@@ -81,9 +90,7 @@ fn enclosed<A: Allocator>(
 ) -> Result<Vec<u8, A>, Fault>
     ensures { IsMade (AnswersText input.now (enclosing encoder place input.now)) result }
 {
-    let Ok(text) = from_utf8(input) else {
-        return Err(Fault::NotUtf8);
-    };
+    let text = text_of(input)?;
     let mut output = String::new(alloc);
     append_enclosed(&mut output, encoder, place, text)?;
     Ok(output.into_bytes())
