@@ -67,6 +67,43 @@ static STRETCHES: [Long; 5] = [
     ("", "&lt;", MILLION / 4, ""),
 ];
 
+// A place, a text of short stretches, and the closing mark. Each stretch goes up to a byte that is near,
+// where the other that could end it comes at the end alone: a search that went on to that one, and began
+// anew for each stretch, would not end.
+static SHORT_STRETCHES: [(Place, Long, &str); 9] = [
+    (Place::Text, ("", "a&lt;", MILLION, ""), "<"),
+    (Place::DoubleAttribute, ("", "a&lt;", MILLION, ""), "\""),
+    (Place::SingleAttribute, ("", "a&lt;", MILLION, ""), "'"),
+    (
+        Place::UnquotedAttribute(End::Space),
+        ("", "a&lt;", MILLION, ""),
+        " ",
+    ),
+    (Place::ScriptSingle, ("", "a\\n", MILLION, ""), "'"),
+    (Place::StyleDouble, ("", "a\\a ", MILLION, ""), "\""),
+    (Place::StyleBody, ("", "a<", 2 * MILLION, ""), "</style>"),
+    (Place::ScriptBody, ("", "a<", 2 * MILLION, ""), "</script>"),
+    (
+        Place::ScriptBody,
+        ("<!--", "a-", 2 * MILLION, ""),
+        "</script>",
+    ),
+];
+
+#[test]
+fn short_stretches_are_read_to_their_end_alone(rt: HostRuntime) -> Result<(), Fail> {
+    for &(place, text, mark) in &SHORT_STRETCHES {
+        let mut text = long_text(rt.alloc(), text)?;
+        let end = text.len();
+        text.push_str(mark)?;
+        let bytes = text.as_bytes();
+        assert!(rt; end_of_place(place, bytes) == Some(end), "{place:?}");
+        let found = read_place(rt.alloc(), place, bytes)?;
+        assert!(rt; found.is_some_and(|found| found.end == end), "{place:?}");
+    }
+    Ok(())
+}
+
 #[test]
 fn long_texts_are_read(rt: HostRuntime) -> Result<(), Fail> {
     for &(place, text, value, mark) in &READ {

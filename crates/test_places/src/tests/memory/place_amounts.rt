@@ -1,7 +1,7 @@
 //! How many bytes are asked for where places, pages and forms are built and read.
 use crate::tests::markup::forms::many_names;
 use hesc_places::{
-    Attribute, Place, Quoting, append_enclosed, build_form, build_page, enclose, read_form,
+    Attribute, End, Place, Quoting, append_enclosed, build_form, build_page, enclose, read_form,
     read_page, read_place, suits,
 };
 use html_escape::{Encoder, Operation};
@@ -10,6 +10,7 @@ use std::process::Abort;
 use std::test::Fail;
 use test_support::Refusing;
 use test_support::amounts::{FOR_EACH_ATTRIBUTE, SMALL, TEXTS, text_of};
+use test_support::long::{Long, long_text};
 use test_support::operations::OPERATIONS;
 use test_support::places::{PLACES, opening_mark};
 
@@ -87,6 +88,48 @@ fn reads_little(alloc: Global, place: Place, after: &str) -> Result<bool, AllocE
         }
         None => Ok(false),
     }
+}
+
+// A place, a text and its closing mark, the bytes that are kept of its value, and the requests for them.
+// Bytes that are read as they stand go in at once, into a room of their own size where no item follows
+// them, and else into one of a power of two.
+static KEPT: [(Place, Long, usize, u64); 9] = [
+    (Place::Text, ("", "a", 1000, "<"), 1000, 1),
+    (Place::Text, ("", "a", 999, "&lt;<"), 1024, 1),
+    (Place::Text, ("&lt;", "a", 999, "<"), 1000, 2),
+    (Place::DoubleAttribute, ("", "a", 1025, "\""), 1025, 1),
+    (
+        Place::UnquotedAttribute(End::Space),
+        ("a", "a", 1000, " "),
+        1001,
+        2,
+    ),
+    (Place::ScriptSingle, ("", "a", 1000, "\\n'"), 1024, 1),
+    (Place::StyleDouble, ("", "a", 1000, "\""), 1000, 1),
+    (Place::ScriptBody, ("<!--", "a", 1000, "</script>"), 1004, 2),
+    (Place::StyleBody, ("", "a", 1000, "</style>"), 1000, 1),
+];
+
+#[test]
+fn a_value_keeps_about_its_length(rt: HostRuntime) -> Result<(), Fail> {
+    for &(place, text, kept, requests) in &KEPT {
+        let text = long_text(rt.alloc(), text)?;
+        let heap = Refusing::new(rt.alloc(), 0);
+        let Some(found) = read_place(&heap, place, text.as_bytes())? else {
+            panic!(rt; "{place:?} has no reading");
+        };
+        assert!(rt;
+            found.value.capacity() == kept,
+            "{place:?} keeps {}",
+            found.value.capacity()
+        );
+        assert!(rt;
+            heap.asked(0) == requests,
+            "{place:?} asks {} times",
+            heap.asked(0)
+        );
+    }
+    Ok(())
 }
 
 #[test]
