@@ -7,7 +7,8 @@ use Rattle.hesc_places.specs.Places.ReadBack.{read_back}
 use Rattle.html_tokenizer.specs.declared.slot_place.SlotPlace.{SlotPlace}
 use Rattle.html_tokenizer.specs.declared.slot_place.SlotPlace.TheVariants as place
 use Rattle.html_tokenizer.specs.declared.states.Content.{Content}
-use Rattle.html_tokenizer.specs.declared.states.Content.TheVariants.{Normal, Title, Textarea, Script, DataBlock, Style}
+use Rattle.html_tokenizer.specs.declared.states.OpenElement.{OpenElement}
+use Rattle.html_tokenizer.specs.declared.states.OpenElement.TheVariants.{DataBlock}
 use Rattle.html_tokenizer.specs.Tokenizer.Actions.{read_byte}
 use Rattle.html_tokenizer.specs.Tokenizer.States.{State, Attribute, Ordinary, Tokenizer, In, BeforeValue, Refused, InCode, at, at_value, refused, data_state}
 use Rattle.html_tokenizer.specs.Standing.{in_code, standing_in, standing, stands, state_after_slot}
@@ -21,13 +22,9 @@ use Rattle.html_tokenizer.proofs.Slots.Styles.{style_stays, style_single_reads, 
 no : false ≡ true → ⊥
 no h = cc
 
-no_code : (p : SlotPlace) (content : Content) → stands p (in_code content) ≡ false
-no_code p Normal = refl
-no_code p Title = refl
-no_code p Textarea = refl
-no_code p Script = refl
+no_code : (p : SlotPlace) (element : OpenElement) → stands p (in_code element) ≡ false
 no_code p DataBlock = refl
-no_code p Style = refl
+no_code p other = refl
 
 -- a slot stands in no attribute but an ordinary one
 slot_ordinary : (p : SlotPlace) (state : State) (content : Content) (attribute : Attribute) →
@@ -36,7 +33,7 @@ slot_ordinary p (In q) content Ordinary may = refl
 slot_ordinary p (In q) content other may = absurd (no may)
 slot_ordinary p BeforeValue content Ordinary may = refl
 slot_ordinary p BeforeValue content other may = absurd (no may)
-slot_ordinary p (InCode kind) content attribute may = absurd (no (sym (no_code p content) ∙ may))
+slot_ordinary p (InCode kind) content attribute may = absurd (no (sym (no_code p content.element) ∙ may))
 slot_ordinary p elsewhere content attribute may = absurd (no may)
 
 -- what the encoder writes for a text in a slot leads to the state after the slot, and is read as the text
@@ -52,7 +49,7 @@ ordinary_passes place.ScriptSingle (In place.ScriptSingle) content text may full
 ordinary_passes place.ScriptDouble (In place.ScriptDouble) content text may full utf8 = script_stays (script_double_reads content) text utf8
 ordinary_passes place.StyleSingle (In place.StyleSingle) content text may full utf8 = style_stays (style_single_reads content) text utf8
 ordinary_passes place.StyleDouble (In place.StyleDouble) content text may full utf8 = style_stays (style_double_reads content) text utf8
-ordinary_passes p (InCode kind) content text may full utf8 = absurd (no (sym (no_code p content) ∙ may))
+ordinary_passes p (InCode kind) content text may full utf8 = absurd (no (sym (no_code p content.element) ∙ may))
 ordinary_passes other elsewhere content text may full utf8 = absurd (no may)
 
 slot_passes : (p : SlotPlace) (state : State) (content : Content) (attribute : Attribute) (text : List ℕ) →

@@ -1,7 +1,7 @@
 -- In a reference or an escape, nothing is held of an attribute.
 use Rattle.std.proofs.Common.{ℕ, ◌≡◌, List, refl}
 use Rattle.html_tokenizer.specs.declared.states.Kind.{Kind}
-use Rattle.html_tokenizer.specs.declared.states.Kind.TheVariants.{Ordinary, Forbidden, Scheme, AfterScheme, AfterSlash, AfterSlashes, Host, ScriptType}
+use Rattle.html_tokenizer.specs.declared.states.Kind.TheVariants.{Ordinary, Forbidden, Scheme, AfterScheme, AfterSlash, AfterSlashes, Host, ScriptType, Encoding, Pragma, PageType, Unread}
 use Rattle.html_tokenizer.specs.Tokenizer.Names.{reference_read}
 use Rattle.html_tokenizer.specs.Tokenizer.Phases.{attribute_in}
 
@@ -15,3 +15,7 @@ reference_read_held AfterSlash before word = refl
 reference_read_held AfterSlashes before word = refl
 reference_read_held Host before word = refl
 reference_read_held ScriptType before word = refl
+reference_read_held Encoding before word = refl
+reference_read_held Pragma before word = refl
+reference_read_held PageType before word = refl
+reference_read_held Unread before word = refl

@@ -9,7 +9,7 @@ use Rattle.html_tokenizer.specs.declared.slot_place.SlotPlace.{SlotPlace}
 use Rattle.html_tokenizer.specs.declared.slot_place.SlotPlace.TheVariants.{Text}
 use Rattle.html_tokenizer.specs.declared.states.Code.TheVariants.{Plain, BlockComment}
 use Rattle.html_tokenizer.specs.declared.states.Content.{Content}
-use Rattle.html_tokenizer.specs.declared.states.Content.TheVariants.{Normal, DataBlock}
+use Rattle.html_tokenizer.specs.declared.states.OpenElement.TheVariants.{DataBlock}
 use Rattle.html_tokenizer.specs.Tokenizer.CodeBytes.{asterisk, block_byte, code_byte}
 use Rattle.html_tokenizer.specs.Tokenizer.Comments.{dash}
 use Rattle.html_tokenizer.specs.Tokenizer.Names.{value_byte_read}
@@ -64,14 +64,14 @@ pub stays_in_block : (content : Content) (b : ℕ) → code_byte BlockComment co
 unfolding consume
 stays_in_block content b is no_asterisk no_less_than = rw (no_less_than, is, no_asterisk) refl
 
-pub stays_in_data_block : (b : ℕ) → (b == less_than) ≡ false →
-    (consume (at (InCode Plain) DataBlock) b).next ≡ at (InCode Plain) DataBlock
+pub stays_in_data_block : (content : Content) (b : ℕ) → content.element ≡ DataBlock → (b == less_than) ≡ false →
+    (consume (at (InCode Plain) content) b).next ≡ at (InCode Plain) content
 unfolding consume
-stays_in_data_block b no_less_than = rw no_less_than refl
+stays_in_data_block content b is no_less_than = rw (no_less_than, is) refl
 
-pub stays_in_comment : (b : ℕ) → (b == dash) ≡ false → (consume (at Comment Normal) b).next ≡ at Comment Normal
+pub stays_in_comment : (content : Content) (b : ℕ) → (b == dash) ≡ false → (consume (at Comment content) b).next ≡ at Comment content
 unfolding consume
-stays_in_comment b no_dash = rw no_dash refl
+stays_in_comment content b no_dash = rw no_dash refl
 
 pub stays_in_text : (content : Content) (attribute : Attribute) (b : ℕ) → value_byte_read attribute b ≡ attribute →
     (b == less_than) ≡ false → (b == ampersand) ≡ false →

@@ -1,29 +1,31 @@
 -- Where a slot stands in what was read, and where a page may end.
-use Rattle.std.specs.Prelude.{◌≡◌, ⊤, Bool, true, false, ◌&&◌, if◌then◌else◌}
+use Rattle.std.specs.Prelude.{◌≡◌, ⊤, Bool, true, false, ◌&&◌, ◌==◌, if◌then◌else◌}
 use Rattle.html_tokenizer.specs.declared.reader.Standing.{Standing}
 use Rattle.html_tokenizer.specs.declared.reader.Standing.TheVariants.{Stands, Nowhere, Barred}
 use Rattle.html_tokenizer.specs.declared.slot_place.SlotPlace.{SlotPlace}
 use Rattle.html_tokenizer.specs.declared.slot_place.SlotPlace.TheVariants.{Text, DoubleQuoted, SingleQuoted, Unquoted, ScriptSingle, ScriptDouble, StyleSingle, StyleDouble}
 use Rattle.html_tokenizer.specs.declared.states.Content.{Content}
-use Rattle.html_tokenizer.specs.declared.states.Content.TheVariants as content
+use Rattle.html_tokenizer.specs.declared.states.OpenElement.{OpenElement}
+use Rattle.html_tokenizer.specs.declared.states.OpenElement.TheVariants as element
 use Rattle.html_tokenizer.specs.Tokenizer.States as state
 use Rattle.html_tokenizer.specs.Tokenizer.States.{State, Attribute, Tokenizer, at, refused}
+use Rattle.html_tokenizer.specs.Tokenizer.Tags.{is_normal}
 
 -- a slot in the value of an attribute, if its text would mean itself
 abbrev pub unless_forbidden : Attribute → SlotPlace → Standing
 unless_forbidden state.Ordinary p = Stands p
 unless_forbidden other p = Barred
 
--- a slot in the code of a script is nowhere, and in a data block in a second language
-abbrev pub in_code : Content → Standing
-in_code content.DataBlock = Barred
+-- a slot in the code of a script is nowhere, and in a data block, or where the rest takes none, in a second language
+abbrev pub in_code : OpenElement → Standing
+in_code element.DataBlock = Barred
 in_code other = Nowhere
 
 -- where a slot stands: within a value, or where a value without quotes may begin
 abbrev pub standing_in : State → Content → Attribute → Standing
 standing_in (state.In p) content attribute = unless_forbidden attribute p
 standing_in state.BeforeValue content attribute = unless_forbidden attribute Unquoted
-standing_in (state.InCode kind) content attribute = in_code content
+standing_in (state.InCode kind) content attribute = in_code content.element
 standing_in other content attribute = Nowhere
 
 abbrev pub standing : Tokenizer → Standing
@@ -57,9 +59,9 @@ abbrev pub is_refused : State → Bool
 is_refused state.Refused = true
 is_refused other = false
 
-abbrev pub is_normal : Content → Bool
-is_normal content.Normal = true
-is_normal other = false
+-- text and elements, outside of templates
+abbrev pub is_outside : Content → Bool
+is_outside content = is_normal content.element && content.templates == 0
 
 abbrev pub is_ordinary : Attribute → Bool
 is_ordinary state.Ordinary = true
@@ -67,7 +69,7 @@ is_ordinary other = false
 
 -- a page may end here
 abbrev pub may_end_in : State → Content → Attribute → Bool
-may_end_in (state.In Text) content attribute = is_normal content && is_ordinary attribute
+may_end_in (state.In Text) content attribute = is_outside content && is_ordinary attribute
 may_end_in other content attribute = false
 
 abbrev pub may_end : Tokenizer → Bool

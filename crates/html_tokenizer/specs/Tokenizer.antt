@@ -2,6 +2,7 @@ pub mod Actions
 pub mod CodeBytes
 pub mod CodeStrings
 pub mod Comments
+pub mod Encodings
 pub mod Names
 pub mod Phases
 pub mod States

@@ -1,43 +1,53 @@
 //! What the names of elements and attributes, and the values of some attributes, mean.
-ghost use Rattle.std.specs.Prelude.{◌≡◌, ℕ, List, [], ◌==◌, if◌then◌else◌};
+ghost use Rattle.std.specs.Prelude.{◌≡◌, ℕ, List, [], ◌==◌, if◌then◌else◌, true};
 ghost use Rattle.hesc_specs.specs.Text.Ascii.{slash};
 ghost use Rattle.html_tokenizer.specs.Tokenizer.Names.{
   attribute_of,
   begins_path,
+  closed,
   content_after,
   content_of,
+  element_of,
   ends_content,
   holds_language,
   holds_url,
+  inside,
   is_javascript,
   is_left_out,
+  is_meta,
+  is_script_tag,
+  is_switch,
+  is_template,
   names_script_type,
   reference_read,
   scheme_end,
   value_byte_read,
   value_of,
+  with_element,
 };
 ghost use Rattle.html_tokenizer.specs.Tokenizer.Phases.{attribute_in, moved, word_after};
 ghost use Rattle.html_tokenizer.specs.declared.states.Kind.TheVariants as kind;
 
-use crate::states::{Content, Kind, Move, Phase, Word, in_value};
+use crate::encodings::{is_utf_8, names_no_other};
+use crate::states::{Content, Kind, Move, OpenElement, Phase, Word, in_value, refuses};
 
-/// How the content of an element is read, if the profile has it.
-pub(crate) fn content_of(name: &[u8]) -> Option<Content>
-    ensures { result ≡ content_of name.now }
+fn element_of(name: &[u8]) -> Option<OpenElement>
+    ensures { result ≡ element_of name.now }
 {
     if name == b"script".as_slice() {
-        Some(Content::Script)
+        Some(OpenElement::Script)
     } else if name == b"style".as_slice() {
-        Some(Content::Style)
+        Some(OpenElement::Style)
     } else if name == b"title".as_slice() {
-        Some(Content::Title)
+        Some(OpenElement::Title)
     } else if name == b"textarea".as_slice() {
-        Some(Content::Textarea)
+        Some(OpenElement::Textarea)
+    } else if name == b"meta".as_slice() {
+        Some(OpenElement::Meta)
     } else if is_left_out(name) {
         None
     } else {
-        Some(Content::Normal)
+        Some(OpenElement::Normal)
     }
 }
 
@@ -56,16 +66,102 @@ fn is_left_out(name: &[u8]) -> bool
         || name == b"frameset".as_slice()
 }
 
-/// Whether an end tag of this name ends the content.
-pub(crate) fn ends_content(content: Content, name: &[u8]) -> bool
-    ensures { result ≡ ends_content content name.now }
+fn is_template(name: &[u8]) -> bool
+    ensures { result ≡ is_template name.now }
 {
-    match content {
-        Content::Normal => true,
-        Content::Title => name == b"title".as_slice(),
-        Content::Textarea => name == b"textarea".as_slice(),
-        Content::Script | Content::DataBlock => name == b"script".as_slice(),
-        Content::Style => name == b"style".as_slice(),
+    name == b"template".as_slice()
+}
+
+fn with_element(content: Content, element: OpenElement) -> Content
+    ensures { result ≡ with_element content element }
+{
+    Content { element, ..content }
+}
+
+/// What is open after the name of a start tag, if the profile has the element there.
+#[inline(always)]
+pub(crate) fn content_of(content: Content, name: &[u8]) -> Option<Content>
+    ensures { result ≡ content_of content name.now }
+{
+    // Most names, and none of those that are asked for.
+    if name.len() < 3 {
+        return Some(with_element(content, OpenElement::Normal));
+    }
+    content_of_long(content, name)
+}
+
+fn content_of_long(content: Content, name: &[u8]) -> Option<Content>
+    ensures { result ≡ content_of content name.now }
+{
+    if is_template(name) {
+        if content.templates == u8::MAX {
+            return None;
+        }
+        let templates = content.templates + 1;
+        Some(Content {
+            templates,
+            ..content
+        })
+    } else if content.templates != 0 && name == b"col".as_slice() {
+        None
+    } else {
+        match element_of(name) {
+            Some(element) => Some(with_element(content, element)),
+            None => None,
+        }
+    }
+}
+
+fn is_meta(element: OpenElement) -> bool
+    ensures { result ≡ is_meta element }
+{
+    matches!(
+        element,
+        OpenElement::Meta
+            | OpenElement::MetaContent
+            | OpenElement::MetaPragma
+            | OpenElement::MetaType
+    )
+}
+
+/// What is open after the `>` of a start tag.
+#[inline(always)]
+pub(crate) fn inside(content: Content) -> Content
+    ensures { result ≡ inside content }
+{
+    if is_meta(content.element) {
+        with_element(content, OpenElement::Normal)
+    } else {
+        content
+    }
+}
+
+/// Whether an end tag of this name ends the content.
+pub(crate) fn ends_content(element: OpenElement, name: &[u8]) -> bool
+    ensures { result ≡ ends_content element name.now }
+{
+    match element {
+        OpenElement::Title => name == b"title".as_slice(),
+        OpenElement::Textarea => name == b"textarea".as_slice(),
+        OpenElement::Script | OpenElement::DataBlock => name == b"script".as_slice(),
+        OpenElement::Style => name == b"style".as_slice(),
+        _ => true,
+    }
+}
+
+/// What is open after the name of an end tag.
+#[inline(always)]
+pub(crate) fn closed(content: Content, name: &[u8]) -> Content
+    ensures { result ≡ closed content name.now }
+{
+    let templates = if content.templates != 0 && is_template(name) {
+        content.templates - 1
+    } else {
+        content.templates
+    };
+    Content {
+        element: OpenElement::Normal,
+        templates,
     }
 }
 
@@ -88,10 +184,18 @@ fn holds_url(name: &[u8]) -> bool
         || name == b"ping".as_slice()
 }
 
+fn is_switch(name: &[u8]) -> bool
+    ensures { result ≡ is_switch name.now }
+{
+    name == b"shadowrootmode".as_slice()
+        || name == b"code".as_slice()
+        || name == b"charset".as_slice()
+}
+
 fn attribute_of(name: &[u8]) -> Kind
     ensures { attribute_in result [] ≡ attribute_of name.now }
 {
-    if holds_language(name) {
+    if holds_language(name) || is_switch(name) {
         Kind::Forbidden
     } else if holds_url(name) {
         Kind::Scheme
@@ -115,32 +219,81 @@ fn is_javascript(value: &[u8]) -> bool
         || value == b"application/javascript".as_slice()
 }
 
+// After the `=` of an attribute of a script, or of a data block.
+#[inline(always)]
+fn script_value(content: Content, name: &[u8]) -> Move
+    requires { is_script_tag content.element ≡ true }
+    ensures { moved result name.now ≡ value_of content name.now }
+{
+    if !names_script_type(name) {
+        return in_value(Phase::BeforeValue, content, attribute_of(name), Word::New);
+    }
+    let kind = if content.element == OpenElement::Script && name == b"type".as_slice() {
+        Kind::ScriptType
+    } else {
+        Kind::Forbidden
+    };
+    in_value(
+        Phase::BeforeValue,
+        with_element(content, OpenElement::DataBlock),
+        kind,
+        Word::New,
+    )
+}
+
+// After the `=` of an attribute of a `meta`.
+fn meta_value(content: Content, name: &[u8]) -> Move
+    requires { is_meta content.element ≡ true }
+    ensures { moved result name.now ≡ value_of content name.now }
+{
+    let pragma = name == b"http-equiv".as_slice();
+    let described = name == b"content".as_slice();
+    let (element, kind) = match content.element {
+        _ if name == b"charset".as_slice() => (content.element, Kind::Encoding),
+        _ if !pragma && !described => (content.element, attribute_of(name)),
+        OpenElement::Meta if pragma => (OpenElement::MetaPragma, Kind::Pragma),
+        OpenElement::Meta | OpenElement::MetaContent if described => (
+            OpenElement::MetaContent,
+            attribute_of(name),
+        ),
+        OpenElement::MetaType if described => (OpenElement::MetaType, Kind::PageType),
+        OpenElement::MetaContent => return refuses(),
+        element => (element, Kind::Forbidden),
+    };
+    in_value(
+        Phase::BeforeValue,
+        with_element(content, element),
+        kind,
+        Word::New,
+    )
+}
+
 /// After the `=` of an attribute.
 #[inline(always)]
 pub(crate) fn value_of(content: Content, name: &[u8]) -> Move
     ensures { moved result name.now ≡ value_of content name.now }
 {
-    let is_script = content == Content::Script || content == Content::DataBlock;
-    let (content, kind) = if is_script && names_script_type(name) {
-        if content == Content::Script && name == b"type".as_slice() {
-            (Content::DataBlock, Kind::ScriptType)
-        } else {
-            (Content::DataBlock, Kind::Forbidden)
-        }
-    } else {
-        (content, attribute_of(name))
-    };
-    in_value(Phase::BeforeValue, content, kind, Word::New)
+    match content.element {
+        OpenElement::Script | OpenElement::DataBlock => script_value(content, name),
+        element if is_meta(element) => meta_value(content, name),
+        _ => in_value(Phase::BeforeValue, content, attribute_of(name), Word::New),
+    }
 }
 
-/// After the value of an attribute.
-pub(crate) fn content_after(content: Content, kind: Kind, word: &[u8]) -> Content
+/// After the value of an attribute, if the profile has it.
+#[inline(always)]
+pub(crate) fn content_after(content: Content, kind: Kind, word: &[u8]) -> Option<Content>
     ensures { result ≡ content_after content (attribute_in kind word.now) }
 {
-    if kind == Kind::ScriptType && is_javascript(word) {
-        Content::Script
-    } else {
-        content
+    match kind {
+        Kind::ScriptType if is_javascript(word) => Some(with_element(content, OpenElement::Script)),
+        Kind::Pragma if word == b"content-type".as_slice() => {
+            Some(with_element(content, OpenElement::MetaType))
+        }
+        Kind::Encoding if !is_utf_8(word) => None,
+        Kind::PageType if !names_no_other(word) => None,
+        Kind::Unread => None,
+        _ => Some(content),
     }
 }
 
@@ -168,14 +321,16 @@ pub(crate) fn value_byte_read(kind: Kind, word: &[u8], byte: u8) -> (Kind, Word)
         ≡ value_byte_read (attribute_in kind word.now) byte }
 {
     let next = match kind {
-        Kind::Ordinary | Kind::Forbidden => kind,
+        Kind::Ordinary | Kind::Forbidden | Kind::Unread => kind,
         Kind::Scheme | Kind::Host if begins_path(byte) => Kind::Ordinary,
         Kind::AfterSlashes if begins_path(byte) => Kind::Forbidden,
         Kind::AfterSlashes | Kind::Host => Kind::Host,
         Kind::Scheme if byte == b':' => scheme_end(word),
         Kind::AfterScheme => slash_read(Kind::AfterSlash, byte),
         Kind::AfterSlash => slash_read(Kind::AfterSlashes, byte),
-        Kind::Scheme | Kind::ScriptType => return (kind, Word::Add(byte.to_ascii_lowercase())),
+        Kind::Scheme | Kind::ScriptType | Kind::Encoding | Kind::Pragma | Kind::PageType => {
+            return (kind, Word::Add(byte.to_ascii_lowercase()));
+        }
     };
     (next, Word::New)
 }
@@ -198,6 +353,7 @@ pub(crate) fn reference_read(kind: Kind) -> Kind
 {
     match kind {
         Kind::Ordinary => Kind::Ordinary,
+        Kind::Encoding | Kind::Pragma | Kind::PageType | Kind::Unread => Kind::Unread,
         _ => Kind::Forbidden,
     }
 }

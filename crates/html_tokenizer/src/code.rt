@@ -7,9 +7,14 @@ ghost use Rattle.html_tokenizer.specs.Tokenizer.CodeBytes.{
   code_byte,
   code_end,
   code_less_byte,
+  import_byte,
   in_code_byte,
   less_in,
+  letters_byte,
   line_byte,
+  longer,
+  module_byte,
+  name_byte,
   script_byte,
   script_code_byte,
   stays,
@@ -17,12 +22,15 @@ ghost use Rattle.html_tokenizer.specs.Tokenizer.CodeBytes.{
   style_code_byte,
   url_byte,
   url_open_byte,
+  without_slots,
 };
 ghost use Rattle.html_tokenizer.specs.Tokenizer.Phases.{moved};
+ghost use Rattle.html_tokenizer.specs.Tokenizer.States.{Forbidden, In, at_value};
 
 use crate::slot_place::SlotPlace;
-use crate::states::{Code, Content, Kind, Move, Phase, Word, in_value, refuses, to};
+use crate::states::{Code, Content, Kind, Move, OpenElement, Phase, Word, in_value, refuses, to};
 use crate::tags::is_space;
+use crate::words::{is_blank, is_name_byte, longer};
 
 #[inline(always)]
 fn stays(code: Code, content: Content, byte: u8) -> Move
@@ -56,20 +64,20 @@ fn block_star_byte(content: Content, byte: u8) -> Move
 }
 
 #[inline(always)]
-fn line_byte(byte: u8) -> Move
-    ensures { (word : List ℕ) → moved result word ≡ (line_byte byte).next }
+fn line_byte(content: Content, byte: u8) -> Move
+    ensures { (word : List ℕ) → moved result word ≡ (line_byte content byte).next }
 {
     let code = match byte {
         b'\n' | b'\r' => Code::Plain,
         0xE2 => Code::LineLead,
         _ => Code::LineComment,
     };
-    stays(code, Content::Script, byte)
+    stays(code, content, byte)
 }
 
 #[inline(always)]
-fn script_byte(byte: u8) -> Move
-    ensures { (word : List ℕ) → moved result word ≡ (script_byte byte).next }
+fn script_byte(content: Content, byte: u8) -> Move
+    ensures { (word : List ℕ) → moved result word ≡ (script_byte content byte).next }
 {
     let phase = match byte {
         b'\'' => Phase::In(SlotPlace::ScriptSingle),
@@ -77,33 +85,107 @@ fn script_byte(byte: u8) -> Move
         b'\\' | b'`' | b'#' => return refuses(),
         b'/' => Phase::InCode(Code::Slash),
         b'-' => Phase::InCode(Code::Dash),
+        b'i' => Phase::InCode(Code::LetterI),
+        b'f' => Phase::InCode(Code::LetterF),
+        _ if is_name_byte(byte) => Phase::InCode(Code::Name),
         _ => Phase::InCode(Code::Plain),
     };
-    to(phase, Content::Script)
+    to(phase, content)
 }
 
 #[inline(always)]
-fn script_code_byte(code: Code, byte: u8) -> Move
-    ensures { (word : List ℕ) → moved result word ≡ (script_code_byte code byte).next }
+fn name_byte(content: Content, byte: u8) -> Move
+    ensures { (word : List ℕ) → moved result word ≡ (name_byte content byte).next }
+{
+    if is_name_byte(byte) {
+        stays(Code::Name, content, byte)
+    } else {
+        script_byte(content, byte)
+    }
+}
+
+// After letters of `import` or `from`.
+fn letters_byte(code: Code, content: Content, byte: u8) -> Move
+    ensures { (word : List ℕ) → moved result word
+        ≡ (letters_byte (longer code byte) content byte).next }
+{
+    match longer(code, byte) {
+        Some(code) => stays(code, content, byte),
+        None => name_byte(content, byte),
+    }
+}
+
+fn without_slots(content: Content) -> Content
+    ensures { result ≡ without_slots content }
+{
+    let element = OpenElement::DataBlock;
+    Content { element, ..content }
+}
+
+// A string begins in which no slot may stand.
+fn begins_without_slot(place: SlotPlace, content: Content) -> Move
+    ensures { (word : List ℕ) → moved result word ≡ at_value (In place) content Forbidden }
+{
+    in_value(Phase::In(place), content, Kind::Forbidden, Word::New)
+}
+
+fn module_byte(content: Content, byte: u8) -> Move
+    ensures { (word : List ℕ) → moved result word ≡ (module_byte content byte).next }
+{
+    let place = match byte {
+        b'\'' => SlotPlace::ScriptSingle,
+        b'"' => SlotPlace::ScriptDouble,
+        b'/' => return stays(Code::Plain, without_slots(content), byte),
+        _ if is_blank(byte) => return stays(Code::Module, content, byte),
+        _ => return script_byte(content, byte),
+    };
+    begins_without_slot(place, content)
+}
+
+fn import_byte(content: Content, byte: u8) -> Move
+    ensures { (word : List ℕ) → moved result word ≡ (import_byte content byte).next }
+{
+    if byte == b'(' || byte == b'.' {
+        stays(Code::Plain, without_slots(content), byte)
+    } else {
+        module_byte(content, byte)
+    }
+}
+
+#[inline(always)]
+fn script_code_byte(code: Code, content: Content, byte: u8) -> Move
+    ensures { (word : List ℕ) → moved result word ≡ (script_code_byte code content byte).next }
 {
     match code {
-        Code::Plain => script_byte(byte),
-        Code::Dash if byte != b'>' => script_byte(byte),
-        Code::Slash if byte == b'/' => stays(Code::LineComment, Content::Script, byte),
-        Code::Slash if byte == b'*' => stays(Code::BlockComment, Content::Script, byte),
-        Code::LineComment => line_byte(byte),
-        Code::LineLead if byte == 0x80 => stays(Code::LineSecond, Content::Script, byte),
-        Code::LineLead => line_byte(byte),
-        Code::LineSecond if byte != 0xA8 && byte != 0xA9 => line_byte(byte),
-        Code::BlockComment => block_byte(Content::Script, byte),
-        Code::BlockStar => block_star_byte(Content::Script, byte),
+        Code::Plain => script_byte(content, byte),
+        Code::LetterI
+        | Code::LettersIm
+        | Code::LettersImp
+        | Code::LettersImpo
+        | Code::LettersImpor
+        | Code::LetterF
+        | Code::LettersFr
+        | Code::LettersFro => letters_byte(code, content, byte),
+        Code::Import if !is_name_byte(byte) => import_byte(content, byte),
+        Code::From if !is_name_byte(byte) => module_byte(content, byte),
+        Code::Name | Code::Import | Code::From => name_byte(content, byte),
+        Code::Module => import_byte(content, byte),
+        Code::Dash if byte != b'>' => script_byte(content, byte),
+        Code::Slash if byte == b'/' => stays(Code::LineComment, content, byte),
+        Code::Slash if byte == b'*' => stays(Code::BlockComment, content, byte),
+        Code::LineComment => line_byte(content, byte),
+        Code::LineLead if byte == 0x80 => stays(Code::LineSecond, content, byte),
+        Code::LineLead => line_byte(content, byte),
+        Code::LineSecond if byte != 0xA8 && byte != 0xA9 => line_byte(content, byte),
+        Code::BlockComment => block_byte(content, byte),
+        Code::BlockStar => block_star_byte(content, byte),
         _ => refuses(),
     }
 }
 
 #[inline(always)]
-fn style_byte(byte: u8) -> Move
-    ensures { (word : List ℕ) → moved result word ≡ (style_byte byte).next }
+fn style_byte(content: Content, byte: u8) -> Move
+    ensures { (word : List ℕ) → moved result word ≡ (style_byte content byte).next }
 {
     let phase = match byte {
         b'\'' => Phase::In(SlotPlace::StyleSingle),
@@ -114,46 +196,48 @@ fn style_byte(byte: u8) -> Move
         b'u' | b'U' => Phase::InCode(Code::LetterU),
         _ => Phase::InCode(Code::Plain),
     };
-    to(phase, Content::Style)
+    to(phase, content)
 }
 
 #[inline(always)]
-fn url_byte(byte: u8) -> Move
-    ensures { (word : List ℕ) → moved result word ≡ (url_byte byte).next }
+fn url_byte(content: Content, byte: u8) -> Move
+    ensures { (word : List ℕ) → moved result word ≡ (url_byte content byte).next }
 {
     match byte {
-        b')' => stays(Code::Plain, Content::Style, byte),
+        b')' => stays(Code::Plain, content, byte),
         b'"' | b'\'' | b'(' | b'\\' => refuses(),
-        _ => stays(Code::Url, Content::Style, byte),
+        b'/' => stays(Code::UrlSlash, content, byte),
+        _ => stays(Code::Url, content, byte),
     }
 }
 
 #[inline(always)]
-fn url_open_byte(byte: u8) -> Move
-    ensures { (word : List ℕ) → moved result word ≡ (url_open_byte byte).next }
+fn url_open_byte(content: Content, byte: u8) -> Move
+    ensures { (word : List ℕ) → moved result word ≡ (url_open_byte content byte).next }
 {
     let place = match byte {
         b'\'' => SlotPlace::StyleSingle,
         b'"' => SlotPlace::StyleDouble,
-        _ if is_space(byte) => return stays(Code::UrlOpen, Content::Style, byte),
-        _ => return url_byte(byte),
+        _ if is_space(byte) => return stays(Code::UrlOpen, content, byte),
+        _ => return url_byte(content, byte),
     };
-    in_value(Phase::In(place), Content::Style, Kind::Forbidden, Word::New)
+    begins_without_slot(place, content)
 }
 
 #[inline(always)]
-fn style_code_byte(code: Code, byte: u8) -> Move
-    ensures { (word : List ℕ) → moved result word ≡ (style_code_byte code byte).next }
+fn style_code_byte(code: Code, content: Content, byte: u8) -> Move
+    ensures { (word : List ℕ) → moved result word ≡ (style_code_byte code content byte).next }
 {
     let longer = match (code, byte) {
         (Code::Slash, b'*') => Code::BlockComment,
         (Code::LetterU, b'r' | b'R') => Code::LettersUr,
         (Code::LettersUr, b'l' | b'L') => Code::LettersUrl,
         (Code::LettersUrl, b'(') => Code::UrlOpen,
-        (Code::BlockComment, _) => return block_byte(Content::Style, byte),
-        (Code::BlockStar, _) => return block_star_byte(Content::Style, byte),
-        (Code::UrlOpen, _) => return url_open_byte(byte),
-        (Code::Url, _) => return url_byte(byte),
+        (Code::BlockComment, _) => return block_byte(content, byte),
+        (Code::BlockStar, _) => return block_star_byte(content, byte),
+        (Code::UrlOpen, _) => return url_open_byte(content, byte),
+        (Code::UrlSlash, b'*') => return refuses(),
+        (Code::Url | Code::UrlSlash, _) => return url_byte(content, byte),
         (Code::At, b'i' | b'I') => return refuses(),
         (
             Code::Plain
@@ -164,22 +248,22 @@ fn style_code_byte(code: Code, byte: u8) -> Move
             | Code::LettersUrl,
             _,
         ) => {
-            return style_byte(byte);
+            return style_byte(content, byte);
         }
-        (Code::Dash | Code::LineComment | Code::LineLead | Code::LineSecond, _) => return refuses(),
+        _ => return refuses(),
     };
-    stays(longer, Content::Style, byte)
+    stays(longer, content, byte)
 }
 
 #[inline(always)]
 fn code_byte(code: Code, content: Content, byte: u8) -> Move
     ensures { (word : List ℕ) → moved result word ≡ (code_byte code content byte).next }
 {
-    match content {
-        Content::Script => script_code_byte(code, byte),
-        Content::Style => style_code_byte(code, byte),
-        Content::DataBlock => stays(Code::Plain, content, byte),
-        Content::Normal | Content::Title | Content::Textarea => refuses(),
+    match content.element {
+        OpenElement::Script => script_code_byte(code, content, byte),
+        OpenElement::Style => style_code_byte(code, content, byte),
+        OpenElement::DataBlock => stays(Code::Plain, content, byte),
+        _ => refuses(),
     }
 }
 
@@ -189,7 +273,7 @@ fn code_after_less(code: Code) -> Code
     match code {
         Code::LineComment | Code::LineLead | Code::LineSecond => Code::LineComment,
         Code::BlockComment | Code::BlockStar => Code::BlockComment,
-        Code::UrlOpen | Code::Url => Code::Url,
+        Code::UrlOpen | Code::Url | Code::UrlSlash => Code::Url,
         _ => Code::Plain,
     }
 }
@@ -198,7 +282,7 @@ fn code_after_less(code: Code) -> Code
 fn less_in(code: Code, content: Content) -> Move
     ensures { (word : List ℕ) → moved result word ≡ (less_in code content).next }
 {
-    if code == Code::Slash && content == Content::Script {
+    if code == Code::Slash && content.element == OpenElement::Script {
         refuses()
     } else {
         to(Phase::CodeLess(code_after_less(code)), content)

@@ -20,18 +20,18 @@ use crate::tags::is_space;
 
 /// After `<!`.
 #[inline(always)]
-pub(crate) fn declaration_byte(word: &[u8], byte: u8) -> Move
-    ensures { moved result word.now ≡ (declaration_byte word.now byte).next }
+pub(crate) fn declaration_byte(content: Content, word: &[u8], byte: u8) -> Move
+    ensures { moved result word.now ≡ (declaration_byte content word.now byte).next }
 {
     if word == b"-".as_slice() {
         if byte == b'-' {
-            to(Phase::CommentStart, Content::Normal)
+            to(Phase::CommentStart, content)
         } else {
             refuses()
         }
     } else if word == b"doctype".as_slice() {
         if is_space(byte) {
-            to(Phase::BeforeDoctype, Content::Normal)
+            to(Phase::BeforeDoctype, content)
         } else {
             refuses()
         }
@@ -40,7 +40,7 @@ pub(crate) fn declaration_byte(word: &[u8], byte: u8) -> Move
     } else {
         goes(
             Phase::Declaration,
-            Content::Normal,
+            content,
             Word::Add(byte.to_ascii_lowercase()),
         )
     }
@@ -48,15 +48,15 @@ pub(crate) fn declaration_byte(word: &[u8], byte: u8) -> Move
 
 /// Before the name of a DOCTYPE.
 #[inline(always)]
-pub(crate) fn before_doctype_byte(byte: u8) -> Move
-    ensures { (word : List ℕ) → moved result word ≡ (before_doctype_byte byte).next }
+pub(crate) fn before_doctype_byte(content: Content, byte: u8) -> Move
+    ensures { (word : List ℕ) → moved result word ≡ (before_doctype_byte content byte).next }
 {
     if is_space(byte) {
-        to(Phase::BeforeDoctype, Content::Normal)
+        to(Phase::BeforeDoctype, content)
     } else if byte.is_ascii_alphabetic() {
         goes(
             Phase::Doctype,
-            Content::Normal,
+            content,
             Word::Begin(byte.to_ascii_lowercase()),
         )
     } else {
@@ -66,13 +66,13 @@ pub(crate) fn before_doctype_byte(byte: u8) -> Move
 
 /// After the name of a DOCTYPE.
 #[inline(always)]
-pub(crate) fn after_doctype_byte(byte: u8) -> Move
-    ensures { (word : List ℕ) → moved result word ≡ (after_doctype_byte byte).next }
+pub(crate) fn after_doctype_byte(content: Content, byte: u8) -> Move
+    ensures { (word : List ℕ) → moved result word ≡ (after_doctype_byte content byte).next }
 {
     if is_space(byte) {
-        to(Phase::AfterDoctype, Content::Normal)
+        to(Phase::AfterDoctype, content)
     } else if byte == b'>' {
-        to(Phase::In(SlotPlace::Text), Content::Normal)
+        to(Phase::In(SlotPlace::Text), content)
     } else {
         refuses()
     }
@@ -80,17 +80,17 @@ pub(crate) fn after_doctype_byte(byte: u8) -> Move
 
 /// In the name of a DOCTYPE.
 #[inline(always)]
-pub(crate) fn doctype_byte(name: &[u8], byte: u8) -> Move
-    ensures { moved result name.now ≡ (doctype_byte name.now byte).next }
+pub(crate) fn doctype_byte(content: Content, name: &[u8], byte: u8) -> Move
+    ensures { moved result name.now ≡ (doctype_byte content name.now byte).next }
 {
     if byte.is_ascii_alphabetic() {
         goes(
             Phase::Doctype,
-            Content::Normal,
+            content,
             Word::Add(byte.to_ascii_lowercase()),
         )
     } else if name == b"html".as_slice() {
-        after_doctype_byte(byte)
+        after_doctype_byte(content, byte)
     } else {
         refuses()
     }
@@ -98,52 +98,52 @@ pub(crate) fn doctype_byte(name: &[u8], byte: u8) -> Move
 
 /// In a comment.
 #[inline(always)]
-pub(crate) fn comment_byte(byte: u8) -> Move
-    ensures { (word : List ℕ) → moved result word ≡ (comment_byte byte).next }
+pub(crate) fn comment_byte(content: Content, byte: u8) -> Move
+    ensures { (word : List ℕ) → moved result word ≡ (comment_byte content byte).next }
 {
     if byte == b'-' {
-        to(Phase::CommentDash, Content::Normal)
+        to(Phase::CommentDash, content)
     } else {
-        to(Phase::Comment, Content::Normal)
+        to(Phase::Comment, content)
     }
 }
 
 /// After `<!--` and `<!---`, where one `-` more leads on so.
 #[inline(always)]
-pub(crate) fn comment_start_byte(following: Phase, byte: u8) -> Move
+pub(crate) fn comment_start_byte(content: Content, following: Phase, byte: u8) -> Move
     ensures start { following ≡ phase.CommentStartDash
-        → (word : List ℕ) → moved result word ≡ (comment_start_byte byte).next }
+        → (word : List ℕ) → moved result word ≡ (comment_start_byte content byte).next }
     ensures dash { following ≡ phase.CommentEnd
-        → (word : List ℕ) → moved result word ≡ (comment_start_dash_byte byte).next }
+        → (word : List ℕ) → moved result word ≡ (comment_start_dash_byte content byte).next }
 {
     match byte {
-        b'-' => to(following, Content::Normal),
+        b'-' => to(following, content),
         b'>' => refuses(),
-        _ => comment_byte(byte),
+        _ => comment_byte(content, byte),
     }
 }
 
 /// After a `-` of a comment.
 #[inline(always)]
-pub(crate) fn comment_dash_byte(byte: u8) -> Move
-    ensures { (word : List ℕ) → moved result word ≡ (comment_dash_byte byte).next }
+pub(crate) fn comment_dash_byte(content: Content, byte: u8) -> Move
+    ensures { (word : List ℕ) → moved result word ≡ (comment_dash_byte content byte).next }
 {
     if byte == b'-' {
-        to(Phase::CommentEnd, Content::Normal)
+        to(Phase::CommentEnd, content)
     } else {
-        comment_byte(byte)
+        comment_byte(content, byte)
     }
 }
 
 /// After a `--` of a comment.
 #[inline(always)]
-pub(crate) fn comment_end_byte(byte: u8) -> Move
-    ensures { (word : List ℕ) → moved result word ≡ (comment_end_byte byte).next }
+pub(crate) fn comment_end_byte(content: Content, byte: u8) -> Move
+    ensures { (word : List ℕ) → moved result word ≡ (comment_end_byte content byte).next }
 {
     match byte {
-        b'>' => to(Phase::In(SlotPlace::Text), Content::Normal),
+        b'>' => to(Phase::In(SlotPlace::Text), content),
         b'!' => refuses(),
-        b'-' => to(Phase::CommentEnd, Content::Normal),
-        _ => comment_byte(byte),
+        b'-' => to(Phase::CommentEnd, content),
+        _ => comment_byte(content, byte),
     }
 }

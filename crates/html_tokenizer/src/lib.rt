@@ -10,6 +10,7 @@ mod attributes;
 mod code;
 mod comments;
 mod consume;
+mod encodings;
 pub mod laws;
 mod names;
 mod reader;
@@ -19,7 +20,8 @@ mod stretches;
 mod strings;
 mod tags;
 mod values;
+mod words;
 
 pub use crate::reader::{Reader, Standing};
 pub use crate::slot_place::SlotPlace;
-pub use crate::states::{Code, Content};
+pub use crate::states::{Code, Content, OpenElement};

@@ -6,13 +6,13 @@ ghost use Rattle.html_tokenizer.specs.Tokenizer.Tokenization.{consume, state_aft
 ghost use Rattle.html_tokenizer.specs.declared.states.Content.{Content};
 
 use crate::slot_place::SlotPlace;
-use crate::states::{Content, Move, Phase};
+use crate::states::{Content, Move, OpenElement, Phase, Word};
 use crate::tags::{attribute_name_byte, end_tag_name_byte, tag_name_byte};
 
-/// Whether the byte is one more of a name as it stands, in a state that holds a name.
+// Whether the byte is one more of a name as it stands, in a state that holds a name.
 #[inline(always)]
 #[tactic(auto, unfolding(crate::specs::Tokenizer::Tokenization::consume))]
-pub(crate) fn lengthens_name(phase: Phase, byte: u8) -> bool
+fn lengthens_name(phase: Phase, byte: u8) -> bool
     ensures { IsTrue result → (content : Content) (word : List ℕ)
         → (consume (at (state_of phase word) content) byte).next
         ≡ at (state_of phase (word ++ byte ∷ [])) content }
@@ -24,6 +24,21 @@ pub(crate) fn lengthens_name(phase: Phase, byte: u8) -> bool
         }
         _ => false,
     }
+}
+
+/// How many of the first bytes are more of a name as they stand, in a state that holds a name.
+#[inline(always)]
+pub(crate) fn name_length(phase: Phase, bytes: &[u8]) -> usize
+    ensures within { result ≤ length bytes.now }
+    ensures read { (content : Content) (word : List ℕ)
+        → state_after (at (state_of phase word) content) (take result bytes.now)
+        ≡ at (state_of phase (word ++ take result bytes.now)) content }
+{
+    let mut count = 0;
+    'name: while count < bytes.len() && lengthens_name(phase, bytes[count]) {
+        count += 1;
+    }
+    count
 }
 
 /// The state after what stands before a name, and after how many bytes: none of them where nothing
@@ -57,24 +72,30 @@ pub(crate) fn begun_name(phase: Phase, content: Content, byte: u8) -> Option<Pha
         ≡ at (state_of next (byte ∷ [])) content) }
 {
     match (phase, byte) {
-        (Phase::TagOpen, b'a'..=b'z') if content == Content::Normal => Some(Phase::TagName),
+        (Phase::TagOpen, b'a'..=b'z') if content.element == OpenElement::Normal => {
+            Some(Phase::TagName)
+        }
         (Phase::EndTagOpen, b'a'..=b'z') => Some(Phase::EndTagName),
         (Phase::BeforeName, b'a'..=b'z') => Some(Phase::Name),
         _ => None,
     }
 }
 
-/// Where the tokenizer goes at a byte in a state that holds a name.
+/// Where the tokenizer goes at a byte after a name, where nothing of the name is held there.
 #[inline(always)]
 #[tactic(auto, unfolding(crate::specs::Tokenizer::Tokenization::consume))]
-pub(crate) fn name_byte(phase: Phase, content: Content, name: &[u8], byte: u8) -> Option<Move>
-    ensures { IfSome result (λ next. moved next name.now
+pub(crate) fn whole_name(phase: Phase, content: Content, name: &[u8], byte: u8) -> Option<Move>
+    ensures { IfSome result (λ next. (held : List ℕ) → moved next held
         ≡ (consume (at (state_of phase name.now) content) byte).next) }
 {
-    match phase {
-        Phase::TagName => Some(tag_name_byte(content, name, byte)),
-        Phase::EndTagName => Some(end_tag_name_byte(content, name, byte)),
-        Phase::Name => Some(attribute_name_byte(content, name, byte)),
+    let next = match phase {
+        Phase::TagName => tag_name_byte(content, name, byte),
+        Phase::EndTagName => end_tag_name_byte(content, name, byte),
+        Phase::Name => attribute_name_byte(content, name, byte),
+        _ => return None,
+    };
+    match next.word {
+        Word::New => Some(next),
         _ => None,
     }
 }

@@ -6,14 +6,16 @@ ghost use Rattle.html_tokenizer.specs.Tokenizer.Names.{reference_read};
 ghost use Rattle.html_tokenizer.specs.Tokenizer.Phases.{attribute_in, moved, tokenizer_of};
 ghost use Rattle.html_tokenizer.specs.Tokenizer.States.{data_state};
 ghost use Rattle.html_tokenizer.specs.Tokenizer.Tokenization.{consume, state_after};
+ghost use Rattle.html_tokenizer.specs.declared.states.OpenElement.TheVariants as element;
 ghost use Rattle.html_tokenizer.specs.declared.states.Kind.TheVariants as kind;
+ghost use Rattle.html_tokenizer.specs.declared.states.Phase.TheVariants as phase;
 
-use crate::attributes::content_after;
+use crate::attributes::{content_after, inside};
 use crate::consume::byte_in;
-use crate::names::{before_name, begun_name, lengthens_name, name_byte};
+use crate::names::{before_name, begun_name, name_length, whole_name};
 use crate::slot_place::SlotPlace;
-use crate::states::{Content, Kind, Move, Phase, Word};
-use crate::stretches::{has_stretches, stretch};
+use crate::states::{Code, Content, Kind, Move, OpenElement, Phase, Word};
+use crate::stretches::{has_stretches, script_words, stretch};
 use crate::strings::script_escape_byte;
 use crate::tags::content_phase;
 use std::alloc::{AllocError, Allocator};
@@ -47,7 +49,7 @@ impl<A: Allocator> Reader<A> {
     {
         Reader {
             phase: Phase::In(SlotPlace::Text),
-            content: Content::Normal,
+            content: Content::NORMAL,
             kind: Kind::Ordinary,
             word: Vec::new(alloc),
         }
@@ -107,32 +109,9 @@ impl<A: Allocator> Reader<A> {
             ≡ state_after (tokenizer_of self.old) (take count bytes.now)) }
         ensures kind { IfOk result (λ count. self.new.kind ≡ kind.Ordinary) }
     {
-        let phase = self.phase;
-        let mut count = 0;
-        'name: while count < bytes.len() && lengthens_name(phase, bytes[count]) {
-            self.word.push(bytes[count])?;
-            count += 1;
-        }
+        let count = name_length(self.phase, bytes);
+        self.word.extend_from_slice(&bytes[..count])?;
         Ok(count)
-    }
-
-    // Reads over the byte that follows the letters of a name, if one is read, and answers how many
-    // bytes.
-    #[inline(always)]
-    fn end_name(&mut self, bytes: &[u8]) -> Result<usize, AllocError>
-        requires { self.old.kind ≡ kind.Ordinary }
-        ensures within { IfOk result (λ count. count ≤ length bytes.now) }
-        ensures read { IfOk result (λ count. tokenizer_of self.new
-            ≡ state_after (tokenizer_of self.old) (take count bytes.now)) }
-    {
-        if bytes.is_empty() {
-            return Ok(0);
-        }
-        let Some(next) = name_byte(self.phase, self.content, &self.word, bytes[0]) else {
-            return Ok(0);
-        };
-        self.go(next)?;
-        Ok(1)
     }
 
     // Reads over the quote mark that opens a value, if one stands there, and answers how many bytes.
@@ -151,22 +130,9 @@ impl<A: Allocator> Reader<A> {
         }
     }
 
-    // Reads on in a name, if one is read, over its end and over the quote mark of its value, and
-    // answers how many bytes.
-    #[inline(always)]
-    fn read_name(&mut self, bytes: &[u8]) -> Result<usize, AllocError>
-        requires { self.old.kind ≡ kind.Ordinary }
-        ensures within { IfOk result (λ count. count ≤ length bytes.now) }
-        ensures read { IfOk result (λ count. tokenizer_of self.new
-            ≡ state_after (tokenizer_of self.old) (take count bytes.now)) }
-    {
-        let letters = self.name_bytes(bytes)?;
-        let ended = letters + self.end_name(&bytes[letters..])?;
-        Ok(ended + self.open_value(&bytes[ended..]))
-    }
-
     // Reads over the beginning of a name and over the name, if one begins, and answers how many
-    // bytes. Not inlined, since three kinds of passes end in it.
+    // bytes. A name that ends here is not held, and its end and the quote mark of its value are read,
+    // too. Not inlined, since three kinds of passes end in it.
     #[inline(never)]
     fn begin_name(&mut self, bytes: &[u8]) -> Result<usize, AllocError>
         requires { self.old.kind ≡ kind.Ordinary }
@@ -174,20 +140,27 @@ impl<A: Allocator> Reader<A> {
         ensures read { IfOk result (λ count. tokenizer_of self.new
             ≡ state_after (tokenizer_of self.old) (take count bytes.now)) }
     {
-        let (phase, count) = before_name(self.phase, bytes);
-        self.phase = phase;
+        let (before, count) = before_name(self.phase, bytes);
+        self.phase = before;
         if count == bytes.len() {
             return Ok(count);
         }
-        let Some(phase) = begun_name(phase, self.content, bytes[count]) else {
+        let Some(phase) = begun_name(before, self.content, bytes[count]) else {
             return Ok(count);
         };
-        self.word.clear();
-        self.word.push(bytes[count])?;
-        self.phase = phase;
         let begun = count + 1;
-        let more = self.read_name(&bytes[begun..])?;
-        Ok(begun + more)
+        let end = begun + name_length(phase, &bytes[begun..]);
+        if end != bytes.len()
+            && let Some(next) = whole_name(phase, self.content, &bytes[count..end], bytes[end])
+        {
+            self.go(next)?;
+            let ended = end + 1;
+            return Ok(ended + self.open_value(&bytes[ended..]));
+        }
+        self.phase = phase;
+        self.word.clear();
+        self.word.extend_from_slice(&bytes[count..end])?;
+        Ok(end)
     }
 
     // Reads over the quote mark that ends a value, if one stands there, and answers how many bytes.
@@ -199,8 +172,11 @@ impl<A: Allocator> Reader<A> {
     {
         match self.phase {
             Phase::In(SlotPlace::DoubleQuoted) if !bytes.is_empty() && bytes[0] == b'"' => {
+                let Some(content) = content_after(self.content, self.kind, &self.word) else {
+                    return 0;
+                };
                 self.phase = Phase::AfterValue;
-                self.content = content_after(self.content, self.kind, &self.word);
+                self.content = content;
                 self.kind = Kind::Ordinary;
                 1
             }
@@ -219,7 +195,8 @@ impl<A: Allocator> Reader<A> {
     {
         match self.phase {
             Phase::AfterValue if !bytes.is_empty() && bytes[0] == b'>' => {
-                self.phase = content_phase(self.content);
+                self.phase = content_phase(self.content.element);
+                self.content = inside(self.content);
                 1
             }
             _ => 0,
@@ -259,6 +236,24 @@ impl<A: Allocator> Reader<A> {
         }
     }
 
+    // Reads on in the code of a script, and answers how many bytes.
+    #[inline(always)]
+    fn read_script(&mut self, code: Code, bytes: &[u8]) -> usize
+        requires phase { self.old.phase ≡ phase.InCode code }
+        requires kind { self.old.kind ≡ kind.Ordinary }
+        requires script { self.old.content.element ≡ element.Script }
+        ensures within { result ≤ length bytes.now }
+        ensures read { tokenizer_of self.new
+            ≡ state_after (tokenizer_of self.old) (take result bytes.now) }
+    {
+        let (count, reached) = script_words(code, bytes);
+        if count != 0 {
+            self.phase = Phase::InCode(reached);
+            return count;
+        }
+        stretch(self.phase, self.content, self.kind, bytes)
+    }
+
     // Reads over the first bytes that lead to no other state, or only through a name or a value.
     // Answers how many, and whether more such bytes may follow.
     #[inline(always)]
@@ -270,11 +265,15 @@ impl<A: Allocator> Reader<A> {
     {
         let count = match (self.phase, self.kind) {
             (Phase::TagName | Phase::EndTagName | Phase::Name, Kind::Ordinary) => {
-                self.read_name(bytes)?
+                self.name_bytes(bytes)?
             }
             (Phase::In(SlotPlace::Text), Kind::Ordinary) => self.read_text(bytes)?,
             (Phase::BeforeName | Phase::AfterValue, Kind::Ordinary) => self.begin_name(bytes)?,
             (Phase::In(SlotPlace::DoubleQuoted), _) => self.read_value(bytes)?,
+            (Phase::InCode(code), Kind::Ordinary) if self.content.element == OpenElement::Script =>
+                {
+                    return Ok((self.read_script(code, bytes), false));
+                }
             _ => return Ok((stretch(self.phase, self.content, self.kind, bytes), false)),
         };
         Ok((count, count != 0))
@@ -317,7 +316,8 @@ impl<A: Allocator> Reader<A> {
         ensures outside { IsTrue result ↔ (tokenizer_of self.now ≡ data_state) }
     {
         self.phase == Phase::In(SlotPlace::Text)
-            && self.content == Content::Normal
+            && self.content.element == OpenElement::Normal
+            && self.content.templates == 0
             && self.kind == Kind::Ordinary
     }
 
@@ -336,7 +336,9 @@ impl<A: Allocator> Reader<A> {
         let place = match self.phase {
             Phase::In(place) => place,
             Phase::BeforeValue => SlotPlace::Unquoted,
-            Phase::InCode(_) if self.content == Content::DataBlock => return Standing::Barred,
+            Phase::InCode(_) if self.content.element == OpenElement::DataBlock => {
+                return Standing::Barred;
+            }
             _ => return Standing::Nowhere,
         };
         if self.kind == Kind::Ordinary {

@@ -5,9 +5,9 @@ ghost use Rattle.html_tokenizer.specs.Tokenizer.States.{at, at_value, refused};
 
 use crate::slot_place::SlotPlace;
 
-/// How the content of the element that is open is read.
+/// How the content of the element that is open is read, and for a `meta` what stands in its tag.
 #[derive(Clone, Copy, Debug, PartialEq, Eq)]
-pub enum Content {
+pub enum OpenElement {
     /// Text and elements.
     Normal,
     /// Text, up to the end tag of `title`.
@@ -16,17 +16,67 @@ pub enum Content {
     Textarea,
     /// A script in JavaScript.
     Script,
-    /// A script in another language, which the Standard calls a data block.
+    /// A script in another language, which the Standard calls a data block, or the rest of a script
+    /// that takes no slot.
     DataBlock,
     /// A style.
     Style,
+    /// The tag of a `meta`.
+    Meta,
+    /// The same after a `content`.
+    MetaContent,
+    /// The same after an `http-equiv`.
+    MetaPragma,
+    /// The same after the `http-equiv` that says the type of the page.
+    MetaType,
+}
+
+/// What is open: an element whose content is read its own way, and templates.
+#[derive(Clone, Copy, Debug, PartialEq, Eq)]
+pub struct Content {
+    /// How the content is read.
+    pub element: OpenElement,
+    /// How many `template` elements are open.
+    pub templates: u8,
+}
+
+impl Content {
+    /// Text and elements, outside of templates.
+    pub const NORMAL: Content = Content {
+        element: OpenElement::Normal,
+        templates: 0,
+    };
 }
 
 /// Where the code of a script or a style is.
 #[derive(Clone, Copy, Debug, PartialEq, Eq)]
 pub enum Code {
-    /// Between strings and comments.
+    /// Between strings and comments, and in a script between words.
     Plain,
+    /// In a word of a script that becomes neither `import` nor `from`.
+    Name,
+    /// In a word of a script, after `i`.
+    LetterI,
+    /// After `im`.
+    LettersIm,
+    /// After `imp`.
+    LettersImp,
+    /// After `impo`.
+    LettersImpo,
+    /// After `impor`.
+    LettersImpor,
+    /// After `import`.
+    Import,
+    /// In a word of a script, after `f`.
+    LetterF,
+    /// After `fr`.
+    LettersFr,
+    /// After `fro`.
+    LettersFro,
+    /// After `from`.
+    From,
+    /// After `import` or `from` and a blank.
+    Module,
     /// After a `-` of a script.
     Dash,
     /// After a `/`.
@@ -53,6 +103,8 @@ pub enum Code {
     UrlOpen,
     /// In a URL without quotes.
     Url,
+    /// After a `/` of such a URL.
+    UrlSlash,
 }
 
 /// A state, without its word.
@@ -97,6 +149,10 @@ pub(crate) enum Kind {
     AfterSlashes,
     Host,
     ScriptType,
+    Encoding,
+    Pragma,
+    PageType,
+    Unread,
 }
 
 /// What becomes of the word.
@@ -153,5 +209,5 @@ pub(crate) fn to(phase: Phase, content: Content) -> Move
 pub(crate) fn refuses() -> Move
     ensures { (held : List ℕ) → moved result held ≡ refused }
 {
-    to(Phase::Refused, Content::Normal)
+    to(Phase::Refused, Content::NORMAL)
 }

@@ -7,29 +7,29 @@ ghost use Rattle.html_tokenizer.specs.Tokenizer.Phases.{attribute_in, state_of};
 ghost use Rattle.html_tokenizer.specs.Tokenizer.States.{Attribute, In, InCode, at, at_value};
 ghost use Rattle.html_tokenizer.specs.Tokenizer.Tokenization.{consume, state_after};
 ghost use Rattle.html_tokenizer.specs.declared.states.Content.{Content};
+ghost use Rattle.html_tokenizer.specs.declared.states.OpenElement.TheVariants.{Script};
 
 use crate::slot_place::SlotPlace;
-use crate::states::{Code, Content, Kind, Phase};
+use crate::states::{Code, Content, Kind, OpenElement, Phase};
+use crate::words::next_word;
 use hesc_scan::find::{first_byte, first_of_two};
 
 // Whether the tokenizer stays in the code at the byte.
 #[inline(always)]
 #[tactic(auto, unfolding(crate::specs::Tokenizer::Tokenization::consume))]
-fn stays_in_code(code: Code, content: Content, byte: u8) -> bool
-    ensures { IsTrue result
+fn stays_in_code(code: Code, element: OpenElement, byte: u8) -> bool
+    ensures { IsTrue result → (content : Content) → content.element ≡ element
         → (consume (at (InCode code) content) byte).next ≡ at (InCode code) content }
 {
-    match (content, code) {
-        (Content::Script, Code::Plain) => !matches!(
-            byte,
-            b'"' | b'\'' | b'\\' | b'`' | b'#' | b'/' | b'-' | b'<'
-        ),
-        (Content::Script, Code::LineComment) => !matches!(byte, b'\n' | b'\r' | 0xE2 | b'<'),
-        (Content::Style, Code::Plain) => !matches!(
+    match (element, code) {
+        (OpenElement::Script, Code::LineComment) => !matches!(byte, b'\n' | b'\r' | 0xE2 | b'<'),
+        (OpenElement::Style, Code::Plain) => !matches!(
             byte,
             b'"' | b'\'' | b'\\' | b'/' | b'@' | b'u' | b'U' | b'<'
         ),
-        (Content::Style, Code::Url) => !matches!(byte, b'"' | b'\'' | b'(' | b')' | b'\\' | b'<'),
+        (OpenElement::Style, Code::Url) => {
+            !matches!(byte, b'"' | b'\'' | b'(' | b')' | b'\\' | b'<' | b'/')
+        }
         _ => false,
     }
 }
@@ -37,13 +37,14 @@ fn stays_in_code(code: Code, content: Content, byte: u8) -> bool
 // Where the code is given by its name, a loop of its own.
 #[inline(always)]
 #[tactic(auto, using(crate::proofs::Staying::stays_longer))]
-fn code_bytes(code: Code, content: Content, bytes: &[u8]) -> usize
+fn code_bytes(code: Code, element: OpenElement, bytes: &[u8]) -> usize
     ensures within { result ≤ length bytes.now }
-    ensures stays { state_after (at (InCode code) content) (take result bytes.now)
+    ensures stays { (content : Content) → content.element ≡ element
+        → state_after (at (InCode code) content) (take result bytes.now)
         ≡ at (InCode code) content }
 {
     let mut count = 0;
-    'code: while count < bytes.len() && stays_in_code(code, content, bytes[count]) {
+    'code: while count < bytes.len() && stays_in_code(code, element, bytes[count]) {
         count += 1;
     }
     count
@@ -55,18 +56,37 @@ fn code_stretch(code: Code, content: Content, bytes: &[u8]) -> usize
     ensures stays { state_after (at (InCode code) content) (take result bytes.now)
         ≡ at (InCode code) content }
 {
-    match (content, code) {
-        (Content::Script, Code::Plain) => code_bytes(Code::Plain, Content::Script, bytes),
-        (Content::Script, Code::LineComment) => {
-            code_bytes(Code::LineComment, Content::Script, bytes)
+    match (content.element, code) {
+        (OpenElement::Script, Code::LineComment) => {
+            code_bytes(Code::LineComment, OpenElement::Script, bytes)
         }
-        (Content::Script, Code::BlockComment) => first_of_two(b'*', b'<', bytes, 0),
-        (Content::Style, Code::Plain) => code_bytes(Code::Plain, Content::Style, bytes),
-        (Content::Style, Code::Url) => code_bytes(Code::Url, Content::Style, bytes),
-        (Content::Style, Code::BlockComment) => first_of_two(b'*', b'<', bytes, 0),
-        (Content::DataBlock, Code::Plain) => first_byte(b'<', bytes, 0),
+        (OpenElement::Script, Code::BlockComment) => first_of_two(b'*', b'<', bytes, 0),
+        (OpenElement::Style, Code::Plain) => code_bytes(Code::Plain, OpenElement::Style, bytes),
+        (OpenElement::Style, Code::Url) => code_bytes(Code::Url, OpenElement::Style, bytes),
+        (OpenElement::Style, Code::BlockComment) => first_of_two(b'*', b'<', bytes, 0),
+        (OpenElement::DataBlock, Code::Plain) => first_byte(b'<', bytes, 0),
         _ => 0,
     }
+}
+
+/// How many of the first bytes of a script's code lead from word to word, and where they lead.
+#[inline(always)]
+pub(crate) fn script_words(code: Code, bytes: &[u8]) -> (usize, Code)
+    ensures within { result.0 ≤ length bytes.now }
+    ensures read { (content : Content) → content.element ≡ Script
+        → state_after (at (InCode code) content) (take result.0 bytes.now)
+        ≡ at (InCode result.1) content }
+{
+    let mut reached = code;
+    let mut count = 0;
+    'words: while count < bytes.len() {
+        let Some(next) = next_word(reached, bytes[count]) else {
+            return (count, reached);
+        };
+        reached = next;
+        count += 1;
+    }
+    (count, reached)
 }
 
 // Whether the tokenizer stays in the value at the byte, unless the byte tells what the value means.
@@ -149,7 +169,7 @@ pub(crate) fn stretch(phase: Phase, content: Content, kind: Kind, bytes: &[u8]) 
     match (phase, content, kind) {
         (Phase::In(place), _, Kind::Ordinary | Kind::Forbidden) => value_stretch(place, bytes),
         (Phase::InCode(code), _, Kind::Ordinary) => code_stretch(code, content, bytes),
-        (Phase::Comment, Content::Normal, Kind::Ordinary) => first_byte(b'-', bytes, 0),
+        (Phase::Comment, _, Kind::Ordinary) => first_byte(b'-', bytes, 0),
         _ => 0,
     }
 }

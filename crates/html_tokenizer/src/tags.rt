@@ -15,6 +15,7 @@ ghost use Rattle.html_tokenizer.specs.Tokenizer.Tags.{
   first_name_byte,
   in_tag,
   is_name_error,
+  is_normal,
   is_space,
   opened,
   self_closing_byte,
@@ -23,9 +24,9 @@ ghost use Rattle.html_tokenizer.specs.Tokenizer.Tags.{
 };
 ghost use Rattle.html_tokenizer.specs.Tokenizer.Transitions.{Transition};
 
-use crate::attributes::{content_of, ends_content, value_of};
+use crate::attributes::{closed, content_of, ends_content, inside, value_of};
 use crate::slot_place::SlotPlace;
-use crate::states::{Code, Content, Move, Phase, Word, goes, refuses, to};
+use crate::states::{Code, Content, Move, OpenElement, Phase, Word, goes, refuses, to};
 
 pub(crate) fn is_space(byte: u8) -> bool
     ensures { result ≡ is_space byte }
@@ -34,13 +35,21 @@ pub(crate) fn is_space(byte: u8) -> bool
 }
 
 /// Where the content of an element begins.
-pub(crate) fn content_phase(content: Content) -> Phase
-    ensures { (word : List ℕ) → state_of result word ≡ content_state content }
+pub(crate) fn content_phase(element: OpenElement) -> Phase
+    ensures { (word : List ℕ) → state_of result word ≡ content_state element }
 {
-    match content {
-        Content::Normal | Content::Title | Content::Textarea => Phase::In(SlotPlace::Text),
-        Content::Script | Content::DataBlock | Content::Style => Phase::InCode(Code::Plain),
+    match element {
+        OpenElement::Script | OpenElement::DataBlock | OpenElement::Style => Phase::InCode(
+            Code::Plain,
+        ),
+        _ => Phase::In(SlotPlace::Text),
     }
+}
+
+fn is_normal(element: OpenElement) -> bool
+    ensures { result ≡ is_normal element }
+{
+    element == OpenElement::Normal
 }
 
 /// At the `>` of a start tag.
@@ -48,7 +57,7 @@ pub(crate) fn content_phase(content: Content) -> Phase
 pub(crate) fn opened(content: Content) -> Move
     ensures { (word : List ℕ) → moved result word ≡ (opened content).next }
 {
-    to(content_phase(content), content)
+    to(content_phase(content.element), inside(content))
 }
 
 // At white space, `/` or `>` of a start tag, and else at another byte.
@@ -74,13 +83,14 @@ fn in_tag(blank: Move, content: Content, byte: u8, other: Move) -> Move
 pub(crate) fn tag_open_byte(content: Content, byte: u8) -> Move
     ensures { (word : List ℕ) → moved result word ≡ (tag_open_byte content byte).next }
 {
-    if content == Content::Normal && byte.is_ascii_alphabetic() {
+    let normal = is_normal(content.element);
+    if normal && byte.is_ascii_alphabetic() {
         goes(
             Phase::TagName,
             content,
             Word::Begin(byte.to_ascii_lowercase()),
         )
-    } else if content == Content::Normal && byte == b'!' {
+    } else if normal && byte == b'!' {
         to(Phase::Declaration, content)
     } else {
         refuses()
@@ -115,7 +125,7 @@ pub(crate) fn tag_name_byte(content: Content, name: &[u8], byte: u8) -> Move
     ensures { moved result name.now ≡ (tag_name_byte content name.now byte).next }
 {
     if ends_name(byte) {
-        match content_of(name) {
+        match content_of(content, name) {
             Some(content) => after_value_byte(content, byte),
             None => refuses(),
         }
@@ -132,13 +142,13 @@ pub(crate) fn tag_name_byte(content: Content, name: &[u8], byte: u8) -> Move
 
 /// In an end tag, after its name.
 #[inline(always)]
-pub(crate) fn end_tag_byte(byte: u8) -> Move
-    ensures { (word : List ℕ) → moved result word ≡ (end_tag_byte byte).next }
+pub(crate) fn end_tag_byte(content: Content, byte: u8) -> Move
+    ensures { (word : List ℕ) → moved result word ≡ (end_tag_byte content byte).next }
 {
     if byte == b'>' {
-        to(Phase::In(SlotPlace::Text), Content::Normal)
+        to(Phase::In(SlotPlace::Text), content)
     } else if is_space(byte) {
-        to(Phase::AfterEndTagName, Content::Normal)
+        to(Phase::AfterEndTagName, content)
     } else {
         refuses()
     }
@@ -150,8 +160,8 @@ pub(crate) fn end_tag_name_byte(content: Content, name: &[u8], byte: u8) -> Move
     ensures { moved result name.now ≡ (end_tag_name_byte content name.now byte).next }
 {
     if ends_name(byte) {
-        if ends_content(content, name) {
-            end_tag_byte(byte)
+        if ends_content(content.element, name) {
+            end_tag_byte(closed(content, name), byte)
         } else {
             refuses()
         }

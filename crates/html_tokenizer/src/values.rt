@@ -1,11 +1,12 @@
 //! What a byte does in text and in the value of an attribute.
-ghost use Rattle.std.specs.Prelude.{◌≡◌, ℕ, List};
+ghost use Rattle.std.specs.Prelude.{◌≡◌, ℕ, List, []};
 ghost use Rattle.html_tokenizer.specs.Tokenizer.Names.{reference_read};
-ghost use Rattle.html_tokenizer.specs.Tokenizer.Phases.{attribute_in, moved};
-ghost use Rattle.html_tokenizer.specs.Tokenizer.Transitions.{keeps};
+ghost use Rattle.html_tokenizer.specs.Tokenizer.Phases.{attribute_in, moved, state_of};
+ghost use Rattle.html_tokenizer.specs.Tokenizer.Transitions.{goes, keeps};
 ghost use Rattle.html_tokenizer.specs.Tokenizer.Values.{
   before_value_byte,
   begins_character,
+  ended,
   quoted_byte,
   reference_byte,
   text_byte,
@@ -78,6 +79,18 @@ pub(crate) fn text_byte(content: Content, kind: Kind, word: &[u8], byte: u8) -> 
     }
 }
 
+// After a value, if the profile has it.
+#[inline(always)]
+fn ended(phase: Phase, content: Option<Content>) -> Move
+    ensures { (word : List ℕ) → moved result word
+        ≡ (ended content (λ content. goes (state_of phase []) content [])).next }
+{
+    match content {
+        Some(content) => to(phase, content),
+        None => refuses(),
+    }
+}
+
 /// In a value between two quote marks.
 #[inline(always)]
 pub(crate) fn quoted_byte(
@@ -92,7 +105,7 @@ pub(crate) fn quoted_byte(
         ≡ (quoted_byte mark place content (attribute_in kind word.now) byte).next }
 {
     if byte == mark {
-        to(Phase::AfterValue, content_after(content, kind, word))
+        ended(Phase::AfterValue, content_after(content, kind, word))
     } else if byte == b'&' {
         begins_character(place, content, kind)
     } else {
@@ -120,9 +133,12 @@ pub(crate) fn unquoted_value_byte(content: Content, kind: Kind, word: &[u8], byt
         ≡ (unquoted_value_byte content (attribute_in kind word.now) byte).next }
 {
     if is_space(byte) {
-        to(Phase::BeforeName, content_after(content, kind, word))
+        ended(Phase::BeforeName, content_after(content, kind, word))
     } else if byte == b'>' {
-        opened(content_after(content, kind, word))
+        match content_after(content, kind, word) {
+            Some(content) => opened(content),
+            None => refuses(),
+        }
     } else {
         unquoted_byte(content, kind, word, byte)
     }

@@ -90,7 +90,7 @@ fn pages_have_the_structure_that_the_laws_say(rt: HostRuntime) -> Result<(), Fai
 
 #[test]
 fn texts_are_read_as_the_law_of_agreement_says(rt: HostRuntime) -> Result<(), AllocError> {
-    laws::agreement_law(Content::Normal, b"a&lt;b<");
+    laws::agreement_law(Content::NORMAL, b"a&lt;b<");
     let Some(reading) = read_place(rt.alloc(), Place::Text, b"a&lt;b<")? else {
         panic!(rt; "the text has an end");
     };

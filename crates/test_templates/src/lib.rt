@@ -13,6 +13,8 @@ mod memory;
 #[cfg(test)]
 mod named;
 #[cfg(test)]
+mod otherwise;
+#[cfg(test)]
 mod pages;
 #[cfg(test)]
 mod pairs;

@@ -49,6 +49,10 @@ attribute_in kind.AfterSlash word = state.AfterSlash
 attribute_in kind.AfterSlashes word = state.AfterSlashes
 attribute_in kind.Host word = state.Host
 attribute_in kind.ScriptType word = state.ScriptType word
+attribute_in kind.Encoding word = state.Encoding word
+attribute_in kind.Pragma word = state.Pragma word
+attribute_in kind.PageType word = state.PageType word
+attribute_in kind.Unread word = state.Unread
 
 abbrev pub word_after : Word → List ℕ → List ℕ
 word_after New word = []

@@ -6,8 +6,8 @@ use Rattle.std.specs.Prelude.{ℕ, List}
 use Rattle.html_tokenizer.specs.declared.slot_place.SlotPlace.{SlotPlace}
 use Rattle.html_tokenizer.specs.declared.slot_place.SlotPlace.TheVariants as place
 use Rattle.html_tokenizer.specs.declared.states.Content.{Content}
-use Rattle.html_tokenizer.specs.declared.states.Content.TheVariants.{Normal}
 use Rattle.html_tokenizer.specs.declared.states.Code.{Code}
+use Rattle.html_tokenizer.specs.declared.states.OpenElement.TheVariants.{Normal}
 
 pub data State : Type 0 where
   -- 13.2.5.1 Data state, 13.2.5.2 RCDATA state, 13.2.5.36 to 13.2.5.38 Attribute value states; a string's value
@@ -69,6 +69,12 @@ pub data Attribute : Type 0 where
   Host : Attribute
   -- the type of a script, and its bytes so far
   ScriptType : List ℕ → Attribute
+  -- of a `meta`: its `charset`, its `http-equiv`, its `content` where that is the type of the page, and their bytes so far
+  Encoding : List ℕ → Attribute
+  Pragma : List ℕ → Attribute
+  PageType : List ℕ → Attribute
+  -- one of these three, with a reference in it
+  Unread : Attribute
 
 pub record Tokenizer : Type 0 where
   pub state : State
@@ -81,9 +87,13 @@ at state content = record { state = state; content = content; attribute = Ordina
 abbrev pub at_value : State → Content → Attribute → Tokenizer
 at_value state content attribute = record { state = state; content = content; attribute = attribute }
 
+-- text and elements, outside of templates
+abbrev pub normal : Content
+normal = record { element = Normal; templates = 0 }
+
 abbrev pub refused : Tokenizer
-refused = at Refused Normal
+refused = at Refused normal
 
 -- where a page begins and ends
 abbrev pub data_state : Tokenizer
-data_state = at (In place.Text) Normal
+data_state = at (In place.Text) normal

@@ -2,16 +2,17 @@
 -- HTML Standard, 13.2.5.6 to 13.2.5.8, 13.2.5.32 to 13.2.5.35, 13.2.5.39 and 13.2.5.40, where the bytes
 -- that the standard calls errors have no reading. A carriage return is white space: the standard
 -- makes it a line feed before it tokenizes (13.2.3.5).
-use Rattle.std.specs.Prelude.{ℕ, Bool, ◌||◌, List, [], ◌∷◌, ◌++◌, ◌==◌, Option, Some, None, if◌then◌else◌}
+use Rattle.std.specs.Prelude.{ℕ, Bool, true, false, ◌&&◌, ◌||◌, List, [], ◌∷◌, ◌++◌, ◌==◌, Option, Some, None, if◌then◌else◌}
 use Rattle.std.specs.Char.{is_ascii_alphabetic, to_ascii_lowercase}
 use Rattle.hesc_specs.specs.Text.Ascii.{carriage_return, double_quote, single_quote, slash, less_than, equals_sign, greater_than}
 use Rattle.hesc_grammars.specs.Words.{is_white_space}
 use Rattle.html_tokenizer.specs.declared.slot_place.SlotPlace.TheVariants as place
 use Rattle.html_tokenizer.specs.declared.states.Code.TheVariants.{Plain}
 use Rattle.html_tokenizer.specs.declared.states.Content.{Content}
-use Rattle.html_tokenizer.specs.declared.states.Content.TheVariants.{Normal, Title, Textarea, Script, DataBlock, Style}
+use Rattle.html_tokenizer.specs.declared.states.OpenElement.{OpenElement}
+use Rattle.html_tokenizer.specs.declared.states.OpenElement.TheVariants.{Normal, Script, DataBlock, Style}
 use Rattle.html_tokenizer.specs.Tokenizer.Actions.{NewStartTag, NewEndTag, TagNameByte, NewAttribute, NameByte, SetSelfClosing, EmitTag}
-use Rattle.html_tokenizer.specs.Tokenizer.Names.{content_of, ends_content, value_of}
+use Rattle.html_tokenizer.specs.Tokenizer.Names.{closed, content_of, ends_content, inside, value_of}
 use Rattle.html_tokenizer.specs.Tokenizer.States as state
 use Rattle.html_tokenizer.specs.Tokenizer.States.{State, Attribute, at_value}
 use Rattle.html_tokenizer.specs.Tokenizer.Transitions.{Transition, goes, moves, refuses}
@@ -24,17 +25,19 @@ abbrev pub exclamation_mark : ℕ
 exclamation_mark = 33
 
 -- where the content of an element begins
-abbrev pub content_state : Content → State
-content_state Normal = state.In place.Text
-content_state Title = state.In place.Text
-content_state Textarea = state.In place.Text
+abbrev pub content_state : OpenElement → State
 content_state Script = state.InCode Plain
 content_state DataBlock = state.InCode Plain
 content_state Style = state.InCode Plain
+content_state other = state.In place.Text
+
+abbrev pub is_normal : OpenElement → Bool
+is_normal Normal = true
+is_normal other = false
 
 -- at the `>` of a start tag
 abbrev pub opened : Content → Transition
-opened content = goes (content_state content) content (EmitTag ∷ [])
+opened content = goes (content_state content.element) (inside content) (EmitTag ∷ [])
 
 -- at white space, `/` or `>` of a start tag, and else at another byte
 abbrev pub in_tag : State → Content → ℕ → Transition → Transition
@@ -46,12 +49,11 @@ in_tag blank content b other =
 
 -- 13.2.5.6 Tag open state, but for `/`: in a content of text alone no other tag begins
 abbrev pub tag_open_byte : Content → ℕ → Transition
-tag_open_byte Normal b =
-    if is_ascii_alphabetic b
-    then goes (state.TagName (to_ascii_lowercase b ∷ [])) Normal (NewStartTag ∷ TagNameByte (to_ascii_lowercase b) ∷ [])
-    else (if b == exclamation_mark then goes (state.Declaration []) Normal []
+tag_open_byte content b =
+    if is_normal content.element && is_ascii_alphabetic b
+    then goes (state.TagName (to_ascii_lowercase b ∷ [])) content (NewStartTag ∷ TagNameByte (to_ascii_lowercase b) ∷ [])
+    else (if is_normal content.element && b == exclamation_mark then goes (state.Declaration []) content []
     else refuses)
-tag_open_byte other b = refuses
 
 -- 13.2.5.7 End tag open state
 abbrev pub end_tag_open_byte : Content → ℕ → Transition
@@ -72,21 +74,21 @@ after_element_name (Some content) b = in_tag state.BeforeName content b refuses
 -- 13.2.5.8 Tag name state of a start tag
 abbrev pub tag_name_byte : Content → List ℕ → ℕ → Transition
 tag_name_byte content name b =
-    if ends_name b then after_element_name (content_of name) b
+    if ends_name b then after_element_name (content_of content name) b
     else (if b == 0 then refuses
     else goes (state.TagName (name ++ to_ascii_lowercase b ∷ [])) content (TagNameByte (to_ascii_lowercase b) ∷ []))
 
 -- white space or `>` in an end tag
-abbrev pub end_tag_byte : ℕ → Transition
-end_tag_byte b =
-    if is_space b then goes state.AfterEndTagName Normal []
-    else (if b == greater_than then goes (state.In place.Text) Normal (EmitTag ∷ [])
+abbrev pub end_tag_byte : Content → ℕ → Transition
+end_tag_byte content b =
+    if is_space b then goes state.AfterEndTagName content []
+    else (if b == greater_than then goes (state.In place.Text) content (EmitTag ∷ [])
     else refuses)
 
 -- 13.2.5.8 Tag name state of an end tag
 abbrev pub end_tag_name_byte : Content → List ℕ → ℕ → Transition
 end_tag_name_byte content name b =
-    if ends_name b then (if ends_content content name then end_tag_byte b else refuses)
+    if ends_name b then (if ends_content content.element name then end_tag_byte (closed content name) b else refuses)
     else (if b == 0 then refuses
     else goes (state.EndTagName (name ++ to_ascii_lowercase b ∷ [])) content (TagNameByte (to_ascii_lowercase b) ∷ []))
 
@@ -129,4 +131,4 @@ after_value_byte content b = in_tag state.BeforeName content b refuses
 -- 13.2.5.40 Self-closing start tag state
 abbrev pub self_closing_byte : Content → ℕ → Transition
 self_closing_byte content b =
-    if b == greater_than then goes (content_state content) content (SetSelfClosing ∷ EmitTag ∷ []) else refuses
+    if b == greater_than then goes (content_state content.element) (inside content) (SetSelfClosing ∷ EmitTag ∷ []) else refuses

@@ -44,7 +44,7 @@ byte_in state.TagOpen content attribute b = if b == slash then goes state.EndTag
 byte_in state.EndTagOpen content attribute b = end_tag_open_byte content b
 byte_in (state.TagName name) content attribute b = tag_name_byte content name b
 byte_in (state.EndTagName name) content attribute b = end_tag_name_byte content name b
-byte_in state.AfterEndTagName content attribute b = end_tag_byte b
+byte_in state.AfterEndTagName content attribute b = end_tag_byte content b
 byte_in state.BeforeName content attribute b = before_name_byte content b
 byte_in (state.Name name) content attribute b = attribute_name_byte content name b
 byte_in (state.AfterName name) content attribute b = after_name_byte content name b
@@ -53,15 +53,15 @@ byte_in state.AfterValue content attribute b = after_value_byte content b
 byte_in state.SelfClosing content attribute b = self_closing_byte content b
 byte_in (state.InCode kind) content attribute b = in_code_byte kind content b
 byte_in (state.CodeLess kind) content attribute b = code_less_byte kind content b
-byte_in (state.Declaration word) content attribute b = declaration_byte word b
-byte_in state.BeforeDoctype content attribute b = before_doctype_byte b
-byte_in (state.Doctype name) content attribute b = doctype_byte name b
-byte_in state.AfterDoctype content attribute b = after_doctype_byte b
-byte_in state.CommentStart content attribute b = comment_start_byte b
-byte_in state.CommentStartDash content attribute b = comment_start_dash_byte b
-byte_in state.Comment content attribute b = comment_byte b
-byte_in state.CommentDash content attribute b = comment_dash_byte b
-byte_in state.CommentEnd content attribute b = comment_end_byte b
+byte_in (state.Declaration word) content attribute b = declaration_byte content word b
+byte_in state.BeforeDoctype content attribute b = before_doctype_byte content b
+byte_in (state.Doctype name) content attribute b = doctype_byte content name b
+byte_in state.AfterDoctype content attribute b = after_doctype_byte content b
+byte_in state.CommentStart content attribute b = comment_start_byte content b
+byte_in state.CommentStartDash content attribute b = comment_start_dash_byte content b
+byte_in state.Comment content attribute b = comment_byte content b
+byte_in state.CommentDash content attribute b = comment_dash_byte content b
+byte_in state.CommentEnd content attribute b = comment_end_byte content b
 byte_in state.Refused content attribute b = refuses
 
 -- consume the next input character

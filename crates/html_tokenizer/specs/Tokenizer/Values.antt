@@ -38,10 +38,15 @@ text_byte content attribute b =
     else (if b == ampersand then begins_character Text content attribute
     else keeps Text content attribute b)
 
+-- after a value, if the profile has it
+abbrev pub ended : Option Content → (Content → Transition) → Transition
+ended None next = refuses
+ended (Some content) next = next content
+
 -- 13.2.5.36 Attribute value (double-quoted) state, 13.2.5.37 Attribute value (single-quoted) state
 abbrev pub quoted_byte : ℕ → SlotPlace → Content → Attribute → ℕ → Transition
 quoted_byte mark p content attribute b =
-    if b == mark then goes state.AfterValue (content_after content attribute) []
+    if b == mark then ended (content_after content attribute) (λ content. goes state.AfterValue content [])
     else (if b == ampersand then begins_character p content attribute
     else keeps p content attribute b)
 
@@ -55,8 +60,8 @@ unquoted_byte content attribute b =
 -- 13.2.5.38 Attribute value (unquoted) state
 abbrev pub unquoted_value_byte : Content → Attribute → ℕ → Transition
 unquoted_value_byte content attribute b =
-    if is_space b then goes state.BeforeName (content_after content attribute) []
-    else (if b == greater_than then opened (content_after content attribute)
+    if is_space b then ended (content_after content attribute) (λ content. goes state.BeforeName content [])
+    else (if b == greater_than then ended (content_after content attribute) opened
     else unquoted_byte content attribute b)
 
 -- 13.2.5.35 Before attribute value state
