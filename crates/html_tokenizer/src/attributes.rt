@@ -195,9 +195,11 @@ fn is_switch(name: &[u8]) -> bool
 fn attribute_of(name: &[u8]) -> Kind
     ensures { attribute_in result [] ≡ attribute_of name.now }
 {
-    if holds_language(name) || is_switch(name) {
+    // Most names begin with none of these letters.
+    let first = name.first().copied().unwrap_or(0);
+    if matches!(first, b'o' | b's' | b'c') && (holds_language(name) || is_switch(name)) {
         Kind::Forbidden
-    } else if holds_url(name) {
+    } else if matches!(first, b'a' | b'd' | b'f' | b'h' | b'p' | b's' | b'x') && holds_url(name) {
         Kind::Scheme
     } else {
         Kind::Ordinary
