@@ -1,5 +1,5 @@
 -- Stretches of bytes at which the tokenizer stays where it is.
-use Rattle.std.proofs.Common.{ℕ, zero, suc, ◌≡◌, ◌<◌, ◌≤◌, ◌+◌, ◌-◌, Bool, false, List, [], ◌∷◌, ◌==◌, ◌||◌, length, take, drop, slice_index, refl, ap, sym, ◌∙◌, arith}
+use Rattle.std.proofs.Common.{ℕ, zero, suc, ◌≡◌, ◌<◌, ◌≤◌, ◌+◌, ◌-◌, Bool, true, false, not, List, [], ◌∷◌, ◌==◌, ◌||◌, length, take, drop, slice_index, refl, ap, sym, ◌∙◌, arith}
 use Rattle.std.proofs.lemmas.Bool.{or_parts}
 use Rattle.std.proofs.Math.Seq.{take-add}
 use Rattle.std.proofs.lemmas.List.{take_more, take_rest}
@@ -86,3 +86,8 @@ pub stays_in_quotes : (mark : ℕ) (p : SlotPlace) (content : Content) (attribut
 unfolding consume
 stays_in_quotes mark p content attribute b is settled no_mark no_ampersand =
     rw (is b, no_mark, no_ampersand, settled) refl
+
+-- what a test that answers the contrary says
+pub contrary : (b other : Bool) → b ≡ true → b ≡ not other → other ≡ false
+contrary b true is says = cc
+contrary b false is says = refl

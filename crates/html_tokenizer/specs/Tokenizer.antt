@@ -6,6 +6,7 @@ pub mod Encodings
 pub mod Names
 pub mod Phases
 pub mod States
+pub mod Stretches
 pub mod Tags
 pub mod Tokenization
 pub mod Transitions

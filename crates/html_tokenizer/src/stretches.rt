@@ -1,11 +1,25 @@
 //! Stretches of bytes at which the tokenizer stays where it is.
 //!
-//! A count may be less than the whole stretch, never more.
-ghost use Rattle.std.specs.Prelude.{◌≡◌, ◌≤◌, ℕ, List, length, take, IsTrue};
+//! Of values and code a stretch goes up to the first byte that leads elsewhere.
+ghost use Rattle.std.specs.Prelude.{◌≡◌, ◌≤◌, ◌<◌, ◌==◌, ℕ, List, None, length, slice_index, take, IsTrue, false, not, true};
+ghost use Rattle.hesc_specs.specs.Text.FirstPlace.{IsFirstPlace};
+ghost use Rattle.html_tokenizer.specs.Tokenizer.Comments.{dash};
 ghost use Rattle.html_tokenizer.specs.Tokenizer.Names.{value_byte_read};
 ghost use Rattle.html_tokenizer.specs.Tokenizer.Phases.{attribute_in, state_of};
 ghost use Rattle.html_tokenizer.specs.Tokenizer.States.{Attribute, In, InCode, at, at_value};
+ghost use Rattle.html_tokenizer.specs.Tokenizer.Stretches.{
+  IsSettled,
+  is_gone_over,
+  is_searched,
+  leaves_code,
+  leaves_value,
+  word_after,
+};
 ghost use Rattle.html_tokenizer.specs.Tokenizer.Tokenization.{consume, state_after};
+ghost use Rattle.html_tokenizer.specs.declared.slot_place.SlotPlace.{SlotPlace};
+ghost use Rattle.html_tokenizer.specs.declared.states.Code.{Code};
+ghost use Rattle.html_tokenizer.specs.declared.states.Kind.TheVariants as kinds;
+ghost use Rattle.html_tokenizer.specs.declared.states.Phase.TheVariants as phases;
 ghost use Rattle.html_tokenizer.specs.declared.states.Content.{Content};
 ghost use Rattle.html_tokenizer.specs.declared.states.OpenElement.TheVariants.{Script};
 
@@ -18,8 +32,10 @@ use hesc_scan::find::{first_byte, first_of_two};
 #[inline(always)]
 #[tactic(auto, unfolding(crate::specs::Tokenizer::Tokenization::consume))]
 fn stays_in_code(code: Code, element: OpenElement, byte: u8) -> bool
-    ensures { IsTrue result → (content : Content) → content.element ≡ element
+    requires { is_gone_over element code ≡ true }
+    ensures stays { IsTrue result → (content : Content) → content.element ≡ element
         → (consume (at (InCode code) content) byte).next ≡ at (InCode code) content }
+    ensures leaves { result ≡ not (leaves_code element code byte) }
 {
     match (element, code) {
         (OpenElement::Script, Code::LineComment) => !matches!(byte, b'\n' | b'\r' | 0xE2 | b'<'),
@@ -38,7 +54,8 @@ fn stays_in_code(code: Code, element: OpenElement, byte: u8) -> bool
 #[inline(always)]
 #[tactic(auto, using(crate::proofs::Staying::stays_longer))]
 fn code_bytes(code: Code, element: OpenElement, bytes: &[u8]) -> usize
-    ensures within { result ≤ length bytes.now }
+    requires { is_gone_over element code ≡ true }
+    ensures whole { IsFirstPlace (leaves_code element code) bytes.now 0 result }
     ensures stays { (content : Content) → content.element ≡ element
         → state_after (at (InCode code) content) (take result bytes.now)
         ≡ at (InCode code) content }
@@ -52,7 +69,7 @@ fn code_bytes(code: Code, element: OpenElement, bytes: &[u8]) -> usize
 
 #[inline(always)]
 fn code_stretch(code: Code, content: Content, bytes: &[u8]) -> usize
-    ensures within { result ≤ length bytes.now }
+    ensures whole { IsFirstPlace (leaves_code content.element code) bytes.now 0 result }
     ensures stays { state_after (at (InCode code) content) (take result bytes.now)
         ≡ at (InCode code) content }
 {
@@ -76,6 +93,8 @@ pub(crate) fn script_words(code: Code, bytes: &[u8]) -> (usize, Code)
     ensures read { (content : Content) → content.element ≡ Script
         → state_after (at (InCode code) content) (take result.0 bytes.now)
         ≡ at (InCode result.1) content }
+    ensures whole { result.0 < length bytes.now
+        → word_after result.1 (slice_index bytes.now result.0) ≡ None }
 {
     let mut reached = code;
     let mut count = 0;
@@ -94,7 +113,9 @@ pub(crate) fn script_words(code: Code, bytes: &[u8]) -> (usize, Code)
 #[inline(always)]
 #[tactic(auto, unfolding(crate::specs::Tokenizer::Tokenization::consume))]
 fn stays_in_value(place: SlotPlace, byte: u8) -> bool
-    ensures { IsTrue result → (content : Content) (attribute : Attribute)
+    requires { is_searched place ≡ false }
+    ensures leaves { result ≡ not (leaves_value place byte) }
+    ensures stays { IsTrue result → (content : Content) (attribute : Attribute)
         → value_byte_read attribute byte ≡ attribute
         → (consume (at_value (In place) content attribute) byte).next
         ≡ at_value (In place) content attribute }
@@ -119,7 +140,8 @@ fn stays_in_value(place: SlotPlace, byte: u8) -> bool
 #[inline(always)]
 #[tactic(auto, using(crate::proofs::Staying::stays_longer))]
 fn value_bytes(place: SlotPlace, bytes: &[u8]) -> usize
-    ensures within { result ≤ length bytes.now }
+    requires { is_searched place ≡ false }
+    ensures whole { IsFirstPlace (leaves_value place) bytes.now 0 result }
     ensures stays { (content : Content) (attribute : Attribute)
         → ((b : ℕ) → value_byte_read attribute b ≡ attribute)
         → state_after (at_value (In place) content attribute) (take result bytes.now)
@@ -134,7 +156,7 @@ fn value_bytes(place: SlotPlace, bytes: &[u8]) -> usize
 
 #[inline(always)]
 fn value_stretch(place: SlotPlace, bytes: &[u8]) -> usize
-    ensures within { result ≤ length bytes.now }
+    ensures whole { IsFirstPlace (leaves_value place) bytes.now 0 result }
     ensures stays { (content : Content) (attribute : Attribute)
         → ((b : ℕ) → value_byte_read attribute b ≡ attribute)
         → state_after (at_value (In place) content attribute) (take result bytes.now)
@@ -161,6 +183,12 @@ fn value_stretch(place: SlotPlace, bytes: &[u8]) -> usize
 #[inline(always)]
 pub(crate) fn stretch(phase: Phase, content: Content, kind: Kind, bytes: &[u8]) -> usize
     ensures within { result ≤ length bytes.now }
+    ensures value { (place : SlotPlace) → phase ≡ phases.In place → IsSettled kind
+        → IsFirstPlace (leaves_value place) bytes.now 0 result }
+    ensures code { (code : Code) → phase ≡ phases.InCode code → kind ≡ kinds.Ordinary
+        → IsFirstPlace (leaves_code content.element code) bytes.now 0 result }
+    ensures comment { phase ≡ phases.Comment → kind ≡ kinds.Ordinary
+        → IsFirstPlace (λ b. b == dash) bytes.now 0 result }
     ensures stays { (word : List ℕ)
         → state_after (at_value (state_of phase word) content (attribute_in kind word))
         (take result bytes.now)

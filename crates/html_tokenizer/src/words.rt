@@ -2,6 +2,7 @@
 ghost use Rattle.std.specs.Prelude.{◌≡◌, IfSome};
 ghost use Rattle.html_tokenizer.specs.Tokenizer.CodeBytes.{is_blank, is_name_byte, longer};
 ghost use Rattle.html_tokenizer.specs.Tokenizer.States.{InCode, at};
+ghost use Rattle.html_tokenizer.specs.Tokenizer.Stretches.{word_after};
 ghost use Rattle.html_tokenizer.specs.Tokenizer.Tokenization.{consume};
 ghost use Rattle.html_tokenizer.specs.declared.states.Content.{Content};
 ghost use Rattle.html_tokenizer.specs.declared.states.OpenElement.TheVariants.{Script};
@@ -46,7 +47,8 @@ pub(crate) fn longer(code: Code, byte: u8) -> Option<Code>
 #[inline(always)]
 #[tactic(auto, unfolding(crate::specs::Tokenizer::Tokenization::consume))]
 pub(crate) fn next_word(code: Code, byte: u8) -> Option<Code>
-    ensures { IfSome result (λ next. (content : Content) → content.element ≡ Script
+    ensures exact { result ≡ word_after code byte }
+    ensures leads { IfSome result (λ next. (content : Content) → content.element ≡ Script
         → (consume (at (InCode code) content) byte).next ≡ at (InCode next) content) }
 {
     // Nearly all are letters, which are looked for first.

@@ -7,5 +7,5 @@ pub words-preserved : goal.words-preserved
 words-preserved c = record {
   within = omega arith;
   read = λ content is. sym (reads_longer (at (InCode c.args.code) content) (at (InCode c.words.reached) content) (at (InCode c.in-Some.next) content) c.args.bytes.now c.words.count (omega arith)
-      (sym (c.words.invariant.read content is)) (c.in-Some.ensures content is));
+      (sym (c.words.invariant.read content is)) (c.in-Some.ensures.leads content is));
 }

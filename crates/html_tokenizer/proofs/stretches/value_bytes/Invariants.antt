@@ -1,13 +1,15 @@
-use Rattle.std.proofs.Common.{ℕ, ◌≡◌, ◌-◌, ◌≤◌, length, take}
+use Rattle.std.proofs.Common.{ℕ, ◌≡◌, ◌-◌, ◌≤◌, ◌<◌, false, length, slice_index, take}
 use Rattle.html_tokenizer.specs.declared.states.Content.{Content}
 use Rattle.html_tokenizer.specs.Tokenizer.Names.{value_byte_read}
 use Rattle.html_tokenizer.specs.Tokenizer.States.{Attribute, In, at_value}
+use Rattle.html_tokenizer.specs.Tokenizer.Stretches.{leaves_value}
 use Rattle.html_tokenizer.specs.Tokenizer.Tokenization.{state_after}
 use Rattle.html_tokenizer.proofs.stretches.value_bytes.Given as goal
 
 abbrev pub invariant-value : goal.invariant-value
 invariant-value l = record {
   within : l.count ≤ length l.bytes;
+  none : (k : ℕ) → k < l.count → leaves_value l.place (slice_index l.bytes k) ≡ false;
   stays : (content : Content) (attribute : Attribute) → ((b : ℕ) → value_byte_read attribute b ≡ attribute) →
       state_after (at_value (In l.place) content attribute) (take l.count l.bytes) ≡ at_value (In l.place) content attribute;
 }

@@ -1,0 +1,90 @@
+-- The bytes up to which a stretch goes at which the tokenizer stays where it is.
+use Rattle.std.specs.Prelude.{⊤, ℕ, Bool, true, false, ◌||◌, ◌==◌, Option, Some, None, if◌then◌else◌}
+use Rattle.std.specs.Option.{option_or}
+use Rattle.hesc_specs.specs.Text.Ascii.{number_sign, double_quote, ampersand, single_quote, slash, less_than, greater_than, backslash, backtick}
+use Rattle.hesc_grammars.specs.Html.{is_unquoted_error}
+use Rattle.hesc_grammars.specs.StyleStrings.{is_newline_or_nul}
+use Rattle.html_tokenizer.specs.declared.slot_place.SlotPlace.{SlotPlace}
+use Rattle.html_tokenizer.specs.declared.slot_place.SlotPlace.TheVariants.{Text, DoubleQuoted, SingleQuoted, Unquoted, ScriptSingle, ScriptDouble, StyleSingle, StyleDouble}
+use Rattle.html_tokenizer.specs.declared.states.Code.{Code}
+use Rattle.html_tokenizer.specs.declared.states.Code.TheVariants.{Plain, Name, LetterI, LettersIm, LettersImp, LettersImpo, LettersImpor, LetterF, LettersFr, LettersFro, LineComment, BlockComment, Url}
+use Rattle.html_tokenizer.specs.declared.states.Kind.{Kind}
+use Rattle.html_tokenizer.specs.declared.states.Kind.TheVariants as kind
+use Rattle.html_tokenizer.specs.declared.states.OpenElement.{OpenElement}
+use Rattle.html_tokenizer.specs.declared.states.OpenElement.TheVariants.{Script, DataBlock, Style}
+use Rattle.html_tokenizer.specs.Tokenizer.CodeBytes.{asterisk, at_sign, closing_parenthesis, is_name_byte, longer, lower_f, lower_i, opening_parenthesis}
+use Rattle.html_tokenizer.specs.Tokenizer.CodeStrings.{ends_line}
+use Rattle.html_tokenizer.specs.Tokenizer.Comments.{dash}
+use Rattle.html_tokenizer.specs.Tokenizer.Tags.{is_space}
+
+-- in a string with this mark
+abbrev pub ends_string : (ℕ → Bool) → ℕ → ℕ → Bool
+ends_string breaks mark b = b == mark || b == backslash || b == less_than || breaks b
+
+-- in a value
+abbrev pub leaves_value : SlotPlace → ℕ → Bool
+leaves_value Text b = b == less_than || b == ampersand
+leaves_value DoubleQuoted b = b == double_quote || b == ampersand
+leaves_value SingleQuoted b = b == single_quote || b == ampersand
+leaves_value Unquoted b = is_space b || b == greater_than || b == ampersand || is_unquoted_error b
+leaves_value ScriptSingle b = ends_string ends_line single_quote b
+leaves_value ScriptDouble b = ends_string ends_line double_quote b
+leaves_value StyleSingle b = ends_string is_newline_or_nul single_quote b
+leaves_value StyleDouble b = ends_string is_newline_or_nul double_quote b
+
+-- in code that is gone over byte by byte
+abbrev pub leaves_code : OpenElement → Code → ℕ → Bool
+leaves_code Script LineComment b = ends_line b || b == 0xE2 || b == less_than
+leaves_code Style Plain b =
+    b == double_quote || b == single_quote || b == backslash || b == slash || b == at_sign || b == 85 || b == 117 || b == less_than
+leaves_code Style Url b =
+    b == double_quote || b == single_quote || b == opening_parenthesis || b == closing_parenthesis || b == backslash || b == slash || b == less_than
+leaves_code Script BlockComment b = b == asterisk || b == less_than
+leaves_code Style BlockComment b = b == asterisk || b == less_than
+leaves_code DataBlock Plain b = b == less_than
+leaves_code other code b = true
+
+-- code and values for which a loop asks of each byte, and those through which a search goes
+abbrev pub is_gone_over : OpenElement → Code → Bool
+is_gone_over Script LineComment = true
+is_gone_over Style Plain = true
+is_gone_over Style Url = true
+is_gone_over other code = false
+
+abbrev pub is_searched : SlotPlace → Bool
+is_searched Text = true
+is_searched DoubleQuoted = true
+is_searched SingleQuoted = true
+is_searched other = false
+
+-- a value whose bytes do not tell what it means
+abbrev pub IsSettled : Kind → Type 0
+IsSettled kind.Ordinary = ⊤
+IsSettled kind.Forbidden = ⊤
+IsSettled other = ⊥
+
+-- a byte that begins or ends more than a word of a script, or has no reading
+abbrev pub is_mark : ℕ → Bool
+is_mark b =
+    b == double_quote || b == single_quote || b == backslash || b == backtick || b == number_sign || b == slash ||
+    b == dash || b == less_than
+
+abbrev pub after_name : ℕ → Option Code
+after_name b = if is_name_byte b then Some Name else (if is_mark b then None else Some Plain)
+
+abbrev pub after_letters : Code → ℕ → Option Code
+after_letters code b = option_or (longer code b) (if is_name_byte b then Some Name else None)
+
+-- where a byte of a script's code leads from a word to another one, or stays in one
+abbrev pub word_after : Code → ℕ → Option Code
+word_after Plain b = if b == lower_i then Some LetterI else (if b == lower_f then Some LetterF else after_name b)
+word_after Name b = after_name b
+word_after LetterI b = after_letters LetterI b
+word_after LettersIm b = after_letters LettersIm b
+word_after LettersImp b = after_letters LettersImp b
+word_after LettersImpo b = after_letters LettersImpo b
+word_after LettersImpor b = after_letters LettersImpor b
+word_after LetterF b = after_letters LetterF b
+word_after LettersFr b = after_letters LettersFr b
+word_after LettersFro b = after_letters LettersFro b
+word_after other b = None
