@@ -27,7 +27,7 @@ pub trait Parts {
     ghost text: { Self → List ℕ };
 
     // How many of its bytes `may_fit` knows of: all of them, where nothing is put twice.
-    ghost known_length: { Self → ℕ };
+    ghost known_length: { Self → ℕ } = { λ _. 0 };
 
     /// Puts all parts, in order.
     ///
