@@ -1,4 +1,5 @@
-//! Markup of a megabyte: it is read in time that grows with its length alone, whole and byte by byte.
+//! Long markup: it is read in time that grows with its length alone, a megabyte whole and byte by byte,
+//! and four megabytes of short stretches whole.
 use crate::hostile::repeated;
 use html_tokenizer::Reader;
 use std::alloc::{AllocError, Global};
@@ -25,9 +26,36 @@ static MARKUP: [(&str, &str, &str); 14] = [
     ("<style>", "u", "</style>"),
 ];
 
-fn page(alloc: Global, head: &str, part: &str, tail: &str) -> Result<String, AllocError> {
+// Short stretches, each up to a byte that is near, where another byte that could end it comes at the end
+// alone: a search that went on to that one, and began anew for each stretch, would not end.
+static SHORT_STRETCHES: [(&str, &str, &str); 16] = [
+    ("<script>", "a/**/", "</script>"),
+    ("<script>", "'a'+", "''</script>"),
+    ("<script>", "\"a\"+", "''</script>"),
+    ("<script>/*", "a*", "*/</script>"),
+    ("<script>'", "a\\n", "'</script>"),
+    ("<script>", "a//b\n", "</script>"),
+    ("<script type=\"text/plain\">", "a<", "</script>"),
+    ("<style>", "a/**/", "</style>"),
+    ("<style>", "'a' ", "</style>"),
+    ("<style>/*", "a*", "*/</style>"),
+    ("<!--", "a-", "-->"),
+    ("", "a&lt;", ""),
+    ("", "a<b>", ""),
+    ("<p a=\"", "b&lt;", "\">"),
+    ("<p a='", "b&lt;", "'>"),
+    ("<p a=", "b&lt;", ">"),
+];
+
+const MEGABYTE: usize = 1_000_000;
+
+fn page(
+    alloc: Global,
+    (head, part, tail): (&str, &str, &str),
+    length: usize,
+) -> Result<String, AllocError> {
     let mut page = String::from_str(alloc, head)?;
-    let times = 1_000_000 / part.len().max(1);
+    let times = length / part.len().max(1);
     page.push_str(repeated(alloc, part, times)?.as_str())?;
     page.push_str(tail)?;
     Ok(page)
@@ -36,7 +64,7 @@ fn page(alloc: Global, head: &str, part: &str, tail: &str) -> Result<String, All
 #[test]
 fn long_markup_is_read(rt: HostRuntime) -> Result<(), Fail> {
     for &(head, part, tail) in &MARKUP {
-        let page = page(rt.alloc(), head, part, tail)?;
+        let page = page(rt.alloc(), (head, part, tail), MEGABYTE)?;
         let mut whole = Reader::new(rt.alloc());
         whole.read(page.as_bytes())?;
         assert!(rt; whole.may_end(), "{head}{part}{tail}");
@@ -45,6 +73,17 @@ fn long_markup_is_read(rt: HostRuntime) -> Result<(), Fail> {
             bytewise.read(slice::from_ref(byte))?;
         }
         assert!(rt; bytewise.may_end(), "{head}{part}{tail} byte by byte");
+    }
+    Ok(())
+}
+
+#[test]
+fn short_stretches_are_read_to_their_end_alone(rt: HostRuntime) -> Result<(), Fail> {
+    for &(head, part, tail) in &SHORT_STRETCHES {
+        let page = page(rt.alloc(), (head, part, tail), 4 * MEGABYTE)?;
+        let mut reader = Reader::new(rt.alloc());
+        reader.read(page.as_bytes())?;
+        assert!(rt; reader.may_end(), "{head}{part}{tail}");
     }
     Ok(())
 }

@@ -1,11 +1,15 @@
 //! Memory that is refused: the answer is Memory and the output as it was. An append asks once where
-//! there is no room, and not at all where there is.
+//! there is no room, and not at all where there is. A reader asks for what it holds alone.
 use crate::pages::parts;
 use html_template::{FillFault, Part, Template, TemplateFault};
 use html_template_source::{BindFault, NamedTemplate, SourceFault};
+use html_tokenizer::Reader;
 use std::process::Abort;
+use std::slice;
 use std::test::Fail;
 use test_support::Refusing;
+use test_support::amounts::SMALL;
+use test_support::long::{Long, MILLION, long_text};
 
 #[test]
 fn every_request_of_new_is_refused_in_turn(rt: HostRuntime) -> Result<(), Fail> {
@@ -168,5 +172,48 @@ fn a_fault_is_told_before_a_refusal(rt: HostRuntime) -> Result<(), Fail> {
     let missing = [("title", ""), ("other", "")];
     assert!(rt; template.append(&mut output, &missing) == Err(BindFault::Memory));
     assert!(rt; output.as_str().is_empty());
+    Ok(())
+}
+
+// Markup, and how many bytes of it a reader holds at once: the longest name, beginning of an address,
+// type of a script, reference or escape.
+static HELD: [(Long, usize); 12] = [
+    (("", "a.", MILLION / 2, ""), 0),
+    (("<!--", "- ", MILLION / 2, "-->"), 0),
+    (("<script>", "a/**/", MILLION / 5, "</script>"), 6),
+    (("<script>", "'\\x41'+", MILLION / 7, "''</script>"), 6),
+    (("", "<p title=\"a\">b</p>", MILLION / 19, ""), 5),
+    (("", "<a href=\"https://a.b/c\">", MILLION / 24, ""), 5),
+    (("", "&amp;", MILLION / 5, ""), 3),
+    (("<p title=\"", "a", MILLION, "\">"), 5),
+    (("<a href=\"", "a", 1000, "/\">"), 1000),
+    (("<p ", "a", MILLION, "=b>"), MILLION),
+    (("<", "p", MILLION, ">"), MILLION),
+    (("&#", "0", MILLION, "65;"), MILLION + 3),
+];
+
+// The room is doubled when it is full, so that all requests together are for at most four times of what
+// is held.
+const DOUBLED: usize = 4;
+
+#[test]
+fn a_reader_asks_for_what_it_holds(rt: HostRuntime) -> Result<(), Fail> {
+    for &(long, held) in &HELD {
+        let page = long_text(rt.alloc(), long)?;
+        let most = held.saturating_mul(DOUBLED).saturating_add(SMALL) as u64;
+        let heap = Refusing::new(rt.alloc(), 0);
+        let mut whole = Reader::new(&heap);
+        whole.read(page.as_bytes())?;
+        assert!(rt; whole.may_end() && heap.asked_bytes() <= most, "{long:?}");
+        heap.refuse(0);
+        let mut bytewise = Reader::new(&heap);
+        for byte in page.as_bytes() {
+            bytewise.read(slice::from_ref(byte))?;
+        }
+        assert!(rt;
+            bytewise.may_end() && heap.asked_bytes() <= most,
+            "{long:?} byte by byte"
+        );
+    }
     Ok(())
 }
