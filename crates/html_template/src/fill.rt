@@ -4,10 +4,11 @@ ghost use Rattle.std.specs.List.{AllByRecursion};
 ghost use Rattle.std.specs.Result.{result_err};
 ghost use Rattle.std.specs.Str.{IsUtf8};
 ghost use Rattle.html_template.specs.FillFaults.{fill_fault, has_unquoted, may_fill, slot_count};
-ghost use Rattle.html_template.specs.Templates.{Fill, MayFill, chunk_of, texts_of};
+ghost use Rattle.html_template.specs.Templates.{Fill, MayFill, chunk_of};
 
 use crate::faults::FillFault;
 use crate::stored::Stored;
+use crate::texts::Texts;
 use html_tokenizer::SlotPlace;
 
 // Whether the text may fill a slot at this place.
@@ -57,17 +58,21 @@ impl Summary {
 
 /// Whether the texts fill the slots of these pieces.
 #[inline(always)]
-pub(crate) fn check(pieces: &[Stored], summary: Summary, texts: &[&str]) -> Result<(), FillFault>
+pub(crate) fn check<T: Texts>(
+    pieces: &[Stored],
+    summary: Summary,
+    texts: &T,
+) -> Result<(), FillFault>
     requires slots { summary.slots ≡ slot_count (map chunk_of pieces.now) }
     requires unquoted { summary.has_unquoted ≡ has_unquoted (map chunk_of pieces.now) }
-    ensures full { OnOk result (Fill (map chunk_of pieces.now) (texts_of texts.now)) }
-    ensures utf8 { OnOk result (AllByRecursion IsUtf8 (texts_of texts.now)) }
+    ensures full { OnOk result (Fill (map chunk_of pieces.now) (T.list texts.now)) }
+    ensures utf8 { OnOk result (AllByRecursion IsUtf8 (T.list texts.now)) }
     ensures faults { result_err result
-        ≡ fill_fault 0 (map chunk_of pieces.now) (texts_of texts.now) }
+        ≡ fill_fault 0 (map chunk_of pieces.now) (T.list texts.now) }
 {
     // For the proof alone that all are UTF-8: no code is left of a sum that no one reads.
     let _length = total_length(texts);
-    if !summary.has_unquoted && texts.len() == summary.slots {
+    if !summary.has_unquoted && texts.count() == summary.slots {
         return Ok(());
     }
     check_each(pieces, texts)
@@ -75,13 +80,13 @@ pub(crate) fn check(pieces: &[Stored], summary: Summary, texts: &[&str]) -> Resu
 
 /// The lengths of the texts together.
 #[inline(always)]
-pub(crate) fn total_length(texts: &[&str]) -> usize
-    ensures { AllByRecursion IsUtf8 (texts_of texts.now) }
+pub(crate) fn total_length<T: Texts>(texts: &T) -> usize
+    ensures { AllByRecursion IsUtf8 (T.list texts.now) }
 {
     let mut sum: usize = 0;
-    let mut left = texts;
-    'texts: while let [text, more @ ..] = left {
-        sum = sum.saturating_add(length_of(*text));
+    let mut left = *texts;
+    'texts: while let Some((text, more)) = left.take_first() {
+        sum = sum.saturating_add(length_of(text));
         left = more;
     }
     sum
@@ -96,27 +101,27 @@ fn length_of(text: &str) -> usize
 }
 
 // Whether the texts fill the slots, slot by slot.
-fn check_each(pieces: &[Stored], texts: &[&str]) -> Result<(), FillFault>
-    ensures full { OnOk result (Fill (map chunk_of pieces.now) (texts_of texts.now)) }
+fn check_each<T: Texts>(pieces: &[Stored], texts: &T) -> Result<(), FillFault>
+    ensures full { OnOk result (Fill (map chunk_of pieces.now) (T.list texts.now)) }
     ensures faults { result_err result
-        ≡ fill_fault 0 (map chunk_of pieces.now) (texts_of texts.now) }
+        ≡ fill_fault 0 (map chunk_of pieces.now) (T.list texts.now) }
 {
     let mut rest = pieces;
-    let mut left = texts;
+    let mut left = *texts;
     'pieces: while let [piece, others @ ..] = rest {
         rest = others;
         let Stored::Slot(slot) = piece else {
             continue 'pieces;
         };
-        let [text, more @ ..] = left else {
+        let Some((text, more)) = left.take_first() else {
             return Err(FillFault::WrongCount);
         };
-        if !may_fill(slot.place, *text) {
-            return Err(FillFault::EmptyUnquoted(texts.len() - left.len()));
+        if !may_fill(slot.place, text) {
+            return Err(FillFault::EmptyUnquoted(texts.count() - left.count()));
         }
         left = more;
     }
-    if left.is_empty() {
+    if left.count() == 0 {
         Ok(())
     } else {
         Err(FillFault::WrongCount)

@@ -12,8 +12,10 @@ mod page;
 mod parts;
 mod stored;
 mod template;
+mod texts;
 
 pub use crate::faults::{FillFault, TemplateFault};
 pub use crate::parts::{Part, Piece};
 pub use crate::template::Template;
+pub use crate::texts::Texts;
 pub use html_tokenizer::{Code, Content, SlotPlace};

@@ -2,10 +2,11 @@
 ghost use Rattle.std.specs.Prelude.{◌≡◌, ◌<◌, ◌≤◌, ◌+◌, ◌^◌, ◌++◌, length, map, IfSome, IsOk, IsSome, OnOk};
 ghost use Rattle.std.specs.String.{string_bytes};
 ghost use Rattle.hesc_engine.specs.Forms.{Appended, string_room};
-ghost use Rattle.html_template.specs.Templates.{chunk_of, page, texts_of};
+ghost use Rattle.html_template.specs.Templates.{chunk_of, page};
 
 use crate::fill::total_length;
 use crate::stored::Stored;
+use crate::texts::Texts;
 use hesc_core::forms::{Parts, append_parts, append_to_string};
 use hesc_core::rules::{Escape, Unchanged};
 use hesc_core::{CountOverflow, Rule, Sink};
@@ -18,22 +19,22 @@ use std::alloc::{AllocError, Allocator};
 const SHORT: usize = 2048;
 
 /// The page of these texts. Whether they fill the pieces is the caller's to know.
-#[derive(Drop)]
-pub(crate) struct Page<'p> {
+#[derive(Clone, Copy)]
+pub(crate) struct Page<'p, T: Texts> {
     pub(crate) pieces: &'p [Stored<'p>],
-    pub(crate) texts: &'p [&'p str],
+    pub(crate) texts: T,
     // The length of all markup.
     pub(crate) markup: usize,
 }
 
-impl Parts for Page<'_> {
-    ghost text = { λ parts. page (map chunk_of parts.pieces.now) (texts_of parts.texts.now) };
+impl<T: Texts> Parts for Page<'_, T> {
+    ghost text = { λ parts. page (map chunk_of parts.pieces.now) (T.list parts.texts) };
 
     // The texts may outgrow the room after all.
     ghost known_length = { λ parts. parts.markup };
 
     fn put_into<S: Sink>(&self, sink: &mut S) -> Result<(), S::Fault> {
-        put_pieces(self.pieces, self.texts, sink)
+        put_pieces(self.pieces, &self.texts, sink)
     }
 
     // A page that is made again and again mostly fits, and is then not measured.
@@ -45,27 +46,27 @@ impl Parts for Page<'_> {
     // Counted by lanes, in place of writing each text twice.
     fn room_for(&self, spare: usize) -> Result<usize, CountOverflow> {
         let _spare = spare;
-        page_length(self.pieces, self.texts).ok_or(CountOverflow)
+        page_length(self.pieces, &self.texts).ok_or(CountOverflow)
     }
 }
 
-impl Page<'_> {
+impl<T: Texts> Page<'_, T> {
     // About how long the page is at least.
     #[inline(always)]
     fn least(&self) -> usize {
-        self.markup.saturating_add(total_length(self.texts))
+        self.markup.saturating_add(total_length(&self.texts))
     }
 }
 
 /// Appends the page, or leaves the output as it was.
 #[inline(always)]
-pub(crate) fn append_page<B: Allocator>(
+pub(crate) fn append_page<T: Texts, B: Allocator>(
     output: &mut String<B>,
-    made: &Page<'_>,
+    made: &Page<'_, T>,
 ) -> Result<(), AllocError>
     ensures appended { Appended (string_bytes output.old) (string_bytes output.new)
-        (page (map chunk_of made.now.pieces.now) (texts_of made.now.texts.now)) result }
-    ensures fits { length (page (map chunk_of made.now.pieces.now) (texts_of made.now.texts.now))
+        (page (map chunk_of made.now.pieces.now) (T.list made.now.texts)) result }
+    ensures fits { length (page (map chunk_of made.now.pieces.now) (T.list made.now.texts))
         ≤ string_room output.old → IsOk result }
 {
     if made.may_fit(output.capacity() - output.len()) || made.least() > SHORT {
@@ -76,13 +77,13 @@ pub(crate) fn append_page<B: Allocator>(
 
 // By the stack, which is set up in this function and no other.
 #[inline(never)]
-fn append_short_page<B: Allocator>(
+fn append_short_page<T: Texts, B: Allocator>(
     output: &mut String<B>,
-    made: &Page<'_>,
+    made: &Page<'_, T>,
 ) -> Result<(), AllocError>
     ensures appended { Appended (string_bytes output.old) (string_bytes output.new)
-        (page (map chunk_of made.now.pieces.now) (texts_of made.now.texts.now)) result }
-    ensures fits { length (page (map chunk_of made.now.pieces.now) (texts_of made.now.texts.now))
+        (page (map chunk_of made.now.pieces.now) (T.list made.now.texts)) result }
+    ensures fits { length (page (map chunk_of made.now.pieces.now) (T.list made.now.texts))
         ≤ string_room output.old → IsOk result }
 {
     let mut short = StackSink::<SHORT>::new();
@@ -94,24 +95,27 @@ fn append_short_page<B: Allocator>(
 
 // Measured first, where the room that is there does not suffice.
 #[inline(never)]
-fn append_long_page<B: Allocator>(output: &mut String<B>, made: &Page<'_>) -> Result<(), AllocError>
+fn append_long_page<T: Texts, B: Allocator>(
+    output: &mut String<B>,
+    made: &Page<'_, T>,
+) -> Result<(), AllocError>
     ensures appended { Appended (string_bytes output.old) (string_bytes output.new)
-        (page (map chunk_of made.now.pieces.now) (texts_of made.now.texts.now)) result }
-    ensures fits { length (page (map chunk_of made.now.pieces.now) (texts_of made.now.texts.now))
+        (page (map chunk_of made.now.pieces.now) (T.list made.now.texts)) result }
+    ensures fits { length (page (map chunk_of made.now.pieces.now) (T.list made.now.texts))
         ≤ string_room output.old → IsOk result }
 {
     append_parts(output, made)
 }
 
-fn page_length(pieces: &[Stored], texts: &[&str]) -> Option<usize>
+fn page_length<T: Texts>(pieces: &[Stored], texts: &T) -> Option<usize>
     ensures count { IfSome result (λ count. count
-        ≡ length (page (map chunk_of pieces.now) (texts_of texts.now))) }
-    ensures fits { length (page (map chunk_of pieces.now) (texts_of texts.now)) < 2 ^ 64
+        ≡ length (page (map chunk_of pieces.now) (T.list texts.now))) }
+    ensures fits { length (page (map chunk_of pieces.now) (T.list texts.now)) < 2 ^ 64
         → IsSome result }
 {
     let mut count: usize = 0;
     let mut rest = pieces;
-    let mut left = texts;
+    let mut left = *texts;
     'pieces: while let [piece, others @ ..] = rest {
         rest = others;
         let class = match piece {
@@ -121,27 +125,27 @@ fn page_length(pieces: &[Stored], texts: &[&str]) -> Option<usize>
             }
             Stored::Slot(slot) => slot.class,
         };
-        let [text, more @ ..] = left else {
+        let Some((text, more)) = left.take_first() else {
             continue 'pieces;
         };
-        let added = Escape(class).total(*text)?;
+        let added = Escape(class).total(text)?;
         count = count.checked_add(added)?;
         left = more;
     }
     Some(count)
 }
 
-fn put_pieces<S: Sink>(pieces: &[Stored], texts: &[&str], sink: &mut S) -> Result<(), S::Fault>
+fn put_pieces<T: Texts, S: Sink>(pieces: &[Stored], texts: &T, sink: &mut S) -> Result<(), S::Fault>
     ensures ok_taken { OnOk result (S.taken sink.new
-        ≡ S.taken sink.old ++ page (map chunk_of pieces.now) (texts_of texts.now)) }
+        ≡ S.taken sink.old ++ page (map chunk_of pieces.now) (T.list texts.now)) }
     ensures ok_failures { OnOk result (S.failures sink.new ≡ S.failures sink.old) }
-    ensures fits { length (page (map chunk_of pieces.now) (texts_of texts.now))
+    ensures fits { length (page (map chunk_of pieces.now) (T.list texts.now))
         ≤ S.room sink.old → IsOk result }
     ensures same_reference { S.reference sink.new ≡ S.reference sink.old }
     ensures same_before { S.before sink.new ≡ S.before sink.old }
 {
     let mut rest = pieces;
-    let mut left = texts;
+    let mut left = *texts;
     'pieces: while let [piece, others @ ..] = rest {
         rest = others;
         let class = match piece {
@@ -157,10 +161,10 @@ fn put_pieces<S: Sink>(pieces: &[Stored], texts: &[&str], sink: &mut S) -> Resul
             },
             Stored::Slot(slot) => slot.class,
         };
-        let [text, more @ ..] = left else {
+        let Some((text, more)) = left.take_first() else {
             continue 'pieces;
         };
-        put_made(&Escape(class), *text, sink)?;
+        put_made(&Escape(class), text, sink)?;
         left = more;
     }
     Ok(())

@@ -23,6 +23,7 @@ use crate::fill::{Summary, check};
 use crate::page::{Page, append_page};
 use crate::parts::Part;
 use crate::stored::{Stored, StoredMarkup, StoredSlot};
+use crate::texts::Texts;
 use html_tokenizer::{Reader, Standing};
 use std::alloc::{Allocator, Global};
 
@@ -70,7 +71,6 @@ impl<'a, A: Allocator + Copy> Template<'a, A> {
     /// slot whole. After a page it makes a page of the joined parts.
     ///
     /// Of `<p title="`, a slot and `">`, the page of `a"` is `<p title="a&quot;">`.
-    #[tactic(auto, using(crate::proofs::Structure::is_read_as, crate::proofs::Joined::page_after))]
     pub fn append<B: Allocator>(
         &self,
         output: &mut String<B>,
@@ -90,12 +90,39 @@ impl<'a, A: Allocator + Copy> Template<'a, A> {
             → IsPageOf (parts ++ map part_of (pieces_of self.now)) (before ++ texts_of texts.now)
             (string_bytes output.new)) }
     {
+        self.append_texts(output, &texts)
+    }
+
+    /// The same as [`Template::append`], for texts that are kept in another way than a slice.
+    ///
+    /// Of `<p title="`, a slot and `">`, the page of `a"` is `<p title="a&quot;">`.
+    #[inline(always)]
+    #[tactic(auto, using(crate::proofs::Structure::is_read_as, crate::proofs::Joined::page_after))]
+    pub fn append_texts<T: Texts, B: Allocator>(
+        &self,
+        output: &mut String<B>,
+        texts: &T,
+    ) -> Result<(), FillFault>
+        ensures appended { Appended (string_bytes output.old) (string_bytes output.new)
+            (page (pieces_of self.now) (T.list texts.now)) result }
+        ensures full { OnOk result (Fill (pieces_of self.now) (T.list texts.now)) }
+        ensures faults { AnswersFill (fill_fault 0 (pieces_of self.now) (T.list texts.now)) result }
+        ensures fits { fill_fault 0 (pieces_of self.now) (T.list texts.now) ≡ None
+            → length (page (pieces_of self.now) (T.list texts.now)) ≤ string_room output.old
+            → IsOk result }
+        ensures read { OnOk result (IsReadAs (pieces_of self.now) (T.list texts.now)
+            (page (pieces_of self.now) (T.list texts.now))) }
+        ensures joins { OnOk result ((parts : List Given) (before : List (List ℕ))
+            → IsPageOf parts before (string_bytes output.old)
+            → IsPageOf (parts ++ map part_of (pieces_of self.now)) (before ++ T.list texts.now)
+            (string_bytes output.new)) }
+    {
         if let Err(fault) = check(&self.pieces, self.summary, texts) {
             return Err(fault);
         }
         let page = Page {
             pieces: &self.pieces,
-            texts,
+            texts: *texts,
             markup: self.summary.markup,
         };
         append_page(output, &page)?;

@@ -1,6 +1,6 @@
 //! The examples of templates and of their laws.
 use hesc_places::{Place, read_place};
-use html_template::{Content, FillFault, Part, Template, TemplateFault, laws};
+use html_template::{Content, FillFault, Part, Template, TemplateFault, Texts, laws};
 use html_template_source::{BindFault, NamedTemplate, SourceFault};
 use html_tokenizer::{Reader, SlotPlace, Standing};
 use std::alloc::{AllocError, Global};
@@ -43,6 +43,23 @@ fn a_template_is_made_and_filled_as_it_is_said_to_be(rt: HostRuntime) {
     assert!(rt; is_page(rt.alloc(), &template, &["\">"], "<p title=\"&quot;&gt;\">"));
     let parts = [Part::Markup("<p "), Part::Slot, Part::Markup(">")];
     assert!(rt; Template::new(rt.alloc(), &parts).err() == Some(TemplateFault::NoPlace(1)));
+}
+
+#[test]
+fn texts_are_taken_one_by_one_as_they_are_said_to_be(rt: HostRuntime) {
+    let texts: &[&str] = &["a", "b"];
+    assert!(rt; texts.count() == 2);
+    let Some((first, others)) = texts.take_first() else {
+        panic!(rt; "there is a text");
+    };
+    assert!(rt; first == "a" && others == ["b"].as_slice());
+    let Ok(template) = Template::new(rt.alloc(), &TITLE) else {
+        panic!(rt; "the slot stands in a value");
+    };
+    let mut page = String::new(rt.alloc());
+    let texts: &[&str] = &["a\""];
+    assert!(rt; template.append_texts(&mut page, &texts) == Ok(()));
+    assert!(rt; page.as_str() == "<p title=\"a&quot;\">");
 }
 
 #[test]
