@@ -1,3 +1,7 @@
 pub mod Cuts
 pub mod SourceParts
-pub mod Places
+pub mod Numbers
+pub mod Placed
+pub mod Flaws
+pub mod FirstFaults
+pub mod Ordered

@@ -2,4 +2,6 @@ pub mod Sources
 pub mod SourceFaults
 pub mod NamedTemplates
 pub mod Bindings
-pub mod Matches
+pub mod Names
+pub mod Places
+pub mod SlotNames

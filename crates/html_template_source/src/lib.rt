@@ -5,10 +5,12 @@
 //! ```
 #![tactic(auto)]
 
-mod bindings;
+mod bound;
 mod faults;
-mod matching;
+mod first_fault;
 mod named;
+mod names;
+mod places;
 mod source;
 
 pub use crate::faults::{BindFault, SourceFault};

@@ -1,9 +1,13 @@
 //! Memory that is refused: the answer is Memory and the output as it was. An append asks once where
-//! there is no room, and not at all where there is. A reader asks for what it holds alone.
+//! there is no room, and not at all where there is. A named append asks for no more, but for a table
+//! where many names are bound in another order than that of their slots. A reader asks for what it holds
+//! alone.
+use crate::named::{self, bindings, names};
 use crate::pages::parts;
 use html_template::{FillFault, Part, Template, TemplateFault};
 use html_template_source::{BindFault, NamedTemplate, SourceFault};
 use html_tokenizer::Reader;
+use std::alloc::Global;
 use std::process::Abort;
 use std::slice;
 use std::test::Fail;
@@ -138,8 +142,8 @@ fn every_request_of_a_named_append_is_refused_in_turn(rt: HostRuntime) -> Result
     heap.refuse(0);
     assert!(rt; template.append(&mut output, &bindings) == Ok(()));
     let requests = heap.asked(0);
-    // The list of four texts, and the output.
-    assert!(rt; requests >= 2 && requests <= 3, "{requests}");
+    // The output alone.
+    assert!(rt; requests == 1, "{requests}");
     for number in 1..=requests {
         let mut output = String::new(&heap);
         heap.refuse(number);
@@ -150,28 +154,116 @@ fn every_request_of_a_named_append_is_refused_in_turn(rt: HostRuntime) -> Result
     Ok(())
 }
 
-// A fault that was told before memory was asked for is told where it is refused.
+/// Whether this is the fault, the output stays as it was, and no memory is asked for.
+fn is_told<'h>(
+    heap: &'h Refusing<Global>,
+    template: &NamedTemplate<'_, &'h Refusing<Global>>,
+    bindings: &[(&str, &str)],
+    fault: BindFault,
+) -> bool {
+    let mut output = String::new(heap);
+    heap.refuse(1);
+    template.append(&mut output, bindings) == Err(fault)
+        && output.as_str().is_empty()
+        && heap.asked(1) == 0
+}
+
 #[test]
-fn a_fault_is_told_before_a_refusal(rt: HostRuntime) -> Result<(), Fail> {
+fn a_fault_is_told_before_memory_is_asked_for(rt: HostRuntime) {
     let heap = Refusing::new(rt.alloc(), 0);
     let Ok(template) = NamedTemplate::parse(&heap, SOURCE) else {
         panic!(rt; "the source is a template");
     };
-    let mut output = String::new(&heap);
-    heap.refuse(1);
     let unknown = [("title", ""), ("body", ""), ("other", ""), ("none", "")];
-    assert!(rt; template.append(&mut output, &unknown) == Err(BindFault::Unknown(3)));
-    heap.refuse(1);
+    assert!(rt; is_told(&heap, &template, &unknown, BindFault::Unknown(3)));
     let doubled = [("title", ""), ("body", ""), ("other", ""), ("body", "")];
-    assert!(rt; template.append(&mut output, &doubled) == Err(BindFault::Doubled(1)));
-    heap.refuse(1);
+    assert!(rt; is_told(&heap, &template, &doubled, BindFault::Doubled(1)));
     let missing = [("body", ""), ("other", "")];
-    assert!(rt; template.append(&mut output, &missing) == Err(BindFault::Missing(0)));
-    heap.refuse(1);
-    // The list has a text before the name that has none.
-    let missing = [("title", ""), ("other", "")];
-    assert!(rt; template.append(&mut output, &missing) == Err(BindFault::Memory));
-    assert!(rt; output.as_str().is_empty());
+    assert!(rt; is_told(&heap, &template, &missing, BindFault::Missing(0)));
+    let missing = [("title", ""), ("body", "")];
+    assert!(rt; is_told(&heap, &template, &missing, BindFault::Missing(3)));
+    let missing = [("other", ""), ("title", "")];
+    assert!(rt; is_told(&heap, &template, &missing, BindFault::Missing(1)));
+    heap.refuse(0);
+    let Ok(template) = NamedTemplate::parse(&heap, "<p title={{title}}>{{body}}</p>") else {
+        panic!(rt; "the source is a template");
+    };
+    let empty = [("title", ""), ("body", "")];
+    let fault = BindFault::Fill(FillFault::EmptyUnquoted(0));
+    assert!(rt; is_told(&heap, &template, &empty, fault));
+    let empty = [("body", ""), ("title", "")];
+    assert!(rt; is_told(&heap, &template, &empty, fault));
+}
+
+/// What an append asks for: how often, and how many bytes.
+fn asked_for<'h>(
+    heap: &'h Refusing<Global>,
+    template: &NamedTemplate<'_, &'h Refusing<Global>>,
+    bindings: &[(&str, &str)],
+) -> (u64, u64) {
+    let mut output = String::new(heap);
+    heap.refuse(0);
+    let done = template.append(&mut output, bindings).is_ok();
+    let asked = (heap.asked(0), heap.asked_bytes());
+    if done { asked } else { (0, 0) }
+}
+
+// Names in slots, of which each stands in so many. A table of the bindings of up to 256 names is kept
+// on the stack.
+static NAMES_AND_TIMES: [(usize, usize); 4] = [(10, 1), (10, 100), (256, 3), (257, 3)];
+
+#[test]
+fn a_named_append_asks_for_its_page(rt: HostRuntime) -> Result<(), Fail> {
+    let heap = Refusing::new(rt.alloc(), 0);
+    for &(count, times) in &NAMES_AND_TIMES {
+        let names = names(rt.alloc(), count)?;
+        let mut source = String::new(rt.alloc());
+        for _ in 0..times {
+            source.push_str(named::source(rt.alloc(), &names)?.as_str())?;
+        }
+        let Ok(template) = NamedTemplate::parse(&heap, source.as_str()) else {
+            panic!(rt; "the source is a template");
+        };
+        let mut output = String::new(rt.alloc());
+        let in_order = bindings(rt.alloc(), &names, false)?;
+        assert!(rt; template.append(&mut output, &in_order) == Ok(()));
+        let page = output.len() as u64;
+        let (requests, bytes) = asked_for(&heap, &template, &in_order);
+        assert!(rt; requests == 1 && bytes <= page + 16, "{count} {bytes}");
+        let reversed = bindings(rt.alloc(), &names, true)?;
+        let (requests, bytes) = asked_for(&heap, &template, &reversed);
+        if count <= 256 {
+            assert!(rt; requests == 1 && bytes <= page + 16, "{count} {bytes}");
+        } else {
+            let table = 8 * count as u64;
+            assert!(rt;
+                requests == 2 && bytes <= page + table + 16,
+                "{count} {bytes}"
+            );
+        }
+    }
+    Ok(())
+}
+
+#[test]
+fn a_fault_of_many_names_is_told_before_memory_is_asked_for(rt: HostRuntime) -> Result<(), Fail> {
+    let heap = Refusing::new(rt.alloc(), 0);
+    let names = names(rt.alloc(), 600)?;
+    let source = named::source(rt.alloc(), &names)?;
+    let Ok(template) = NamedTemplate::parse(&heap, source.as_str()) else {
+        panic!(rt; "the source is a template");
+    };
+    for is_reversed in [false, true] {
+        let mut bindings = bindings(rt.alloc(), &names, is_reversed)?;
+        bindings.push(("n599", ""))?;
+        bindings.push(("n300", ""))?;
+        let first = if is_reversed { 0 } else { 300 };
+        assert!(rt; is_told(&heap, &template, &bindings, BindFault::Doubled(first)));
+        let last = bindings.len().saturating_sub(3);
+        bindings.truncate(last);
+        let missing = if is_reversed { 0 } else { 599 };
+        assert!(rt; is_told(&heap, &template, &bindings, BindFault::Missing(missing)));
+    }
     Ok(())
 }
 

@@ -1,16 +1,16 @@
-//! Texts that are bound to many names, and the fault that stands first. Up to 64 bindings are matched
-//! in one pass for up to 256 slots, others step by step: what is expected comes from the places alone.
+//! Texts that are bound to many names, and the fault that stands first. Bindings are looked at in
+//! blocks of 256 names: what is expected comes from the places alone.
 use html_template_source::{BindFault, NamedTemplate};
 use std::alloc::{AllocError, Global};
 use std::process::Abort;
 use std::test::Fail;
 
-static COUNTS: [usize; 6] = [1, 2, 63, 64, 65, 200];
+static COUNTS: [usize; 6] = [1, 2, 200, 256, 257, 600];
 
 static PAIRS: [usize; 4] = [127, 128, 129, 300];
 
 /// `n0`, `n1` and so on. The text of each is its number.
-fn names(alloc: Global, count: usize) -> Result<Vec<String>, AllocError> {
+pub(crate) fn names(alloc: Global, count: usize) -> Result<Vec<String>, AllocError> {
     let mut names = Vec::new(alloc);
     for number in 0..count {
         names.push(format!(in alloc; "n{number}")?)?;
@@ -23,7 +23,7 @@ fn text(name: &str) -> &str {
 }
 
 /// A slot of each name in order, and one more of the first.
-fn source(alloc: Global, names: &[String]) -> Result<String, AllocError> {
+pub(crate) fn source(alloc: Global, names: &[String]) -> Result<String, AllocError> {
     let mut source = String::new(alloc);
     for name in names {
         source.push_str("<p>{{")?;
@@ -45,9 +45,9 @@ fn page(alloc: Global, names: &[String]) -> Result<String, AllocError> {
     Ok(page)
 }
 
-type Bindings<'n> = Vec<(&'n str, &'n str)>;
+pub(crate) type Bindings<'n> = Vec<(&'n str, &'n str)>;
 
-fn bindings<'n>(
+pub(crate) fn bindings<'n>(
     alloc: Global,
     names: &'n [String],
     is_reversed: bool,
@@ -195,6 +195,63 @@ fn two_names_in_many_slots(rt: HostRuntime) -> Result<(), Fail> {
         assert!(rt; refuses(rt.alloc(), &template, &doubled, BindFault::Doubled(1)));
         assert!(rt; refuses(rt.alloc(), &template, &[("a", "1")], BindFault::Missing(1)));
         assert!(rt; refuses(rt.alloc(), &template, &[("b", "2")], BindFault::Missing(0)));
+    }
+    Ok(())
+}
+
+// Names that all begin and end alike, and are as long.
+fn like_names(alloc: Global) -> Result<Vec<String>, AllocError> {
+    let mut names = Vec::new(alloc);
+    for number in 10..99 {
+        names.push(format!(in alloc; "name{number}name")?)?;
+    }
+    Ok(names)
+}
+
+#[test]
+fn names_that_look_alike(rt: HostRuntime) -> Result<(), Fail> {
+    let names = like_names(rt.alloc())?;
+    let (mut source, mut page) = (String::new(rt.alloc()), String::new(rt.alloc()));
+    let mut bindings = Vec::new(rt.alloc());
+    for name in &names {
+        source.push_str(format!(in rt.alloc(); "<p>{{{{{name}}}}}</p>")?.as_str())?;
+        page.push_str(format!(in rt.alloc(); "<p>{name}</p>")?.as_str())?;
+        bindings.push((name.as_str(), name.as_str()))?;
+    }
+    let Ok(template) = NamedTemplate::parse(rt.alloc(), source.as_str()) else {
+        panic!(rt; "the source is a template");
+    };
+    bindings.reverse();
+    let mut output = String::new(rt.alloc());
+    assert!(rt; template.append(&mut output, &bindings) == Ok(()));
+    assert!(rt; output.as_str() == page.as_str());
+    let unknown = with_one_more(rt.alloc(), &bindings, 7, ("name99name", ""))?;
+    assert!(rt; refuses(rt.alloc(), &template, &unknown, BindFault::Unknown(7)));
+    let doubled = with_one_more(rt.alloc(), &bindings, 7, ("name10name", ""))?;
+    assert!(rt; refuses(rt.alloc(), &template, &doubled, BindFault::Doubled(7)));
+    Ok(())
+}
+
+// In a minute a look at each binding for each slot, or at each byte of each name for each binding,
+// does not come to its end.
+#[test]
+fn many_slots_and_names(rt: HostRuntime) -> Result<(), Fail> {
+    let names = names(rt.alloc(), 1_000)?;
+    let (mut source, mut page) = (String::new(rt.alloc()), String::new(rt.alloc()));
+    for _ in 0..100 {
+        source.push_str(self::source(rt.alloc(), &names)?.as_str())?;
+        page.push_str(self::page(rt.alloc(), &names)?.as_str())?;
+    }
+    let Ok(template) = NamedTemplate::parse(rt.alloc(), source.as_str()) else {
+        panic!(rt; "the source is a template");
+    };
+    for is_reversed in [false, true] {
+        let bindings = bindings(rt.alloc(), &names, is_reversed)?;
+        for _ in 0..20 {
+            let mut output = String::new(rt.alloc());
+            assert!(rt; template.append(&mut output, &bindings) == Ok(()));
+            assert!(rt; output.as_str() == page.as_str());
+        }
     }
     Ok(())
 }
