@@ -188,6 +188,7 @@ fn is_switch(name: &[u8]) -> bool
     ensures { result ≡ is_switch name.now }
 {
     name == b"shadowrootmode".as_slice()
+        || name == b"shadowroot".as_slice()
         || name == b"code".as_slice()
         || name == b"charset".as_slice()
 }
@@ -254,12 +255,11 @@ fn meta_value(content: Content, name: &[u8]) -> Move
         _ if name == b"charset".as_slice() => (content.element, Kind::Encoding),
         _ if !pragma && !described => (content.element, attribute_of(name)),
         OpenElement::Meta if pragma => (OpenElement::MetaPragma, Kind::Pragma),
-        OpenElement::Meta | OpenElement::MetaContent if described => (
-            OpenElement::MetaContent,
-            attribute_of(name),
-        ),
-        OpenElement::MetaType if described => (OpenElement::MetaType, Kind::PageType),
-        OpenElement::MetaContent => return refuses(),
+        _ if pragma => return refuses(),
+        OpenElement::Meta | OpenElement::MetaContent => {
+            (OpenElement::MetaContent, attribute_of(name))
+        }
+        OpenElement::MetaType => (OpenElement::MetaType, Kind::PageType),
         element => (element, Kind::Forbidden),
     };
     in_value(

@@ -129,14 +129,14 @@ fn begins_without_slot(place: SlotPlace, content: Content) -> Move
     in_value(Phase::In(place), content, Kind::Forbidden, Word::New)
 }
 
-fn module_byte(content: Content, byte: u8) -> Move
-    ensures { (word : List ℕ) → moved result word ≡ (module_byte content byte).next }
+fn module_byte(after: Code, content: Content, byte: u8) -> Move
+    ensures { (word : List ℕ) → moved result word ≡ (module_byte after content byte).next }
 {
     let place = match byte {
         b'\'' => SlotPlace::ScriptSingle,
         b'"' => SlotPlace::ScriptDouble,
         b'/' => return stays(Code::Plain, without_slots(content), byte),
-        _ if is_blank(byte) => return stays(Code::Module, content, byte),
+        _ if is_blank(byte) => return stays(after, content, byte),
         _ => return script_byte(content, byte),
     };
     begins_without_slot(place, content)
@@ -148,7 +148,7 @@ fn import_byte(content: Content, byte: u8) -> Move
     if byte == b'(' || byte == b'.' {
         stays(Code::Plain, without_slots(content), byte)
     } else {
-        module_byte(content, byte)
+        module_byte(Code::AfterImport, content, byte)
     }
 }
 
@@ -167,9 +167,10 @@ fn script_code_byte(code: Code, content: Content, byte: u8) -> Move
         | Code::LettersFr
         | Code::LettersFro => letters_byte(code, content, byte),
         Code::Import if !is_name_byte(byte) => import_byte(content, byte),
-        Code::From if !is_name_byte(byte) => module_byte(content, byte),
+        Code::From if !is_name_byte(byte) => module_byte(Code::AfterFrom, content, byte),
         Code::Name | Code::Import | Code::From => name_byte(content, byte),
-        Code::Module => import_byte(content, byte),
+        Code::AfterImport => import_byte(content, byte),
+        Code::AfterFrom => module_byte(Code::AfterFrom, content, byte),
         Code::Dash if byte != b'>' => script_byte(content, byte),
         Code::Slash if byte == b'/' => stays(Code::LineComment, content, byte),
         Code::Slash if byte == b'*' => stays(Code::BlockComment, content, byte),

@@ -75,8 +75,10 @@ pub enum Code {
     LettersFro,
     /// After `from`.
     From,
-    /// After `import` or `from` and a blank.
-    Module,
+    /// After `import` and a blank.
+    AfterImport,
+    /// After `from` and a blank.
+    AfterFrom,
     /// After a `-` of a script.
     Dash,
     /// After a `/`.

@@ -77,7 +77,7 @@ fn urls_of_styles(rt: HostRuntime) {
     hold(&rt, rt.alloc(), &URLS);
 }
 
-static ENCODINGS: [Row; 30] = [
+static ENCODINGS: [Row; 32] = [
     ("<meta charset=\"", "\">", Some(Forbidden(1))),
     ("<script charset=", "></script>", Some(Forbidden(1))),
     ("<meta http-equiv='", "' content=x>", Some(Forbidden(1))),
@@ -118,6 +118,16 @@ static ENCODINGS: [Row; 30] = [
     ("<meta name=a charset=euc-kr/>", "", Some(Malformed(0))),
     ("<meta content=a charset=euc-kr>", "", Some(Malformed(0))),
     ("<meta http-equiv=a charset=euc-kr>", "", Some(Malformed(0))),
+    (
+        "<meta http-equiv=a http-equiv=content-type content='text/html; charset=big5'>",
+        "",
+        Some(Malformed(0)),
+    ),
+    (
+        "<meta http-equiv=content-type http-equiv=a content='text/html'>",
+        "",
+        Some(Malformed(0)),
+    ),
     (
         "<meta http-equiv=Content-Type content='text/html; charset=Shift_JIS'>",
         "",
@@ -225,7 +235,7 @@ fn columns_of_templates(rt: HostRuntime) {
 }
 
 // A string that names a module is code: `data:text/javascript,..` runs.
-static MODULES: [Row; 33] = [
+static MODULES: [Row; 35] = [
     (
         "<script type=module>import '",
         "'</script>",
@@ -324,6 +334,8 @@ static MODULES: [Row; 33] = [
     ("<script>my_import('", "')</script>", None),
     ("<script>$import('", "')</script>", None),
     ("<script>Array.from('", "')</script>", None),
+    ("<script>Array.from ('", "')</script>", None),
+    ("<script>from .a='", "'</script>", None),
     ("<script>if(i)f(im,fro,'", "')</script>", None),
     (
         "<script>for(i=0;i<9;i++)importfrom=fromimport='",
@@ -338,7 +350,8 @@ fn modules_of_scripts(rt: HostRuntime) {
     hold(&rt, rt.alloc(), &MODULES);
 }
 
-static SWITCHES: [Row; 6] = [
+static SWITCHES: [Row; 7] = [
+    ("<template shadowroot=", "></template>", Some(Forbidden(1))),
     (
         "<template shadowrootmode=\"",
         "\"></template>",

@@ -131,20 +131,21 @@ is_blank b = is_space b || b == vertical_tab || nat_lt 127 b
 abbrev pub without_slots : Content → Content
 without_slots content = record content { element = DataBlock }
 
--- a byte after `from`: a string names a module, whose code would run; what may begin a comment before it is not read
-abbrev pub module_byte : Content → ℕ → Transition
-module_byte content b =
+-- a byte after one of the two words: a string names a module, whose code would run; blanks may come before it, and
+-- what may begin a comment is not read there
+abbrev pub module_byte : Code → Content → ℕ → Transition
+module_byte after content b =
     if b == single_quote then moves (at_value (state.In ScriptSingle) content Forbidden) (StringStart ∷ [])
     else (if b == double_quote then moves (at_value (state.In ScriptDouble) content Forbidden) (StringStart ∷ [])
     else (if b == slash then stays code.Plain (without_slots content) b
-    else (if is_blank b then stays code.Module content b
+    else (if is_blank b then stays after content b
     else script_byte content b)))
 
 -- a byte after `import`, which may also be called: 13.3.10 Import Calls
 abbrev pub import_byte : Content → ℕ → Transition
 import_byte content b =
     if b == opening_parenthesis || b == full_stop then stays code.Plain (without_slots content) b
-    else module_byte content b
+    else module_byte code.AfterImport content b
 
 abbrev pub script_code_byte : Code → Content → ℕ → Transition
 script_code_byte code.Plain content b = script_byte content b
@@ -158,8 +159,9 @@ script_code_byte code.LetterF content b = letters_byte (longer code.LetterF b) c
 script_code_byte code.LettersFr content b = letters_byte (longer code.LettersFr b) content b
 script_code_byte code.LettersFro content b = letters_byte (longer code.LettersFro b) content b
 script_code_byte code.Import content b = if is_name_byte b then stays code.Name content b else import_byte content b
-script_code_byte code.From content b = if is_name_byte b then stays code.Name content b else module_byte content b
-script_code_byte code.Module content b = import_byte content b
+script_code_byte code.From content b = if is_name_byte b then stays code.Name content b else module_byte code.AfterFrom content b
+script_code_byte code.AfterImport content b = import_byte content b
+script_code_byte code.AfterFrom content b = module_byte code.AfterFrom content b
 script_code_byte code.Dash content b = if b == greater_than then refuses else script_byte content b
 script_code_byte code.Slash content b =
     if b == slash then stays code.LineComment content b

@@ -89,7 +89,8 @@ holds_url name =
 -- an encoding
 abbrev pub is_switch : List ℕ → Bool
 is_switch name =
-    bytes_eq name (codes "shadowrootmode") || bytes_eq name (codes "code") || bytes_eq name (codes "charset")
+    bytes_eq name (codes "shadowrootmode") || bytes_eq name (codes "shadowroot") || bytes_eq name (codes "code") ||
+    bytes_eq name (codes "charset")
 
 abbrev pub attribute_of : List ℕ → Attribute
 attribute_of name =
@@ -137,8 +138,8 @@ meta_value pragma described content name =
     else (if is_content name then described
     else plain_value content name))
 
--- after the `=` of an attribute: a script is a data block unless its one type is JavaScript's; a `meta` has no
--- `http-equiv` after a `content`, which might hold a slot
+-- after the `=` of an attribute: a script is a data block unless its one type is JavaScript's; a `meta` has one
+-- `http-equiv`, and not after a `content`, which might hold a slot
 abbrev pub value_in : OpenElement → Content → List ℕ → Tokenizer
 value_in Script content name =
     if bytes_eq name (codes "type") then at_value BeforeValue (with_element content DataBlock) (ScriptType [])
@@ -149,8 +150,8 @@ value_in DataBlock content name =
 value_in Meta content name =
     meta_value (at_value BeforeValue (with_element content MetaPragma) (Pragma [])) (plain_value (with_element content MetaContent) name) content name
 value_in MetaContent content name = meta_value refused (plain_value content name) content name
-value_in MetaPragma content name = meta_value (forbidden_value content) (forbidden_value content) content name
-value_in MetaType content name = meta_value (forbidden_value content) (at_value BeforeValue content (PageType [])) content name
+value_in MetaPragma content name = meta_value refused (forbidden_value content) content name
+value_in MetaType content name = meta_value refused (at_value BeforeValue content (PageType [])) content name
 value_in other content name = plain_value content name
 
 abbrev pub value_of : Content → List ℕ → Tokenizer
