@@ -1,11 +1,12 @@
 #!/usr/bin/env python3
-"""Writes the named character references of HTML for the crate html_entities.
+"""Writes the named character references of HTML for the crates html_entities and html_tokenizer.
 
 The names and their code points come from Python's html.entities. They are written twice: as the
 constant of the program and as the definition that its contract speaks of. The prover compares
 the two, and shows that the rows make a table. A third file says where the characters of each row lie
 in the constant's block, which the prover computes. Two more are the indexes of the names of these
 rows and of the built-in ones, by which a name is found: see the crate hesc_table, src/index.rt.
+The names that need no `;` are written twice, too.
 
 With --by-character, it reads rows `NAME CODE..` from standard input and writes them as the list of
 a test. The list that is checked in is PHP's, which goes from characters to names:
@@ -27,6 +28,11 @@ def rows():
     """The names that end in `;`, without it, by rising bytes, each with its code points."""
     named = {name[:-1]: [ord(c) for c in value] for name, value in html.entities.html5.items() if name.endswith(";")}
     return sorted(named.items())
+
+
+def legacy():
+    """The names that need no `;`, by rising bytes."""
+    return sorted(name for name in html.entities.html5 if not name.endswith(";"))
 
 
 def escaped(codes):
@@ -175,6 +181,30 @@ def index(names, seed_count, slot_count):
     ]
 
 
+def legacy_constant(names):
+    return [
+        "//! The names of character references that need no `;`.",
+        f"//! {BY}",
+        "",
+        "/// The names of the HTML Standard, 13.5, that do not end in `;`, by rising bytes.",
+        f"pub(crate) static LEGACY_NAMES: [&[u8]; {len(names)}] = [",
+        *filled([f'b"{name}"' for name in names]),
+        "];",
+    ]
+
+
+def legacy_definition(names):
+    return [
+        "-- The names of character references that need no `;`, in the order of their bytes.",
+        f"-- HTML Standard, 13.5 Named character references, the names that do not end in `;`. {BY}",
+        "use Rattle.std.specs.Prelude.{ℕ, List, [], ◌∷◌, codes}",
+        "",
+        "abbrev pub legacy_names : List (List ℕ)",
+        "legacy_names =",
+        *wrapped([f'codes "{name}"' for name in names]),
+    ]
+
+
 def by_character(text):
     named = [(line.split()[0], [int(it) for it in line.split()[1:]]) for line in text.splitlines()]
     named.sort(key=lambda row: (row[1], row[0]))
@@ -209,5 +239,7 @@ if __name__ == "__main__":
         write("html_entities/src/rows.rt", constant(rows()))
         write("html_entities/specs/NamedReferences.antt", definition(rows()))
         write("html_entities/proofs/RowPlaces.antt", places(rows()))
+        write("html_tokenizer/src/legacy_names.rt", legacy_constant(legacy()))
+        write("html_tokenizer/specs/Tokenizer/LegacyNames.antt", legacy_definition(legacy()))
         write("html_entities/src/index.rt", index([name.encode() for name, _ in rows()], 512, 4096))
         write("hesc_table/src/index/built_in.rt", index(built_in_names(), 32, 128))

@@ -1,5 +1,5 @@
 mod Block
 mod GoodRows
-mod References
+pub mod References
 mod RowPlaces
 mod StaticRows

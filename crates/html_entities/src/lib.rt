@@ -15,7 +15,8 @@ mod rows;
 
 use crate::index::{SEEDS, SLOTS};
 pub use crate::rows::ROWS;
-use html_escape::{EntityTable, NameIndex};
+use hesc_table::EntityTable;
+use hesc_table::index::NameIndex;
 
 /// The table of [`ROWS`]. It is total: the rows are shown to make a table when this crate is
 /// proved, and the index of their names to give each its row. No row is checked when a program runs.

@@ -1,17 +1,21 @@
 -- The law of templates: piece by piece.
-use Rattle.std.proofs.Common.{ℕ, ◌≡◌, true, false, List, [], ◌∷◌, IsUtf8, map, refl, sym, ap, ◌∙◌, ⊎_elim}
+use Rattle.std.proofs.Common.{ℕ, ◌≡◌, Bool, true, false, if◌then◌else◌, List, [], ◌∷◌, IsUtf8, map, refl, sym, ap, ◌∙◌, ⊎_elim}
 use Rattle.std.specs.List.{AllByRecursion}
 use Rattle.std.proofs.lemmas.Bool.{cases_Bool}
 use Rattle.html_escape.specs.Encoders.{encoded}
 use Rattle.hesc_places.specs.Places.ReadBack.{read_back}
 use Rattle.html_tokenizer.specs.declared.slot_place.SlotPlace.{SlotPlace}
 use Rattle.html_tokenizer.specs.declared.slot_place.SlotPlace.TheVariants as place
+use Rattle.html_tokenizer.specs.declared.states.Code.{Code}
 use Rattle.html_tokenizer.specs.declared.states.Content.{Content}
 use Rattle.html_tokenizer.specs.declared.states.OpenElement.{OpenElement}
-use Rattle.html_tokenizer.specs.declared.states.OpenElement.TheVariants.{DataBlock}
+use Rattle.html_tokenizer.specs.declared.states.OpenElement.TheVariants.{NoScript}
 use Rattle.html_tokenizer.specs.Tokenizer.Actions.{read_byte}
+use Rattle.html_tokenizer.specs.Tokenizer.CodeBytes.{is_opaque}
 use Rattle.html_tokenizer.specs.Tokenizer.States.{State, Attribute, Ordinary, Tokenizer, In, BeforeValue, Refused, InCode, at, at_value, refused, data_state}
-use Rattle.html_tokenizer.specs.Standing.{in_code, standing_in, standing, stands, state_after_slot}
+use Rattle.html_tokenizer.specs.declared.reader.Standing.{Standing}
+use Rattle.html_tokenizer.specs.declared.reader.Standing.TheVariants.{Barred, Nowhere, Stands}
+use Rattle.html_tokenizer.specs.Standing.{in_code, in_content, unless_forbidden, standing_in, standing, stands, state_after_slot}
 use Rattle.html_template.specs.Templates.{Chunk, Markup, Slot, encoder_for, state_after_all, page, actions_all, MayFill, Fill}
 use Rattle.html_tokenizer.specs.Tokenizer.Tokenization.{state_after}
 use Rattle.html_tokenizer.proofs.Slots.Html.{text_stays, double_stays, single_stays, unquoted_stays, first_stays}
@@ -22,23 +26,39 @@ use Rattle.html_tokenizer.proofs.Slots.Styles.{style_stays, style_single_reads, 
 no : false ≡ true → ⊥
 no h = cc
 
-no_code : (p : SlotPlace) (element : OpenElement) → stands p (in_code element) ≡ false
-no_code p DataBlock = refl
-no_code p other = refl
+no_place : (p : SlotPlace) (b : Bool) → stands p (if b then Barred else Nowhere) ≡ false
+no_place p true = refl
+no_place p false = refl
+
+no_code : (p : SlotPlace) (kind : Code) → stands p (in_code kind) ≡ false
+no_code p kind = no_place p (is_opaque kind)
+
+in_any : (p : SlotPlace) (element : OpenElement) (standing : Standing) → stands p (in_content element standing) ≡ true → stands p standing ≡ true
+in_any p NoScript standing may = absurd (no may)
+in_any p other standing may = may
 
 -- a slot stands in no attribute but an ordinary one
 slot_ordinary : (p : SlotPlace) (state : State) (content : Content) (attribute : Attribute) →
     stands p (standing_in state content attribute) ≡ true → attribute ≡ Ordinary
 slot_ordinary p (In q) content Ordinary may = refl
-slot_ordinary p (In q) content other may = absurd (no may)
+slot_ordinary p (In q) content other may = absurd (no (in_any p content.element (unless_forbidden other q) may))
 slot_ordinary p BeforeValue content Ordinary may = refl
 slot_ordinary p BeforeValue content other may = absurd (no may)
-slot_ordinary p (InCode kind) content attribute may = absurd (no (sym (no_code p content.element) ∙ may))
+slot_ordinary p (InCode kind) content attribute may = absurd (no (sym (no_code p kind) ∙ may))
 slot_ordinary p elsewhere content attribute may = absurd (no may)
+
+-- where a slot stands, in any content
+abbrev at_place : State → Content → Standing
+at_place (In q) content = Stands q
+at_place other content = standing_in other content Ordinary
+
+stands_at_place : (p : SlotPlace) (state : State) (content : Content) → stands p (standing_in state content Ordinary) ≡ true → stands p (at_place state content) ≡ true
+stands_at_place p (In q) content may = in_any p content.element (Stands q) may
+stands_at_place p other content may = may
 
 -- what the encoder writes for a text in a slot leads to the state after the slot, and is read as the text
 ordinary_passes : (p : SlotPlace) (state : State) (content : Content) (text : List ℕ) →
-    stands p (standing_in state content Ordinary) ≡ true → MayFill p text → IsUtf8 text →
+    stands p (at_place state content) ≡ true → MayFill p text → IsUtf8 text →
     Passes (at state content) (encoded (encoder_for p) text) (map (read_byte p) (read_back (encoder_for p) text)) (at (In p) content)
 ordinary_passes place.Text (In place.Text) content text may full utf8 = text_stays content text
 ordinary_passes place.DoubleQuoted (In place.DoubleQuoted) content text may full utf8 = double_stays content text
@@ -49,7 +69,7 @@ ordinary_passes place.ScriptSingle (In place.ScriptSingle) content text may full
 ordinary_passes place.ScriptDouble (In place.ScriptDouble) content text may full utf8 = script_stays (script_double_reads content) text utf8
 ordinary_passes place.StyleSingle (In place.StyleSingle) content text may full utf8 = style_stays (style_single_reads content) text utf8
 ordinary_passes place.StyleDouble (In place.StyleDouble) content text may full utf8 = style_stays (style_double_reads content) text utf8
-ordinary_passes p (InCode kind) content text may full utf8 = absurd (no (sym (no_code p content.element) ∙ may))
+ordinary_passes p (InCode kind) content text may full utf8 = absurd (no (sym (no_code p kind) ∙ may))
 ordinary_passes other elsewhere content text may full utf8 = absurd (no may)
 
 slot_passes : (p : SlotPlace) (state : State) (content : Content) (attribute : Attribute) (text : List ℕ) →
@@ -57,7 +77,7 @@ slot_passes : (p : SlotPlace) (state : State) (content : Content) (attribute : A
     Passes (at_value state content attribute) (encoded (encoder_for p) text) (map (read_byte p) (read_back (encoder_for p) text)) (at (In p) content)
 slot_passes p state content attribute text may full utf8 =
     let ordinary = slot_ordinary p state content attribute may in
-    rw ordinary (ordinary_passes p state content text (rw ordinary at may) full utf8)
+    rw ordinary (ordinary_passes p state content text (stands_at_place p state content (rw ordinary at may)) full utf8)
 
 all_refused : (chunks : List Chunk) → state_after_all refused chunks ≡ refused
 all_refused [] = refl

@@ -1,25 +1,26 @@
 -- The tokens of a page, but for characters and values, are those of its structure.
-use Rattle.std.proofs.Common.{ℕ, ◌≡◌, true, false, List, [], ◌∷◌, ◌++◌, map, IsUtf8, refl, sym, ap, ◌∙◌, ⊎_elim, append-nil}
+use Rattle.std.proofs.Common.{ℕ, ◌≡◌, true, false, List, [], ◌∷◌, ◌++◌, Some, map, IsUtf8, refl, sym, ap, ◌∙◌, ⊎_elim, append-nil}
 use Rattle.std.proofs.lemmas.Bool.{cases_Bool}
 use Rattle.std.specs.List.{AllByRecursion, filter}
 use Rattle.std.proofs.lemmas.List.{map-append}
 use Rattle.std.proofs.lemmas.List.Elements.{filter-append}
-use Rattle.html_tokenizer.specs.Tokenizer.Actions.{Action, EmitDoctype, NewComment, CommentByte, EmitComment, EmitByte, NewStartTag, NewEndTag, TagNameByte, NewAttribute, NameByte, ValueByte, SetSelfClosing, EmitTag, CodeByte, StringStart, StringByte, StringEnd}
+use Rattle.html_tokenizer.specs.Tokenizer.Actions.{Action, NewDoctype, SetPublicEmpty, PublicByte, SetSystemEmpty, SystemByte, EmitDoctype, NewComment, CommentByte, EmitComment, EmitByte, NewStartTag, NewEndTag, TagNameByte, NewAttribute, NameByte, ValueByte, SetSelfClosing, EmitTag, CodeByte, StringStart, StringByte, StringEnd}
 use Rattle.html_tokenizer.specs.Tokenizer.States.{data_state}
 use Rattle.html_template.specs.Structure.{is_structure, structure}
 use Rattle.html_template.specs.Templates.{Chunk, Fill, page, state_after_all}
 use Rattle.html_tokenizer.specs.Tokenizer.Tokenization.{actions_of}
-use Rattle.html_tokenizer.specs.Tokens.{Attribute, Tag, Token, Building, Comment, TagToken, Character, bare, bare_attribute, bare_tag, build, built, emits, is_markup, longer_name, longer_value, nothing, skeleton, tokens}
+use Rattle.html_tokenizer.specs.Tokens.{Attribute, Doctype, Tag, Token, Building, Comment, DoctypeToken, TagToken, Character, bare, bare_attribute, bare_tag, build, built, emits, is_markup, longer_identifier, longer_name, longer_value, nothing, skeleton, tokens}
 use Rattle.html_template.proofs.Structure.{structure_of_page}
 
 -- what is built is the same but for characters and values
 record Alike (s r : Building) : Type 0 where
   emitted : skeleton s.emitted ≡ skeleton r.emitted
+  doctype : s.doctype ≡ r.doctype
   tag : bare_tag s.tag ≡ bare_tag r.tag
   comment : s.comment ≡ r.comment
 
 alike_symmetric : {s r : Building} → Alike s r → Alike r s
-alike_symmetric alike = record { emitted = sym alike.emitted; tag = sym alike.tag; comment = sym alike.comment }
+alike_symmetric alike = record { emitted = sym alike.emitted; doctype = sym alike.doctype; tag = sym alike.tag; comment = sym alike.comment }
 
 no : true ≡ false → ⊥
 no h = cc
@@ -32,6 +33,7 @@ both_emit : {s r : Building} (x y : Token) → Alike s r → skeleton (x ∷ [])
 both_emit {s} {r} x y alike same = record {
   emitted = skeleton-append s.emitted (x ∷ []) ∙ ap (λ z. z ++ skeleton (x ∷ [])) alike.emitted
       ∙ ap (λ z. skeleton r.emitted ++ z) same ∙ sym (skeleton-append r.emitted (y ∷ []));
+  doctype = alike.doctype;
   tag = alike.tag;
   comment = alike.comment;
 }
@@ -51,9 +53,26 @@ changed_tag : {s r : Building} (f : Tag → Tag) (g : Tag → Tag) → ((t : Tag
     Alike (record s { tag = f s.tag }) (record r { tag = f r.tag })
 changed_tag {s} {r} f g same alike = record {
   emitted = alike.emitted;
+  doctype = alike.doctype;
   tag = same s.tag ∙ ap g alike.tag ∙ sym (same r.tag);
   comment = alike.comment;
 }
+
+changed_doctype : {s r : Building} (f : Doctype → Doctype) → Alike s r →
+    Alike (record s { doctype = f s.doctype }) (record r { doctype = f r.doctype })
+changed_doctype f alike = record { emitted = alike.emitted; doctype = ap f alike.doctype; tag = alike.tag; comment = alike.comment }
+
+with_empty_public : Doctype → Doctype
+with_empty_public d = record d { public_identifier = Some [] }
+
+with_longer_public : ℕ → Doctype → Doctype
+with_longer_public b d = record d { public_identifier = longer_identifier b d.public_identifier }
+
+with_empty_system : Doctype → Doctype
+with_empty_system d = record d { system_identifier = Some [] }
+
+with_longer_system : ℕ → Doctype → Doctype
+with_longer_system b d = record d { system_identifier = longer_identifier b d.system_identifier }
 
 named : ℕ → Tag → Tag
 named b t = record t { name = t.name ++ b ∷ [] }
@@ -72,20 +91,26 @@ value_alike : {s r : Building} (b : ℕ) → Alike s r → Alike (built s (Value
 unfolding with_bare
 value_alike {s} {r} b alike = record {
   emitted = alike.emitted;
+  doctype = alike.doctype;
   tag = ap (λ x. with_bare x (bare_tag s.tag)) (bare-longer_value b s.tag.attributes) ∙ alike.tag;
   comment = alike.comment;
 }
 
 -- an action, at both
 alike_both : {s r : Building} (action : Action) → Alike s r → Alike (built s action) (built r action)
-unfolding named closing begun longer with_bare
-alike_both EmitDoctype alike = both_emit _ _ alike refl
-alike_both NewComment alike = record { emitted = alike.emitted; tag = alike.tag; comment = refl }
-alike_both (CommentByte b) alike = record { emitted = alike.emitted; tag = alike.tag; comment = ap (λ x. x ++ b ∷ []) alike.comment }
+unfolding named closing begun longer with_bare with_empty_public with_longer_public with_empty_system with_longer_system
+alike_both NewDoctype alike = record { emitted = alike.emitted; doctype = refl; tag = alike.tag; comment = alike.comment }
+alike_both SetPublicEmpty alike = changed_doctype with_empty_public alike
+alike_both (PublicByte b) alike = changed_doctype (with_longer_public b) alike
+alike_both SetSystemEmpty alike = changed_doctype with_empty_system alike
+alike_both (SystemByte b) alike = changed_doctype (with_longer_system b) alike
+alike_both EmitDoctype alike = both_emit _ _ alike (ap (λ x. DoctypeToken x ∷ []) alike.doctype)
+alike_both NewComment alike = record { emitted = alike.emitted; doctype = alike.doctype; tag = alike.tag; comment = refl }
+alike_both (CommentByte b) alike = record { emitted = alike.emitted; doctype = alike.doctype; tag = alike.tag; comment = ap (λ x. x ++ b ∷ []) alike.comment }
 alike_both EmitComment alike = both_emit _ _ alike (ap (λ x. Comment x ∷ []) alike.comment)
 alike_both (EmitByte b) alike = both_emit _ _ alike refl
-alike_both NewStartTag alike = record { emitted = alike.emitted; tag = refl; comment = alike.comment }
-alike_both NewEndTag alike = record { emitted = alike.emitted; tag = refl; comment = alike.comment }
+alike_both NewStartTag alike = record { emitted = alike.emitted; doctype = alike.doctype; tag = refl; comment = alike.comment }
+alike_both NewEndTag alike = record { emitted = alike.emitted; doctype = alike.doctype; tag = refl; comment = alike.comment }
 alike_both (TagNameByte b) alike = changed_tag (named b) (named b) (λ t. refl) alike
 alike_both NewAttribute alike = changed_tag begun begun (λ t. refl) alike
 alike_both (NameByte b) alike = changed_tag (longer b) (longer b) (λ t. ap (λ x. with_bare x (bare_tag t)) (bare-longer_name b t.attributes)) alike
@@ -93,19 +118,20 @@ alike_both (ValueByte b) alike = alike_symmetric (value_alike b (alike_symmetric
 alike_both SetSelfClosing alike = changed_tag closing closing (λ t. refl) alike
 alike_both EmitTag alike = both_emit _ _ alike (ap (λ x. TagToken x ∷ []) alike.tag)
 alike_both (CodeByte b) alike = both_emit _ _ alike refl
-alike_both StringStart alike = record { emitted = alike.emitted; tag = alike.tag; comment = alike.comment }
-alike_both (StringByte b) alike = record { emitted = alike.emitted; tag = alike.tag; comment = alike.comment }
+alike_both StringStart alike = record { emitted = alike.emitted; doctype = alike.doctype; tag = alike.tag; comment = alike.comment }
+alike_both (StringByte b) alike = record { emitted = alike.emitted; doctype = alike.doctype; tag = alike.tag; comment = alike.comment }
 alike_both StringEnd alike = both_emit _ _ alike refl
 
 -- an action that is not of the structure changes nothing
 alike_values : {s r : Building} (action : Action) → is_structure action ≡ false → Alike s r → Alike (built s action) r
 alike_values {s} {r} (EmitByte b) value alike = record {
   emitted = skeleton-append s.emitted (Character b ∷ []) ∙ append-nil (skeleton s.emitted) ∙ alike.emitted;
+  doctype = alike.doctype;
   tag = alike.tag;
   comment = alike.comment;
 }
 alike_values (ValueByte b) value alike = value_alike b alike
-alike_values (StringByte b) value alike = record { emitted = alike.emitted; tag = alike.tag; comment = alike.comment }
+alike_values (StringByte b) value alike = record { emitted = alike.emitted; doctype = alike.doctype; tag = alike.tag; comment = alike.comment }
 alike_values other value alike = absurd (no value)
 
 alike_all : (actions : List Action) {s r : Building} → Alike s r → Alike (build s actions) (build r (structure actions))
@@ -117,7 +143,7 @@ alike_all (action ∷ actions) alike =
     (cases_Bool (is_structure action))
 
 skeleton-structure : (actions : List Action) → skeleton (tokens actions) ≡ skeleton (tokens (structure actions))
-skeleton-structure actions = (alike_all actions {s = nothing} {r = nothing} (record { emitted = refl; tag = refl; comment = refl })).emitted
+skeleton-structure actions = (alike_all actions {s = nothing} {r = nothing} (record { emitted = refl; doctype = refl; tag = refl; comment = refl })).emitted
 
 pub skeleton_of_pages : (chunks : List Chunk) (texts others : List (List ℕ)) → state_after_all data_state chunks ≡ data_state →
     Fill chunks texts → AllByRecursion IsUtf8 texts → Fill chunks others → AllByRecursion IsUtf8 others →

@@ -6,7 +6,7 @@ use Rattle.html_tokenizer.specs.Tokenizer.States.{data_state}
 use Rattle.html_template.specs.Templates.{Chunk, Fill, Given, actions_all, page, part_of, state_after_all}
 use Rattle.html_tokenizer.specs.Tokenizer.Tokenization.{state_after, actions_of}
 
--- tags and their names, attributes and their names, comments, code, and where strings begin and end
+-- DOCTYPEs and their identifiers, tags and their names, attributes and their names, comments, code, and where strings begin and end
 abbrev pub is_structure : Action → Bool
 is_structure (EmitByte b) = false
 is_structure (ValueByte b) = false

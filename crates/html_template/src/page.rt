@@ -1,5 +1,5 @@
 //! The page of a template and texts, as parts that are put.
-ghost use Rattle.std.specs.Prelude.{◌≡◌, ◌<◌, ◌≤◌, ◌+◌, ◌^◌, ◌++◌, length, map, IfSome, IsOk, IsSome, OnOk};
+ghost use Rattle.std.specs.Prelude.{◌≡◌, [], ◌<◌, ◌≤◌, ◌+◌, ◌^◌, ◌++◌, length, map, IfSome, IsOk, IsSome, OnOk};
 ghost use Rattle.std.specs.String.{string_bytes};
 ghost use Rattle.hesc_engine.specs.Forms.{Appended, string_room};
 ghost use Rattle.html_template.specs.Templates.{chunk_of, page};
@@ -164,15 +164,20 @@ fn put_pieces<T: Texts, S: Sink>(pieces: &[Stored], texts: &T, sink: &mut S) -> 
         let Some((text, more)) = left.take_first() else {
             continue 'pieces;
         };
-        put_made(&Escape(class), text, sink)?;
+        // Most texts stay as they are.
+        match Made::of(&Escape(class), text) {
+            Some(made) => run_made(&made, sink)?,
+            None => put_kept(&Escape(class), text, sink)?,
+        }
         left = more;
     }
     Ok(())
 }
 
-// Puts what the rule makes of the text.
+// Puts a text that the rule leaves as it is.
 #[inline(always)]
-fn put_made<R: Rule, S: Sink>(rule: &R, text: &str, sink: &mut S) -> Result<(), S::Fault>
+fn put_kept<R: Rule, S: Sink>(rule: &R, text: &str, sink: &mut S) -> Result<(), S::Fault>
+    requires { R.changes_from rule.now text.now 0 ≡ [] }
     ensures ok_taken { OnOk result
         (S.taken sink.new ≡ S.taken sink.old ++ R.made rule.now text.now) }
     ensures ok_failures { OnOk result (S.failures sink.new ≡ S.failures sink.old) }
@@ -182,9 +187,6 @@ fn put_made<R: Rule, S: Sink>(rule: &R, text: &str, sink: &mut S) -> Result<(), 
     ensures same_reference { S.reference sink.new ≡ S.reference sink.old }
     ensures same_before { S.before sink.new ≡ S.before sink.old }
 {
-    // Most texts stay as they are.
-    match Made::of(rule, text) {
-        Some(made) => run_made(&made, sink),
-        None => sink.put(text),
-    }
+    let _rule = rule;
+    sink.put(text)
 }

@@ -38,14 +38,16 @@ impl<'a, A: Allocator + Copy> Names<'a, A> {
             names.numbers.items ≡ texts_of slots.now) }
     {
         let mut distinct = Vec::new(alloc);
-        let mut numbers = Vec::new(alloc);
+        let mut numbers = Vec::with_capacity(alloc, slots.len())?;
         let mut found = BTreeMap::new(alloc);
         let mut recent = [0; RECENT];
         let mut rest = slots;
         'slots: while let [name, others @ ..] = rest {
             let guess = guess_of(&recent, *name);
             let number = take_name(&mut distinct, &mut found, *name, guess)?;
-            put_guess(&mut recent, *name, number);
+            if number != guess {
+                put_guess(&mut recent, *name, number);
+            }
             numbers.push(number)?;
             rest = others;
         }

@@ -1,7 +1,7 @@
 -- In a reference or an escape, nothing is held of an attribute.
 use Rattle.std.proofs.Common.{ℕ, ◌≡◌, List, refl}
 use Rattle.html_tokenizer.specs.declared.states.Kind.{Kind}
-use Rattle.html_tokenizer.specs.declared.states.Kind.TheVariants.{Ordinary, Forbidden, Scheme, AfterScheme, AfterSlash, AfterSlashes, Host, ScriptType, Encoding, Pragma, PageType, Unread}
+use Rattle.html_tokenizer.specs.declared.states.Kind.TheVariants.{Ordinary, Forbidden, Scheme, AfterScheme, AfterSlash, AfterSlashes, Host, ScriptType, Encoding, Pragma, PageType, Unread, Raw}
 use Rattle.html_tokenizer.specs.Tokenizer.Names.{reference_read}
 use Rattle.html_tokenizer.specs.Tokenizer.Phases.{attribute_in}
 
@@ -19,3 +19,4 @@ reference_read_held Encoding before word = refl
 reference_read_held Pragma before word = refl
 reference_read_held PageType before word = refl
 reference_read_held Unread before word = refl
+reference_read_held Raw before word = refl

@@ -1,6 +1,9 @@
 pub mod BeforeNames
+pub mod FlagTable
 pub mod HeldWords
+pub mod KnownReferences
 pub mod Passing
+pub mod SettledWords
 pub mod ShortNames
 pub mod Staying
 pub mod WholeNames

@@ -1,10 +1,10 @@
--- Names of one or two letters, which mean nothing to the tokenizer.
-use Rattle.std.proofs.Common.{ℕ, ◌≡◌, ◌<◌, ◌≤◌, true, false, List, [], ◌∷◌, Some, length, bytes_eq, codes, inl, inr, refl, ap, arith}
+-- Names of one or two letters, which mean nothing to the tokenizer in a normal content.
+use Rattle.std.proofs.Common.{ℕ, ◌≡◌, ◌<◌, ◌≤◌, false, List, Some, length, bytes_eq, codes, inl, inr, refl, ap, arith}
 use Rattle.std.proofs.lemmas.Bool.{cases_Bool}
 use Rattle.std.proofs.lemmas.Slice.Eq.{bytes_eq-Decides}
 use Rattle.html_tokenizer.specs.declared.states.Content.{Content}
 use Rattle.html_tokenizer.specs.declared.states.OpenElement.TheVariants.{Normal}
-use Rattle.html_tokenizer.specs.Tokenizer.Names.{content_of, element_of, is_left_out, is_template, with_element}
+use Rattle.html_tokenizer.specs.Tokenizer.Names.{content_of, with_element}
 
 differs : (name word : List ℕ) → length name < length word → bytes_eq name word ≡ false
 differs name word shorter = elim (cases_Bool (bytes_eq name word)) [
@@ -12,10 +12,11 @@ differs name word shorter = elim (cases_Bool (bytes_eq name word)) [
   | inr other ↦ other
 ]
 
-pub short_content : (content : Content) (name : List ℕ) → length name < 3 → content_of content name ≡ Some (with_element content Normal)
-short_content content name short =
+pub short_content : (content : Content) (name : List ℕ) → content.element ≡ Normal → length name < 3 → content_of content name ≡ Some (with_element content Normal)
+short_content content name normal short =
     let no : (word : List ℕ) → 3 ≤ length word → bytes_eq name word ≡ false = λ word long. differs name word (omega arith) in
     rw (
+      normal,
       no (codes "template") (omega arith),
       no (codes "col") (omega arith),
       no (codes "script") (omega arith),

@@ -7,10 +7,10 @@ use Rattle.hesc_specs.specs.Text.Ascii.{ampersand, less_than}
 use Rattle.hesc_specs.specs.Text.FirstPlace.{IsFirstPlace}
 use Rattle.html_tokenizer.specs.declared.slot_place.SlotPlace.{SlotPlace}
 use Rattle.html_tokenizer.specs.declared.slot_place.SlotPlace.TheVariants.{Text}
-use Rattle.html_tokenizer.specs.declared.states.Code.TheVariants.{Plain, BlockComment}
+use Rattle.html_tokenizer.specs.declared.states.Code.TheVariants.{BlockComment, Opaque}
+use Rattle.html_tokenizer.specs.declared.states.Code.{Code}
 use Rattle.html_tokenizer.specs.declared.states.Content.{Content}
-use Rattle.html_tokenizer.specs.declared.states.OpenElement.TheVariants.{DataBlock}
-use Rattle.html_tokenizer.specs.Tokenizer.CodeBytes.{asterisk, block_byte, code_byte}
+use Rattle.html_tokenizer.specs.Tokenizer.CodeBytes.{asterisk, block_byte, code_byte, escaped_byte, stays}
 use Rattle.html_tokenizer.specs.Tokenizer.Comments.{dash}
 use Rattle.html_tokenizer.specs.Tokenizer.Names.{value_byte_read}
 use Rattle.html_tokenizer.specs.Tokenizer.States.{Attribute, Comment, In, InCode, Tokenizer, at, at_value}
@@ -64,10 +64,15 @@ pub stays_in_block : (content : Content) (b : ℕ) → code_byte BlockComment co
 unfolding consume
 stays_in_block content b is no_asterisk no_less_than = rw (no_less_than, is, no_asterisk) refl
 
-pub stays_in_data_block : (content : Content) (b : ℕ) → content.element ≡ DataBlock → (b == less_than) ≡ false →
-    (consume (at (InCode Plain) content) b).next ≡ at (InCode Plain) content
+pub stays_opaque : (content : Content) (b : ℕ) → code_byte Opaque content b ≡ stays Opaque content b → (b == less_than) ≡ false →
+    (consume (at (InCode Opaque) content) b).next ≡ at (InCode Opaque) content
 unfolding consume
-stays_in_data_block content b is no_less_than = rw (no_less_than, is) refl
+stays_opaque content b is no_less_than = rw (no_less_than, is) refl
+
+pub stays_escaped : (code after : Code) (content : Content) (b : ℕ) → code_byte code content b ≡ escaped_byte after code content b →
+    (b == dash) ≡ false → (b == less_than) ≡ false → (consume (at (InCode code) content) b).next ≡ at (InCode code) content
+unfolding consume
+stays_escaped code after content b is no_dash no_less_than = rw (no_less_than, is, no_dash) refl
 
 pub stays_in_comment : (content : Content) (b : ℕ) → (b == dash) ≡ false → (consume (at Comment content) b).next ≡ at Comment content
 unfolding consume

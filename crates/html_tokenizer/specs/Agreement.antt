@@ -1,5 +1,5 @@
 -- The tokenizer beside the readings of the places in hesc_grammars.
-use Rattle.std.specs.Prelude.{◌≡◌, ◌⊎◌, ℕ, Bool, true, ◌||◌, List, [], ◌∷◌, ◌++◌, Some, bytes_eq, codes, length, map}
+use Rattle.std.specs.Prelude.{◌≡◌, ◌⊎◌, ℕ, Bool, true, false, ◌||◌, List, [], ◌∷◌, ◌++◌, Some, bytes_eq, codes, length, map}
 use Rattle.hesc_specs.specs.Text.Ascii.{carriage_return}
 use Rattle.hesc_grammars.specs.Places.{end_byte}
 use Rattle.hesc_grammars.specs.Places.{reading}
@@ -11,7 +11,8 @@ use Rattle.html_tokenizer.specs.declared.slot_place.SlotPlace.TheVariants.{Unquo
 use Rattle.html_tokenizer.specs.declared.states.Code.TheVariants.{Plain}
 use Rattle.html_tokenizer.specs.declared.states.Content.{Content}
 use Rattle.html_tokenizer.specs.Tokenizer.Actions.{StringEnd, read_byte}
-use Rattle.html_tokenizer.specs.Tokenizer.States.{In, BeforeValue, InCode, at, refused}
+use Rattle.html_tokenizer.specs.Tokenizer.CodeBytes.{is_opaque}
+use Rattle.html_tokenizer.specs.Tokenizer.States.{State, In, BeforeValue, InCode, CodeLess, CodeEndTag, at}
 use Rattle.html_tokenizer.specs.Tokenizer.Tokenization.{state_after, actions_of}
 
 -- up to the mark at which a place's reading ends, the tokenizer stays in the value, and its actions
@@ -64,17 +65,24 @@ pub record LeavesString (p : SlotPlace) (content : Content) (mark : ℕ) (front 
 abbrev pub could_be_markup : List ℕ → Bool
 could_be_markup word = bytes_eq word (codes "</") || bytes_eq word (codes "<!") || bytes_eq word (codes "\\<")
 
--- the tokenizer refuses a string, in which such a word stands
-pub record RefusesString (p : SlotPlace) (content : Content) (front : List ℕ) : Type 0 where
-  pub after : state_after (at (In p) content) front ≡ refused
+-- the state is in a part of the code that takes no slot
+abbrev pub is_given_up : State → Bool
+is_given_up (InCode kind) = is_opaque kind
+is_given_up (CodeLess kind) = is_opaque kind
+is_given_up (CodeEndTag kind word) = is_opaque kind
+is_given_up other = false
+
+-- such a word stands in the string, at which the tokenizer gives it up
+pub record GivesUp (p : SlotPlace) (content : Content) (front : List ℕ) : Type 0 where
   pub before : List ℕ
   pub word : List ℕ
   pub following : List ℕ
-  pub parts : front ≡ before ++ (word ++ following)
+  pub parts : front ≡ (before ++ word) ++ following
   pub markup : could_be_markup word ≡ true
+  pub after : is_given_up (state_after (at (In p) content) (before ++ word)).state ≡ true
 
--- wherever a string has a reading, the two agree, or the tokenizer refuses it
+-- wherever a string has a reading, the two agree, or the tokenizer gives it up
 abbrev pub AgreesInString : SlotPlace → Content → Place → ℕ → List ℕ → Type 0
 AgreesInString p content place mark bytes =
     (found : List ℕ × ℕ) → reading place bytes ≡ Some found →
-    Ends (λ front value. LeavesString p content mark front value ⊎ RefusesString p content front) mark bytes found
+    Ends (λ front value. LeavesString p content mark front value ⊎ GivesUp p content front) mark bytes found

@@ -4,28 +4,34 @@ use Rattle.html_tokenizer.specs.declared.reader.Standing.{Standing}
 use Rattle.html_tokenizer.specs.declared.reader.Standing.TheVariants.{Stands, Nowhere, Barred}
 use Rattle.html_tokenizer.specs.declared.slot_place.SlotPlace.{SlotPlace}
 use Rattle.html_tokenizer.specs.declared.slot_place.SlotPlace.TheVariants.{Text, DoubleQuoted, SingleQuoted, Unquoted, ScriptSingle, ScriptDouble, StyleSingle, StyleDouble}
+use Rattle.html_tokenizer.specs.declared.states.Code.{Code}
 use Rattle.html_tokenizer.specs.declared.states.Content.{Content}
 use Rattle.html_tokenizer.specs.declared.states.OpenElement.{OpenElement}
 use Rattle.html_tokenizer.specs.declared.states.OpenElement.TheVariants as element
+use Rattle.html_tokenizer.specs.Tokenizer.CodeBytes.{is_opaque}
 use Rattle.html_tokenizer.specs.Tokenizer.States as state
 use Rattle.html_tokenizer.specs.Tokenizer.States.{State, Attribute, Tokenizer, at, refused}
-use Rattle.html_tokenizer.specs.Tokenizer.Tags.{is_normal}
+use Rattle.html_tokenizer.specs.Tokenizer.Names.{is_normal}
 
 -- a slot in the value of an attribute, if its text would mean itself
 abbrev pub unless_forbidden : Attribute → SlotPlace → Standing
 unless_forbidden state.Ordinary p = Stands p
 unless_forbidden other p = Barred
 
--- a slot in the code of a script is nowhere, and in a data block, or where the rest takes none, in a second language
-abbrev pub in_code : OpenElement → Standing
-in_code element.DataBlock = Barred
-in_code other = Nowhere
+-- a slot in code is nowhere, and where the rest takes none, in a second language
+abbrev pub in_code : Code → Standing
+in_code kind = if is_opaque kind then Barred else Nowhere
+
+-- the text of a `noscript` takes none: where scripts run no reference is read in it
+abbrev pub in_content : OpenElement → Standing → Standing
+in_content element.NoScript standing = Barred
+in_content other standing = standing
 
 -- where a slot stands: within a value, or where a value without quotes may begin
 abbrev pub standing_in : State → Content → Attribute → Standing
-standing_in (state.In p) content attribute = unless_forbidden attribute p
+standing_in (state.In p) content attribute = in_content content.element (unless_forbidden attribute p)
 standing_in state.BeforeValue content attribute = unless_forbidden attribute Unquoted
-standing_in (state.InCode kind) content attribute = in_code content.element
+standing_in (state.InCode kind) content attribute = in_code kind
 standing_in other content attribute = Nowhere
 
 abbrev pub standing : Tokenizer → Standing

@@ -2,9 +2,12 @@ pub mod Actions
 pub mod CodeBytes
 pub mod CodeStrings
 pub mod Comments
+pub mod Doctypes
 pub mod Encodings
+pub mod LegacyNames
 pub mod Names
 pub mod Phases
+pub mod References
 pub mod States
 pub mod Stretches
 pub mod Tags

@@ -1,9 +1,14 @@
 -- The tokens of a page: the actions, put together as the standard does.
 -- HTML Standard, 13.2.5: the output is DOCTYPE, start tag, end tag, comment and character tokens, here
 -- with the code of scripts and styles byte by byte, and their strings.
-use Rattle.std.specs.Prelude.{ℕ, Bool, true, false, List, [], ◌∷◌, ◌++◌, map}
+use Rattle.std.specs.Prelude.{ℕ, Bool, true, false, List, [], ◌∷◌, ◌++◌, Option, Some, None, map}
 use Rattle.std.specs.List.{filter}
-use Rattle.html_tokenizer.specs.Tokenizer.Actions.{Action, EmitDoctype, NewComment, CommentByte, EmitComment, EmitByte, NewStartTag, NewEndTag, TagNameByte, NewAttribute, NameByte, ValueByte, SetSelfClosing, EmitTag, CodeByte, StringStart, StringByte, StringEnd}
+use Rattle.html_tokenizer.specs.Tokenizer.Actions.{Action, NewDoctype, SetPublicEmpty, PublicByte, SetSystemEmpty, SystemByte, EmitDoctype, NewComment, CommentByte, EmitComment, EmitByte, NewStartTag, NewEndTag, TagNameByte, NewAttribute, NameByte, ValueByte, SetSelfClosing, EmitTag, CodeByte, StringStart, StringByte, StringEnd}
+
+-- a DOCTYPE, whose name is `html`: its public and its system identifier, each missing or its bytes
+pub record Doctype : Type 0 where
+  pub public_identifier : Option (List ℕ)
+  pub system_identifier : Option (List ℕ)
 
 pub record Attribute : Type 0 where
   pub name : List ℕ
@@ -17,7 +22,7 @@ pub record Tag : Type 0 where
   pub self_closing : Bool
 
 pub data Token : Type 0 where
-  Doctype : Token
+  DoctypeToken : Doctype → Token
   Comment : List ℕ → Token
   TagToken : Tag → Token
   Character : ℕ → Token
@@ -27,15 +32,31 @@ pub data Token : Type 0 where
 -- the tokens that were emitted, and what was read of the next
 pub record Building : Type 0 where
   pub emitted : List Token
+  pub doctype : Doctype
   pub tag : Tag
   pub comment : List ℕ
   pub string : List ℕ
+
+-- a DOCTYPE whose identifiers are missing
+abbrev pub no_doctype : Doctype
+no_doctype = record { public_identifier = None; system_identifier = None }
 
 abbrev pub no_tag : Bool → Tag
 no_tag is_end = record { is_end = is_end; name = []; attributes = []; self_closing = false }
 
 abbrev pub nothing : Building
-nothing = record { emitted = []; tag = no_tag false; comment = []; string = [] }
+nothing = record { emitted = []; doctype = no_doctype; tag = no_tag false; comment = []; string = [] }
+
+-- one byte more of an identifier
+abbrev pub longer_identifier : ℕ → Option (List ℕ) → Option (List ℕ)
+longer_identifier b None = None
+longer_identifier b (Some bytes) = Some (bytes ++ b ∷ [])
+
+abbrev pub with_public : Option (List ℕ) → Building → Building
+with_public identifier s = record s { doctype = record s.doctype { public_identifier = identifier } }
+
+abbrev pub with_system : Option (List ℕ) → Building → Building
+with_system identifier s = record s { doctype = record s.doctype { system_identifier = identifier } }
 
 -- one byte more of the name, and of the value, of the attribute that was begun last
 abbrev pub longer_name : ℕ → List Attribute → List Attribute
@@ -53,7 +74,12 @@ abbrev pub with_attributes : List Attribute → Building → Building
 with_attributes attributes s = record s { tag = record s.tag { attributes = attributes } }
 
 abbrev pub built : Building → Action → Building
-built s EmitDoctype = emits Doctype s
+built s NewDoctype = record s { doctype = no_doctype }
+built s SetPublicEmpty = with_public (Some []) s
+built s (PublicByte b) = with_public (longer_identifier b s.doctype.public_identifier) s
+built s SetSystemEmpty = with_system (Some []) s
+built s (SystemByte b) = with_system (longer_identifier b s.doctype.system_identifier) s
+built s EmitDoctype = emits (DoctypeToken s.doctype) s
 built s NewComment = record s { comment = [] }
 built s (CommentByte b) = record s { comment = s.comment ++ b ∷ [] }
 built s EmitComment = emits (Comment s.comment) s

@@ -1,15 +1,23 @@
 //! What a byte does in the code of a script or a style, outside of strings.
-ghost use Rattle.std.specs.Prelude.{◌≡◌, ℕ, List};
+ghost use Rattle.std.specs.Prelude.{◌≡◌, ℕ, List, true};
 ghost use Rattle.html_tokenizer.specs.Tokenizer.CodeBytes.{
-  code_after_less,
   block_byte,
   block_star_byte,
+  code_after_solidus,
+  code_at_less,
   code_byte,
-  code_end,
+  code_end_tag_byte,
   code_less_byte,
+  code_word_byte,
+  double_escaped_less_byte,
+  escaped_less_byte,
+  gives_up,
   import_byte,
   in_code_byte,
-  less_in,
+  is_opaque,
+  is_script,
+  is_text_alone,
+  less_byte,
   letters_byte,
   line_byte,
   longer,
@@ -22,15 +30,18 @@ ghost use Rattle.html_tokenizer.specs.Tokenizer.CodeBytes.{
   style_code_byte,
   url_byte,
   url_open_byte,
-  without_slots,
 };
 ghost use Rattle.html_tokenizer.specs.Tokenizer.Phases.{moved};
 ghost use Rattle.html_tokenizer.specs.Tokenizer.States.{Forbidden, In, at_value};
 
+use crate::attributes::{ends_code, with_element};
+use crate::flags::is_name_byte;
 use crate::slot_place::SlotPlace;
-use crate::states::{Code, Content, Kind, Move, OpenElement, Phase, Word, in_value, refuses, to};
-use crate::tags::is_space;
-use crate::words::{is_blank, is_name_byte, longer};
+use crate::states::{
+    Code, Content, Kind, Move, OpenElement, Phase, Word, goes, in_value, refuses, to,
+};
+use crate::tags::{end_tag_byte, ends_name, is_space};
+use crate::words::{is_blank, longer};
 
 #[inline(always)]
 fn stays(code: Code, content: Content, byte: u8) -> Move
@@ -38,6 +49,14 @@ fn stays(code: Code, content: Content, byte: u8) -> Move
 {
     let _byte = byte;
     to(Phase::InCode(code), content)
+}
+
+// The rest of the code is opaque.
+#[inline(always)]
+fn gives_up(content: Content, byte: u8) -> Move
+    ensures { (word : List ℕ) → moved result word ≡ (gives_up content byte).next }
+{
+    stays(Code::Opaque, content, byte)
 }
 
 #[inline(always)]
@@ -82,7 +101,7 @@ fn script_byte(content: Content, byte: u8) -> Move
     let phase = match byte {
         b'\'' => Phase::In(SlotPlace::ScriptSingle),
         b'"' => Phase::In(SlotPlace::ScriptDouble),
-        b'\\' | b'`' | b'#' => return refuses(),
+        b'\\' | b'`' | b'#' => Phase::InCode(Code::Opaque),
         b'/' => Phase::InCode(Code::Slash),
         b'-' => Phase::InCode(Code::Dash),
         b'i' => Phase::InCode(Code::LetterI),
@@ -115,13 +134,6 @@ fn letters_byte(code: Code, content: Content, byte: u8) -> Move
     }
 }
 
-fn without_slots(content: Content) -> Content
-    ensures { result ≡ without_slots content }
-{
-    let element = OpenElement::DataBlock;
-    Content { element, ..content }
-}
-
 // A string begins in which no slot may stand.
 fn begins_without_slot(place: SlotPlace, content: Content) -> Move
     ensures { (word : List ℕ) → moved result word ≡ at_value (In place) content Forbidden }
@@ -135,7 +147,7 @@ fn module_byte(after: Code, content: Content, byte: u8) -> Move
     let place = match byte {
         b'\'' => SlotPlace::ScriptSingle,
         b'"' => SlotPlace::ScriptDouble,
-        b'/' => return stays(Code::Plain, without_slots(content), byte),
+        b'/' => return gives_up(content, byte),
         _ if is_blank(byte) => return stays(after, content, byte),
         _ => return script_byte(content, byte),
     };
@@ -146,10 +158,35 @@ fn import_byte(content: Content, byte: u8) -> Move
     ensures { (word : List ℕ) → moved result word ≡ (import_byte content byte).next }
 {
     if byte == b'(' || byte == b'.' {
-        stays(Code::Plain, without_slots(content), byte)
+        gives_up(content, byte)
     } else {
         module_byte(Code::AfterImport, content, byte)
     }
+}
+
+// In a part of a script that takes no slot, or where one begins.
+fn opaque_byte(code: Code, content: Content, byte: u8) -> Move
+    requires { is_opaque code ≡ true }
+    ensures { (word : List ℕ) → moved result word ≡ (script_code_byte code content byte).next }
+{
+    let dash = byte == b'-';
+    let next = match code {
+        Code::EscapeStart if dash => Code::EscapeStartDash,
+        Code::EscapeStartDash if dash => Code::EscapedDashDash,
+        Code::EscapedDashDash | Code::DoubleEscapedDashDash if byte == b'>' => Code::Opaque,
+        Code::Escaped if dash => Code::EscapedDash,
+        Code::EscapedDash | Code::EscapedDashDash if dash => Code::EscapedDashDash,
+        Code::Escaped | Code::EscapedDash | Code::EscapedDashDash => Code::Escaped,
+        Code::DoubleEscaped if dash => Code::DoubleEscapedDash,
+        Code::DoubleEscapedDash | Code::DoubleEscapedDashDash if dash => {
+            Code::DoubleEscapedDashDash
+        }
+        Code::DoubleEscaped | Code::DoubleEscapedDash | Code::DoubleEscapedDashDash => {
+            Code::DoubleEscaped
+        }
+        _ => Code::Opaque,
+    };
+    stays(next, content, byte)
 }
 
 #[inline(always)]
@@ -177,10 +214,19 @@ fn script_code_byte(code: Code, content: Content, byte: u8) -> Move
         Code::LineComment => line_byte(content, byte),
         Code::LineLead if byte == 0x80 => stays(Code::LineSecond, content, byte),
         Code::LineLead => line_byte(content, byte),
-        Code::LineSecond if byte != 0xA8 && byte != 0xA9 => line_byte(content, byte),
+        Code::LineSecond if byte == 0xA8 || byte == 0xA9 => stays(Code::Plain, content, byte),
+        Code::LineSecond => line_byte(content, byte),
         Code::BlockComment => block_byte(content, byte),
         Code::BlockStar => block_star_byte(content, byte),
-        _ => refuses(),
+        Code::EscapeStart
+        | Code::EscapeStartDash
+        | Code::Escaped
+        | Code::EscapedDash
+        | Code::EscapedDashDash
+        | Code::DoubleEscaped
+        | Code::DoubleEscapedDash
+        | Code::DoubleEscapedDashDash => opaque_byte(code, content, byte),
+        _ => gives_up(content, byte),
     }
 }
 
@@ -191,7 +237,7 @@ fn style_byte(content: Content, byte: u8) -> Move
     let phase = match byte {
         b'\'' => Phase::In(SlotPlace::StyleSingle),
         b'"' => Phase::In(SlotPlace::StyleDouble),
-        b'\\' => return refuses(),
+        b'\\' => Phase::InCode(Code::Opaque),
         b'/' => Phase::InCode(Code::Slash),
         b'@' => Phase::InCode(Code::At),
         b'u' | b'U' => Phase::InCode(Code::LetterU),
@@ -206,7 +252,7 @@ fn url_byte(content: Content, byte: u8) -> Move
 {
     match byte {
         b')' => stays(Code::Plain, content, byte),
-        b'"' | b'\'' | b'(' | b'\\' => refuses(),
+        b'"' | b'\'' | b'(' | b'\\' => gives_up(content, byte),
         b'/' => stays(Code::UrlSlash, content, byte),
         _ => stays(Code::Url, content, byte),
     }
@@ -237,9 +283,9 @@ fn style_code_byte(code: Code, content: Content, byte: u8) -> Move
         (Code::BlockComment, _) => return block_byte(content, byte),
         (Code::BlockStar, _) => return block_star_byte(content, byte),
         (Code::UrlOpen, _) => return url_open_byte(content, byte),
-        (Code::UrlSlash, b'*') => return refuses(),
+        (Code::UrlSlash, b'*') => Code::Opaque,
         (Code::Url | Code::UrlSlash, _) => return url_byte(content, byte),
-        (Code::At, b'i' | b'I') => return refuses(),
+        (Code::At, b'i' | b'I') => Code::Opaque,
         (
             Code::Plain
             | Code::Slash
@@ -251,7 +297,7 @@ fn style_code_byte(code: Code, content: Content, byte: u8) -> Move
         ) => {
             return style_byte(content, byte);
         }
-        _ => return refuses(),
+        _ => Code::Opaque,
     };
     stays(longer, content, byte)
 }
@@ -263,31 +309,41 @@ fn code_byte(code: Code, content: Content, byte: u8) -> Move
     match content.element {
         OpenElement::Script => script_code_byte(code, content, byte),
         OpenElement::Style => style_code_byte(code, content, byte),
-        OpenElement::DataBlock => stays(Code::Plain, content, byte),
-        _ => refuses(),
+        OpenElement::SvgStyle if byte == b'&' => refuses(),
+        _ => gives_up(content, byte),
     }
 }
 
-fn code_after_less(code: Code) -> Code
-    ensures { result ≡ code_after_less code }
+pub(crate) fn is_script(element: OpenElement) -> bool
+    ensures { result ≡ is_script element }
+{
+    element == OpenElement::Script
+}
+
+fn code_at_less(element: OpenElement, code: Code) -> Code
+    ensures { result ≡ code_at_less element code }
 {
     match code {
         Code::LineComment | Code::LineLead | Code::LineSecond => Code::LineComment,
         Code::BlockComment | Code::BlockStar => Code::BlockComment,
         Code::UrlOpen | Code::Url | Code::UrlSlash => Code::Url,
+        Code::Slash if is_script(element) => Code::Opaque,
+        Code::Opaque | Code::EscapeStart | Code::EscapeStartDash => Code::Opaque,
+        Code::Escaped | Code::EscapedDash | Code::EscapedDashDash => Code::Escaped,
+        Code::DoubleEscaped | Code::DoubleEscapedDash | Code::DoubleEscapedDashDash => {
+            Code::DoubleEscaped
+        }
         _ => Code::Plain,
     }
 }
 
-#[inline(always)]
-fn less_in(code: Code, content: Content) -> Move
-    ensures { (word : List ℕ) → moved result word ≡ (less_in code content).next }
+fn is_text_alone(element: OpenElement) -> bool
+    ensures { result ≡ is_text_alone element }
 {
-    if code == Code::Slash && content.element == OpenElement::Script {
-        refuses()
-    } else {
-        to(Phase::CodeLess(code_after_less(code)), content)
-    }
+    matches!(
+        element,
+        OpenElement::SvgStyle | OpenElement::NoScriptStyle | OpenElement::NoScriptFrame
+    )
 }
 
 /// In code.
@@ -296,30 +352,130 @@ pub(crate) fn in_code_byte(code: Code, content: Content, byte: u8) -> Move
     ensures { (word : List ℕ) → moved result word ≡ (in_code_byte code content byte).next }
 {
     if byte == b'<' {
-        less_in(code, content)
+        to(
+            Phase::CodeLess(code_at_less(content.element, code)),
+            content,
+        )
     } else {
         code_byte(code, content, byte)
     }
 }
 
-#[inline(always)]
-fn code_end(code: Code, content: Content) -> Move
-    ensures { (word : List ℕ) → moved result word ≡ (code_end code content).next }
+fn code_after_solidus(code: Code) -> Code
+    ensures { result ≡ code_after_solidus code }
 {
     match code {
-        Code::Plain => to(Phase::EndTagOpen, content),
-        _ => refuses(),
+        Code::LineComment | Code::BlockComment | Code::Escaped => code,
+        _ => Code::Opaque,
+    }
+}
+
+/// After a `<` of code, outside of what `<!--` begins.
+#[inline(always)]
+pub(crate) fn less_byte(code: Code, content: Content, byte: u8) -> Move
+    ensures { (word : List ℕ) → moved result word ≡ (less_byte code content byte).next }
+{
+    if byte == b'/' {
+        goes(
+            Phase::CodeEndTag(code_after_solidus(code)),
+            content,
+            Word::New,
+        )
+    } else if (byte == b'!') & is_script(content.element) {
+        to(Phase::InCode(Code::EscapeStart), content)
+    } else {
+        in_code_byte(code, content, byte)
+    }
+}
+
+fn escaped_less_byte(content: Content, byte: u8) -> Move
+    ensures { (word : List ℕ) → moved result word ≡ (escaped_less_byte content byte).next }
+{
+    if byte == b'/' {
+        goes(Phase::CodeEndTag(Code::Escaped), content, Word::New)
+    } else if byte.is_ascii_alphabetic() {
+        let letter = Word::Begin(byte.to_ascii_lowercase());
+        goes(Phase::CodeWord(Code::Escaped), content, letter)
+    } else {
+        in_code_byte(Code::Escaped, content, byte)
+    }
+}
+
+fn double_escaped_less_byte(content: Content, byte: u8) -> Move
+    ensures { (word : List ℕ) → moved result word
+        ≡ (double_escaped_less_byte content byte).next }
+{
+    if byte == b'/' {
+        goes(Phase::CodeWord(Code::DoubleEscaped), content, Word::New)
+    } else {
+        in_code_byte(Code::DoubleEscaped, content, byte)
     }
 }
 
 /// After a `<` of code.
-#[inline(always)]
 pub(crate) fn code_less_byte(code: Code, content: Content, byte: u8) -> Move
     ensures { (word : List ℕ) → moved result word ≡ (code_less_byte code content byte).next }
 {
-    match byte {
-        b'/' => code_end(code, content),
-        b'!' => refuses(),
-        _ => in_code_byte(code, content, byte),
+    match code {
+        Code::Escaped => escaped_less_byte(content, byte),
+        Code::DoubleEscaped => double_escaped_less_byte(content, byte),
+        _ if is_text_alone(content.element) => {
+            if byte == b'/' {
+                to(Phase::EndTagOpen, content)
+            } else {
+                refuses()
+            }
+        }
+        _ => less_byte(code, content, byte),
     }
+}
+
+/// After `</` of code, where the word has the letters so far.
+pub(crate) fn code_end_tag_byte(code: Code, content: Content, word: &[u8], byte: u8) -> Move
+    ensures { moved result word.now ≡ (code_end_tag_byte code content word.now byte).next }
+{
+    if ends_name(byte) && ends_code(content.element, word) {
+        end_tag_byte(with_element(content, OpenElement::Normal), byte)
+    } else if byte.is_ascii_alphabetic() {
+        goes(Phase::CodeEndTag(code), content, Word::Add(byte))
+    } else {
+        in_code_byte(code, content, byte)
+    }
+}
+
+/// In a word that begins or ends what hides an end tag.
+pub(crate) fn code_word_byte(code: Code, content: Content, word: &[u8], byte: u8) -> Move
+    ensures { moved result word.now ≡ (code_word_byte code content word.now byte).next }
+{
+    if ends_name(byte) {
+        let next = match code {
+            _ if word != b"script".as_slice() => code,
+            Code::Escaped => Code::DoubleEscaped,
+            _ => Code::Escaped,
+        };
+        stays(next, content, byte)
+    } else if byte.is_ascii_alphabetic() {
+        let letter = byte.to_ascii_lowercase();
+        goes(Phase::CodeWord(code), content, Word::Add(letter))
+    } else {
+        in_code_byte(code, content, byte)
+    }
+}
+
+/// Whether the rest takes no slot.
+pub(crate) fn is_opaque(code: Code) -> bool
+    ensures { result ≡ is_opaque code }
+{
+    matches!(
+        code,
+        Code::Opaque
+            | Code::EscapeStart
+            | Code::EscapeStartDash
+            | Code::Escaped
+            | Code::EscapedDash
+            | Code::EscapedDashDash
+            | Code::DoubleEscaped
+            | Code::DoubleEscapedDash
+            | Code::DoubleEscapedDashDash
+    )
 }

@@ -1,15 +1,12 @@
-//! What a byte does in a comment and in a DOCTYPE.
+//! What a byte does after `<!` and in a comment.
 ghost use Rattle.std.specs.Prelude.{◌≡◌, ℕ, List};
 ghost use Rattle.html_tokenizer.specs.Tokenizer.Comments.{
-  after_doctype_byte,
-  before_doctype_byte,
   comment_byte,
   comment_dash_byte,
   comment_end_byte,
   comment_start_byte,
   comment_start_dash_byte,
   declaration_byte,
-  doctype_byte,
 };
 ghost use Rattle.html_tokenizer.specs.Tokenizer.Phases.{moved};
 ghost use Rattle.html_tokenizer.specs.declared.states.Phase.TheVariants as phase;
@@ -43,56 +40,6 @@ pub(crate) fn declaration_byte(content: Content, word: &[u8], byte: u8) -> Move
             content,
             Word::Add(byte.to_ascii_lowercase()),
         )
-    }
-}
-
-/// Before the name of a DOCTYPE.
-#[inline(always)]
-pub(crate) fn before_doctype_byte(content: Content, byte: u8) -> Move
-    ensures { (word : List ℕ) → moved result word ≡ (before_doctype_byte content byte).next }
-{
-    if is_space(byte) {
-        to(Phase::BeforeDoctype, content)
-    } else if byte.is_ascii_alphabetic() {
-        goes(
-            Phase::Doctype,
-            content,
-            Word::Begin(byte.to_ascii_lowercase()),
-        )
-    } else {
-        refuses()
-    }
-}
-
-/// After the name of a DOCTYPE.
-#[inline(always)]
-pub(crate) fn after_doctype_byte(content: Content, byte: u8) -> Move
-    ensures { (word : List ℕ) → moved result word ≡ (after_doctype_byte content byte).next }
-{
-    if is_space(byte) {
-        to(Phase::AfterDoctype, content)
-    } else if byte == b'>' {
-        to(Phase::In(SlotPlace::Text), content)
-    } else {
-        refuses()
-    }
-}
-
-/// In the name of a DOCTYPE.
-#[inline(always)]
-pub(crate) fn doctype_byte(content: Content, name: &[u8], byte: u8) -> Move
-    ensures { moved result name.now ≡ (doctype_byte content name.now byte).next }
-{
-    if byte.is_ascii_alphabetic() {
-        goes(
-            Phase::Doctype,
-            content,
-            Word::Add(byte.to_ascii_lowercase()),
-        )
-    } else if name == b"html".as_slice() {
-        after_doctype_byte(content, byte)
-    } else {
-        refuses()
     }
 }
 

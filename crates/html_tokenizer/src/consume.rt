@@ -6,13 +6,18 @@ ghost use Rattle.html_tokenizer.specs.Tokenizer.Tokenization.{byte_in, value_byt
 ghost use Rattle.html_tokenizer.specs.declared.states.Phase.TheVariants as phase;
 
 use crate::attributes::reference_read;
-use crate::code::{code_less_byte, in_code_byte};
+use crate::code::{code_end_tag_byte, code_less_byte, code_word_byte, in_code_byte};
 use crate::comments::{
-    after_doctype_byte, before_doctype_byte, comment_byte, comment_dash_byte, comment_end_byte,
-    comment_start_byte, declaration_byte, doctype_byte,
+    comment_byte, comment_dash_byte, comment_end_byte, comment_start_byte, declaration_byte,
 };
+use crate::doctypes::{
+    after_doctype_byte, after_public_byte, after_system_byte, before_doctype_byte,
+    before_public_byte, before_system_byte, between_identifiers_byte, doctype_byte,
+    doctype_keyword_byte, public_byte, system_byte,
+};
+use crate::references::{goes_on, reference_end};
 use crate::slot_place::SlotPlace;
-use crate::states::{Content, Kind, Move, Phase, refuses, to};
+use crate::states::{Content, Kind, Move, Phase, Word, in_value, refuses, to};
 use crate::strings::{
     ends_line, is_newline_or_nul, string_byte, string_less_byte, style_escape_byte,
 };
@@ -20,9 +25,7 @@ use crate::tags::{
     after_name_byte, after_value_byte, attribute_name_byte, before_name_byte, end_tag_byte,
     end_tag_name_byte, end_tag_open_byte, self_closing_byte, tag_name_byte, tag_open_byte,
 };
-use crate::values::{
-    before_value_byte, quoted_byte, reference_byte, text_byte, unquoted_value_byte,
-};
+use crate::values::{before_value_byte, quoted_byte, text_byte, unquoted_value_byte};
 
 #[inline(always)]
 fn value_byte(place: SlotPlace, content: Content, kind: Kind, word: &[u8], byte: u8) -> Move
@@ -55,7 +58,15 @@ fn within_byte(place: SlotPlace, content: Content, kind: Kind, word: &[u8], byte
             let again = value_byte(place, content, kind, word, byte);
             style_escape_byte(place, content, kind, word, byte, again)
         }
-        _ => reference_byte(place, content, kind, word, byte),
+        _ if goes_on(word, byte) => {
+            let kind = reference_read(kind);
+            in_value(Phase::Within(place), content, kind, Word::Add(byte))
+        }
+        _ => {
+            let kind = reference_read(kind);
+            let again = value_byte(place, content, kind, word, byte);
+            reference_end(place, content, kind, word, byte, again)
+        }
     }
 }
 
@@ -70,7 +81,8 @@ pub(crate) fn byte_in(phase: Phase, content: Content, kind: Kind, word: &[u8], b
         Phase::In(place) => value_byte(place, content, kind, word, byte),
         Phase::Within(place) => within_byte(place, content, kind, word, byte),
         Phase::StringLess(place) => {
-            string_less_byte(value_byte(place, content, kind, word, byte), byte)
+            let again = value_byte(place, content, kind, word, byte);
+            string_less_byte(content, again, byte)
         }
         Phase::TagOpen if byte == b'/' => to(Phase::EndTagOpen, content),
         Phase::TagOpen => tag_open_byte(content, byte),
@@ -86,10 +98,20 @@ pub(crate) fn byte_in(phase: Phase, content: Content, kind: Kind, word: &[u8], b
         Phase::SelfClosing => self_closing_byte(content, byte),
         Phase::InCode(code) => in_code_byte(code, content, byte),
         Phase::CodeLess(code) => code_less_byte(code, content, byte),
+        Phase::CodeEndTag(code) => code_end_tag_byte(code, content, word, byte),
+        Phase::CodeWord(code) => code_word_byte(code, content, word, byte),
         Phase::Declaration => declaration_byte(content, word, byte),
         Phase::BeforeDoctype => before_doctype_byte(content, byte),
         Phase::Doctype => doctype_byte(content, word, byte),
         Phase::AfterDoctype => after_doctype_byte(content, byte),
+        Phase::DoctypeKeyword => doctype_keyword_byte(content, word, byte),
+        Phase::BeforePublic => before_public_byte(content, byte),
+        Phase::PublicIdentifier(mark) => public_byte(mark, content, byte),
+        Phase::AfterPublic => after_public_byte(content, byte),
+        Phase::BetweenIdentifiers => between_identifiers_byte(content, byte),
+        Phase::BeforeSystem => before_system_byte(content, byte),
+        Phase::SystemIdentifier(mark) => system_byte(mark, content, byte),
+        Phase::AfterSystem => after_system_byte(content, byte),
         Phase::CommentStart => comment_start_byte(content, Phase::CommentStartDash, byte),
         Phase::CommentStartDash => comment_start_byte(content, Phase::CommentEnd, byte),
         Phase::Comment => comment_byte(content, byte),

@@ -1,19 +1,24 @@
 //! The tokenizer of a page's markup, and where a text may stand in it.
 //!
-//! A [`Reader`] reads markup as the HTML Standard's tokenizer does, in a profile that refuses what it
-//! cannot tell: at once stretches of bytes that leave its state as it is, and names with what stands
-//! between them and their values, and else byte by byte. It says at which place of the page a slot
-//! stands. One function for each group of states, and one definition for each of them.
+//! A [`Reader`] reads markup as the HTML Standard's tokenizer does, in a profile that takes no slot
+//! where it cannot tell, and refuses what a browser may read in two ways. It reads at once stretches of
+//! bytes that leave its state as it is, and names with what stands between them and their values, and
+//! else byte by byte. It says at which place of the page a slot stands. One function for each group of
+//! states, and one definition for each of them.
 #![tactic(auto)]
 
 mod attributes;
 mod code;
 mod comments;
 mod consume;
+mod doctypes;
 mod encodings;
+mod flags;
 pub mod laws;
+mod legacy_names;
 mod names;
 mod reader;
+mod references;
 mod slot_place;
 mod states;
 mod stretches;

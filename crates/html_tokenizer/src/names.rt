@@ -1,15 +1,17 @@
-//! Where the name of a tag or an attribute begins, how it goes on, and where its end leads.
+//! Where the name of a tag or an attribute begins, how it goes on, and where its end leads; and how a
+//! reference goes on.
 ghost use Rattle.std.specs.Prelude.{◌≡◌, ◌≤◌, ◌++◌, ◌∷◌, [], ℕ, List, length, take, IfSome, IsTrue};
 ghost use Rattle.html_tokenizer.specs.Tokenizer.Phases.{moved, state_of};
 ghost use Rattle.html_tokenizer.specs.Tokenizer.States.{at};
 ghost use Rattle.html_tokenizer.specs.Tokenizer.Tokenization.{consume, state_after};
 ghost use Rattle.html_tokenizer.specs.declared.states.Content.{Content};
 
+use crate::flags::stands_in_name;
 use crate::slot_place::SlotPlace;
-use crate::states::{Content, Move, OpenElement, Phase, Word};
-use crate::tags::{attribute_name_byte, end_tag_name_byte, tag_name_byte};
+use crate::states::{Content, Move, Phase, Word};
+use crate::tags::{attribute_name_byte, end_tag_name_byte, holds_markup, tag_name_byte};
 
-// Whether the byte is one more of a name as it stands, in a state that holds a name.
+// Whether the byte is one more of a name as it stands, or of a reference, in a state that holds one.
 #[inline(always)]
 #[tactic(auto, unfolding(crate::specs::Tokenizer::Tokenization::consume))]
 fn lengthens_name(phase: Phase, byte: u8) -> bool
@@ -18,15 +20,19 @@ fn lengthens_name(phase: Phase, byte: u8) -> bool
         ≡ at (state_of phase (word ++ byte ∷ [])) content }
 {
     match phase {
-        Phase::TagName | Phase::EndTagName | Phase::Name => {
-            // Nearly all are letters, which are looked for first.
-            matches!(byte, b'a'..=b'z') || matches!(byte, b'0'..=b'9' | b'-')
-        }
+        Phase::TagName | Phase::EndTagName | Phase::Name => stands_in_name(byte),
+        Phase::Within(
+            SlotPlace::Text
+            | SlotPlace::DoubleQuoted
+            | SlotPlace::SingleQuoted
+            | SlotPlace::Unquoted,
+        ) => byte.is_ascii_alphanumeric(),
         _ => false,
     }
 }
 
-/// How many of the first bytes are more of a name as they stand, in a state that holds a name.
+/// How many of the first bytes are more of a name as they stand, or of a reference, in a state that
+/// holds one.
 #[inline(always)]
 pub(crate) fn name_length(phase: Phase, bytes: &[u8]) -> usize
     ensures within { result ≤ length bytes.now }
@@ -72,9 +78,7 @@ pub(crate) fn begun_name(phase: Phase, content: Content, byte: u8) -> Option<Pha
         ≡ at (state_of next (byte ∷ [])) content) }
 {
     match (phase, byte) {
-        (Phase::TagOpen, b'a'..=b'z') if content.element == OpenElement::Normal => {
-            Some(Phase::TagName)
-        }
+        (Phase::TagOpen, b'a'..=b'z') if holds_markup(content.element) => Some(Phase::TagName),
         (Phase::EndTagOpen, b'a'..=b'z') => Some(Phase::EndTagName),
         (Phase::BeforeName, b'a'..=b'z') => Some(Phase::Name),
         _ => None,

@@ -1,16 +1,17 @@
 //! The running tokenizer.
-ghost use Rattle.std.specs.Prelude.{◌≡◌, ◌≤◌, ◌<◌, ◌++◌, ◌∷◌, [], ◌↔◌, OnOk, IfOk, IsTrue, length, take};
+ghost use Rattle.std.specs.Prelude.{◌≡◌, ◌≤◌, ◌<◌, ◌++◌, ◌∷◌, [], ◌↔◌, OnOk, IfOk, IsTrue, length, slice_index, take};
 ghost use Rattle.html_tokenizer.specs.Standing.{AfterStanding, is_refused, may_end, standing};
 ghost use Rattle.html_tokenizer.specs.Tokenizer.CodeStrings.{script_escape_byte};
 ghost use Rattle.html_tokenizer.specs.Tokenizer.Names.{reference_read};
-ghost use Rattle.html_tokenizer.specs.Tokenizer.Phases.{attribute_in, moved, tokenizer_of};
-ghost use Rattle.html_tokenizer.specs.Tokenizer.States.{data_state};
+ghost use Rattle.html_tokenizer.specs.Tokenizer.Phases.{attribute_in, moved, state_of, tokenizer_of};
+ghost use Rattle.html_tokenizer.specs.Tokenizer.States.{at, data_state};
 ghost use Rattle.html_tokenizer.specs.Tokenizer.Tokenization.{consume, state_after};
 ghost use Rattle.html_tokenizer.specs.declared.states.OpenElement.TheVariants as element;
 ghost use Rattle.html_tokenizer.specs.declared.states.Kind.TheVariants as kind;
 ghost use Rattle.html_tokenizer.specs.declared.states.Phase.TheVariants as phase;
 
 use crate::attributes::{content_after, inside};
+use crate::code::is_opaque;
 use crate::consume::byte_in;
 use crate::names::{before_name, begun_name, name_length, whole_name};
 use crate::slot_place::SlotPlace;
@@ -79,10 +80,10 @@ impl<A: Allocator> Reader<A> {
         ensures { OnOk result (tokenizer_of self.new
             ≡ (script_escape_byte place self.old.content
             (reference_read (attribute_in self.old.kind self.old.word.items))
-            (self.old.word.items ++ byte ∷ [])).next) }
+            self.old.word.items byte).next) }
     {
         self.word.push(byte)?;
-        let next = script_escape_byte(place, self.content, self.kind, &self.word);
+        let next = script_escape_byte(place, self.content, self.kind, &self.word, byte);
         self.go(next)
     }
 
@@ -101,7 +102,8 @@ impl<A: Allocator> Reader<A> {
         }
     }
 
-    // Reads on in a name, if one is read, over its first bytes, and answers how many.
+    // Reads on in a name or a reference, if one is read, over its first bytes, and answers how many.
+    #[inline(always)]
     fn name_bytes(&mut self, bytes: &[u8]) -> Result<usize, AllocError>
         requires { self.old.kind ≡ kind.Ordinary }
         ensures within { IfOk result (λ count. count ≤ length bytes.now) }
@@ -130,9 +132,52 @@ impl<A: Allocator> Reader<A> {
         }
     }
 
+    // Reads over a name that begins at the first byte, and answers how many bytes. A name that ends
+    // here is not held, and its end and the quote mark of its value are read, too.
+    #[inline(always)]
+    fn read_name(&mut self, phase: Phase, bytes: &[u8]) -> Result<usize, AllocError>
+        requires kind { self.old.kind ≡ kind.Ordinary }
+        requires some { 0 < length bytes.now }
+        requires begun { (consume (tokenizer_of self.old) (slice_index bytes.now 0)).next
+            ≡ at (state_of phase (slice_index bytes.now 0 ∷ [])) self.old.content }
+        ensures within { IfOk result (λ count. count ≤ length bytes.now) }
+        ensures read { IfOk result (λ count. tokenizer_of self.new
+            ≡ state_after (tokenizer_of self.old) (take count bytes.now)) }
+    {
+        let end = 1 + name_length(phase, &bytes[1..]);
+        if end != bytes.len()
+            && let Some(next) = whole_name(phase, self.content, &bytes[..end], bytes[end])
+        {
+            self.go(next)?;
+            let ended = end + 1;
+            return Ok(ended + self.open_value(&bytes[ended..]));
+        }
+        self.phase = phase;
+        self.word.clear();
+        self.word.extend_from_slice(&bytes[..end])?;
+        Ok(end)
+    }
+
+    // Reads over a name, if one begins at the first byte, and answers how many bytes. A tag's name has
+    // a copy of what follows to itself.
+    #[inline(always)]
+    fn read_begun_name(&mut self, bytes: &[u8]) -> Result<usize, AllocError>
+        requires kind { self.old.kind ≡ kind.Ordinary }
+        requires some { 0 < length bytes.now }
+        ensures within { IfOk result (λ count. count ≤ length bytes.now) }
+        ensures read { IfOk result (λ count. tokenizer_of self.new
+            ≡ state_after (tokenizer_of self.old) (take count bytes.now)) }
+    {
+        match begun_name(self.phase, self.content, bytes[0]) {
+            Some(Phase::TagName) => self.read_name(Phase::TagName, bytes),
+            Some(Phase::EndTagName) => self.read_name(Phase::EndTagName, bytes),
+            Some(phase) => self.read_name(phase, bytes),
+            None => Ok(0),
+        }
+    }
+
     // Reads over the beginning of a name and over the name, if one begins, and answers how many
-    // bytes. A name that ends here is not held, and its end and the quote mark of its value are read,
-    // too. Not inlined, since three kinds of passes end in it.
+    // bytes. Not inlined, since three kinds of passes end in it.
     #[inline(never)]
     fn begin_name(&mut self, bytes: &[u8]) -> Result<usize, AllocError>
         requires { self.old.kind ≡ kind.Ordinary }
@@ -145,22 +190,8 @@ impl<A: Allocator> Reader<A> {
         if count == bytes.len() {
             return Ok(count);
         }
-        let Some(phase) = begun_name(before, self.content, bytes[count]) else {
-            return Ok(count);
-        };
-        let begun = count + 1;
-        let end = begun + name_length(phase, &bytes[begun..]);
-        if end != bytes.len()
-            && let Some(next) = whole_name(phase, self.content, &bytes[count..end], bytes[end])
-        {
-            self.go(next)?;
-            let ended = end + 1;
-            return Ok(ended + self.open_value(&bytes[ended..]));
-        }
-        self.phase = phase;
-        self.word.clear();
-        self.word.extend_from_slice(&bytes[count..end])?;
-        Ok(end)
+        let more = self.read_begun_name(&bytes[count..])?;
+        Ok(count + more)
     }
 
     // Reads over the quote mark that ends a value, if one stands there, and answers how many bytes.
@@ -267,6 +298,7 @@ impl<A: Allocator> Reader<A> {
             (Phase::TagName | Phase::EndTagName | Phase::Name, Kind::Ordinary) => {
                 self.name_bytes(bytes)?
             }
+            (Phase::Within(_), Kind::Ordinary) => return Ok((self.name_bytes(bytes)?, false)),
             (Phase::In(SlotPlace::Text), Kind::Ordinary) => self.read_text(bytes)?,
             (Phase::BeforeName | Phase::AfterValue, Kind::Ordinary) => self.begin_name(bytes)?,
             (Phase::In(SlotPlace::DoubleQuoted), _) => self.read_value(bytes)?,
@@ -323,7 +355,7 @@ impl<A: Allocator> Reader<A> {
 
     /// Whether what was read has no reading.
     ///
-    /// After `<svg>` it is `true`, and after `<p>` it is `false`.
+    /// After `<xmp>` it is `true`, and after `<p>` it is `false`.
     pub fn is_refused(&self) -> bool
         ensures { result ≡ is_refused (tokenizer_of self.now).state }
     {
@@ -334,11 +366,12 @@ impl<A: Allocator> Reader<A> {
         ensures { result ≡ standing (tokenizer_of self.now) }
     {
         let place = match self.phase {
-            Phase::In(place) => place,
-            Phase::BeforeValue => SlotPlace::Unquoted,
-            Phase::InCode(_) if self.content.element == OpenElement::DataBlock => {
+            Phase::In(_) if self.content.element == OpenElement::NoScript => {
                 return Standing::Barred;
             }
+            Phase::In(place) => place,
+            Phase::BeforeValue => SlotPlace::Unquoted,
+            Phase::InCode(code) if is_opaque(code) => return Standing::Barred,
             _ => return Standing::Nowhere,
         };
         if self.kind == Kind::Ordinary {

@@ -5,22 +5,31 @@ ghost use Rattle.html_tokenizer.specs.Tokenizer.States.{at, at_value, refused};
 
 use crate::slot_place::SlotPlace;
 
-/// How the content of the element that is open is read, and for a `meta` what stands in its tag.
+/// How the content of the element that is open is read, and for a `meta`, an `svg` and a `math` its tag.
 #[derive(Clone, Copy, Debug, PartialEq, Eq)]
 pub enum OpenElement {
     /// Text and elements.
     Normal,
+    /// The content of an `svg`: text and elements.
+    Svg,
+    /// The content of a `math`: text and elements.
+    Math,
+    /// The content of a `select`: text and elements.
+    Select,
+    /// The content of a `noscript`: raw text where scripts run, and else text and elements.
+    NoScript,
     /// Text, up to the end tag of `title`.
     Title,
     /// Text, up to the end tag of `textarea`.
     Textarea,
     /// A script in JavaScript.
     Script,
-    /// A script in another language, which the Standard calls a data block, or the rest of a script
-    /// that takes no slot.
+    /// The tag of a script in another language, which the Standard calls a data block.
     DataBlock,
     /// A style.
     Style,
+    /// The text of an `iframe`.
+    Frame,
     /// The tag of a `meta`.
     Meta,
     /// The same after a `content`.
@@ -29,6 +38,28 @@ pub enum OpenElement {
     MetaPragma,
     /// The same after the `http-equiv` that says the type of the page.
     MetaType,
+    /// The tag of an `svg`.
+    SvgTag,
+    /// In an `svg`, text up to the end tag of `title`.
+    SvgTitle,
+    /// In an `svg`, a style.
+    SvgStyle,
+    /// The tag of a `math`.
+    MathTag,
+    /// In a `math`, text up to the end tag of `mi`.
+    MathMi,
+    /// The same up to that of `mo`.
+    MathMo,
+    /// The same up to that of `mn`.
+    MathMn,
+    /// The same up to that of `ms`.
+    MathMs,
+    /// The same up to that of `mtext`.
+    MathMtext,
+    /// In a `noscript`, a style.
+    NoScriptStyle,
+    /// In a `noscript`, text up to the end tag of `iframe`.
+    NoScriptFrame,
 }
 
 /// What is open: an element whose content is read its own way, and templates.
@@ -107,6 +138,24 @@ pub enum Code {
     Url,
     /// After a `/` of such a URL.
     UrlSlash,
+    /// Where the rest takes no slot, and only its end tag is looked for.
+    Opaque,
+    /// The same after `<!` of a script.
+    EscapeStart,
+    /// After `<!-`.
+    EscapeStartDash,
+    /// In what `<!--` begins in a script.
+    Escaped,
+    /// After a `-` of it.
+    EscapedDash,
+    /// After `--`.
+    EscapedDashDash,
+    /// The same after a start tag of a script in it, which hides an end tag.
+    DoubleEscaped,
+    /// After a `-` of it.
+    DoubleEscapedDash,
+    /// After `--`.
+    DoubleEscapedDashDash,
 }
 
 /// A state, without its word.
@@ -128,10 +177,20 @@ pub(crate) enum Phase {
     SelfClosing,
     InCode(Code),
     CodeLess(Code),
+    CodeEndTag(Code),
+    CodeWord(Code),
     Declaration,
     BeforeDoctype,
     Doctype,
     AfterDoctype,
+    DoctypeKeyword,
+    BeforePublic,
+    PublicIdentifier(u8),
+    AfterPublic,
+    BetweenIdentifiers,
+    BeforeSystem,
+    SystemIdentifier(u8),
+    AfterSystem,
     CommentStart,
     CommentStartDash,
     Comment,
@@ -155,6 +214,7 @@ pub(crate) enum Kind {
     Pragma,
     PageType,
     Unread,
+    Raw,
 }
 
 /// What becomes of the word.

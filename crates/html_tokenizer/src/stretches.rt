@@ -13,6 +13,7 @@ ghost use Rattle.html_tokenizer.specs.Tokenizer.Stretches.{
   is_searched,
   leaves_code,
   leaves_value,
+  settled,
   word_after,
 };
 ghost use Rattle.html_tokenizer.specs.Tokenizer.Tokenization.{consume, state_after};
@@ -23,9 +24,10 @@ ghost use Rattle.html_tokenizer.specs.declared.states.Phase.TheVariants as phase
 ghost use Rattle.html_tokenizer.specs.declared.states.Content.{Content};
 ghost use Rattle.html_tokenizer.specs.declared.states.OpenElement.TheVariants.{Script};
 
+use crate::flags::stays_settled;
 use crate::slot_place::SlotPlace;
 use crate::states::{Code, Content, Kind, OpenElement, Phase};
-use crate::words::next_word;
+use crate::words::{next_word, settled, settled_byte};
 use hesc_scan::find::{first_byte, first_of_two};
 
 // Whether the tokenizer stays in the code at the byte.
@@ -73,16 +75,54 @@ fn code_stretch(code: Code, content: Content, bytes: &[u8]) -> usize
     ensures stays { state_after (at (InCode code) content) (take result bytes.now)
         ≡ at (InCode code) content }
 {
-    match (content.element, code) {
-        (OpenElement::Script, Code::LineComment) => {
+    match (code, content.element) {
+        (Code::Opaque, OpenElement::Script) => first_byte(b'<', bytes, 0),
+        (Code::Opaque, OpenElement::Style) => first_byte(b'<', bytes, 0),
+        (Code::Opaque, OpenElement::Frame) => first_byte(b'<', bytes, 0),
+        (Code::LineComment, OpenElement::Script) => {
             code_bytes(Code::LineComment, OpenElement::Script, bytes)
         }
-        (OpenElement::Script, Code::BlockComment) => first_of_two(b'*', b'<', bytes, 0),
-        (OpenElement::Style, Code::Plain) => code_bytes(Code::Plain, OpenElement::Style, bytes),
-        (OpenElement::Style, Code::Url) => code_bytes(Code::Url, OpenElement::Style, bytes),
-        (OpenElement::Style, Code::BlockComment) => first_of_two(b'*', b'<', bytes, 0),
-        (OpenElement::DataBlock, Code::Plain) => first_byte(b'<', bytes, 0),
+        (Code::BlockComment, OpenElement::Script) => first_of_two(b'*', b'<', bytes, 0),
+        (Code::Plain, OpenElement::Style) => code_bytes(Code::Plain, OpenElement::Style, bytes),
+        (Code::Url, OpenElement::Style) => code_bytes(Code::Url, OpenElement::Style, bytes),
+        (Code::BlockComment, OpenElement::Style) => first_of_two(b'*', b'<', bytes, 0),
+        (Code::Escaped, OpenElement::Script) => first_of_two(b'-', b'<', bytes, 0),
+        (Code::DoubleEscaped, OpenElement::Script) => first_of_two(b'-', b'<', bytes, 0),
         _ => 0,
+    }
+}
+
+// How many of the first bytes of a script's code are no marks and begin neither word, where the byte
+// before them is `before`, and which byte is the last then.
+#[inline(always)]
+fn settled_bytes(before: u8, bytes: &[u8]) -> (usize, u8)
+    ensures within { result.0 ≤ length bytes.now }
+    ensures read { (content : Content) → content.element ≡ Script
+        → state_after (at (InCode (settled before)) content) (take result.0 bytes.now)
+        ≡ at (InCode (settled result.1)) content }
+{
+    let mut last = before;
+    let mut count = 0;
+    'settled: while count < bytes.len() && stays_settled(last, bytes[count]) {
+        last = bytes[count];
+        count += 1;
+    }
+    (count, last)
+}
+
+#[inline(always)]
+fn settled_words(code: Code, bytes: &[u8]) -> (usize, Code)
+    ensures within { result.0 ≤ length bytes.now }
+    ensures read { (content : Content) → content.element ≡ Script
+        → state_after (at (InCode code) content) (take result.0 bytes.now)
+        ≡ at (InCode result.1) content }
+{
+    match settled_byte(code) {
+        Some(before) => {
+            let (count, last) = settled_bytes(before, bytes);
+            (count, settled(last))
+        }
+        None => (0, code),
     }
 }
 
@@ -99,6 +139,12 @@ pub(crate) fn script_words(code: Code, bytes: &[u8]) -> (usize, Code)
     let mut reached = code;
     let mut count = 0;
     'words: while count < bytes.len() {
+        let (more, settled) = settled_words(reached, &bytes[count..]);
+        reached = settled;
+        count += more;
+        if count == bytes.len() {
+            break 'words;
+        }
         let Some(next) = next_word(reached, bytes[count]) else {
             return (count, reached);
         };
@@ -202,12 +248,19 @@ pub(crate) fn stretch(phase: Phase, content: Content, kind: Kind, bytes: &[u8]) 
     }
 }
 
-/// Whether bytes may leave the tokenizer where it is in this state, or begin a name or go on in one.
+/// Whether bytes may leave the tokenizer where it is in this state, begin a name, or go on in one or in a
+/// reference.
 #[inline(always)]
 pub(crate) fn has_stretches(phase: Phase) -> bool {
     matches!(
         phase,
         Phase::In(_)
+            | Phase::Within(
+                SlotPlace::Text
+                    | SlotPlace::DoubleQuoted
+                    | SlotPlace::SingleQuoted
+                    | SlotPlace::Unquoted
+            )
             | Phase::InCode(_)
             | Phase::Comment
             | Phase::TagName

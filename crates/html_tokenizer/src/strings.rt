@@ -1,9 +1,11 @@
 //! What a byte does in a string of a script or a style.
-ghost use Rattle.std.specs.Prelude.{◌≡◌, ℕ, Bool, List};
+ghost use Rattle.std.specs.Prelude.{◌≡◌, ◌++◌, ◌∷◌, [], ℕ, Bool, List};
+ghost use Rattle.std.specs.Char.{is_digit};
 ghost use Rattle.hesc_grammars.specs.StyleStrings.{is_newline_or_nul};
+ghost use Rattle.html_tokenizer.specs.Tokenizer.CodeBytes.{ends_line};
 ghost use Rattle.html_tokenizer.specs.Tokenizer.CodeStrings.{
+  begins_hex_escape,
   character_of_escape,
-  ends_line,
   script_escape_byte,
   string_byte,
   string_less_byte,
@@ -14,8 +16,9 @@ ghost use Rattle.html_tokenizer.specs.Tokenizer.Phases.{attribute_in, moved};
 ghost use Rattle.html_tokenizer.specs.Tokenizer.Transitions.{Transition};
 
 use crate::attributes::reference_read;
+use crate::code::{in_code_byte, is_script, less_byte};
 use crate::slot_place::SlotPlace;
-use crate::states::{Code, Content, Kind, Move, Phase, Word, in_value, refuses, to};
+use crate::states::{Code, Content, Kind, Move, Phase, Word, in_value, to};
 use crate::values::{begins_character, keeps};
 use hesc_grammars::Step;
 use hesc_grammars::script_strings::script_escape;
@@ -41,7 +44,7 @@ pub(crate) fn string_byte(
     } else if byte == b'<' {
         in_value(Phase::StringLess(place), content, kind, Word::Keep)
     } else if breaks {
-        refuses()
+        to(Phase::InCode(Code::Opaque), content)
     } else {
         keeps(place, content, kind, word, byte)
     }
@@ -63,14 +66,33 @@ pub(crate) fn is_newline_or_nul(byte: u8) -> bool
 
 /// After a `<` of a string, where the byte alone would lead on so.
 #[inline(always)]
-pub(crate) fn string_less_byte(again: Move, byte: u8) -> Move
+pub(crate) fn string_less_byte(content: Content, again: Move, byte: u8) -> Move
     ensures { (word : List ℕ) (t : Transition) → moved again word ≡ t.next
-        → moved result word ≡ (string_less_byte t byte).next }
+        → moved result word ≡ (string_less_byte content t byte).next }
 {
-    if byte == b'/' || byte == b'!' {
-        refuses()
+    if (byte == b'/') | ((byte == b'!') & is_script(content.element)) {
+        less_byte(Code::Opaque, content, byte)
     } else {
         again
+    }
+}
+
+fn is_hex(byte: u8) -> bool
+    ensures { result ≡ is_digit byte 16 }
+{
+    (byte as char).is_digit(16)
+}
+
+// Whether the bytes begin an escape by hex digits.
+fn begins_hex_escape(word: &[u8]) -> bool
+    ensures { result ≡ begins_hex_escape word.now }
+{
+    match word {
+        [b'x' | b'u'] => true,
+        [b'x' | b'u', first] => is_hex(*first),
+        [b'u', first, second] => is_hex(*first) && is_hex(*second),
+        [b'u', first, second, third] => is_hex(*first) && is_hex(*second) && is_hex(*third),
+        _ => false,
     }
 }
 
@@ -86,23 +108,26 @@ fn character_of_escape(word: &[u8]) -> Option<char>
     }
 }
 
-/// In an escape of a script: the word has the byte.
+/// In an escape of a script: the byte is the last of the word.
 #[tactic(auto, using(crate::proofs::HeldWords::reference_read_held))]
 pub(crate) fn script_escape_byte(
     place: SlotPlace,
     content: Content,
     kind: Kind,
     word: &[u8],
+    byte: u8,
 ) -> Move
-    ensures { (before : List ℕ) → moved result word.now
+    ensures { (before held : List ℕ) → word.now ≡ held ++ byte ∷ [] → moved result word.now
         ≡ (script_escape_byte place content (reference_read (attribute_in kind before))
-        word.now).next }
+        held byte).next }
 {
     let kind = reference_read(kind);
     match character_of_escape(word) {
         Some(_) => in_value(Phase::In(place), content, kind, Word::New),
-        None if word.len() < 5 => in_value(Phase::Within(place), content, kind, Word::Keep),
-        None => refuses(),
+        None if begins_hex_escape(word) => {
+            in_value(Phase::Within(place), content, kind, Word::Keep)
+        }
+        None => in_code_byte(Code::Opaque, content, byte),
     }
 }
 
@@ -120,12 +145,11 @@ pub(crate) fn style_escape_byte(
         ≡ (style_escape_byte place content (reference_read (attribute_in kind word.now))
         word.now byte t).next }
 {
-    let is_digit = (byte as char).is_digit(16);
-    let (phase, held) = if is_digit && word.len() < 6 {
+    let (phase, held) = if is_hex(byte) && word.len() < 6 {
         (Phase::Within(place), Word::Add(byte))
     } else if word.is_empty() {
         if is_newline_or_nul(byte) || byte == b'<' {
-            return refuses();
+            return in_code_byte(Code::Opaque, content, byte);
         }
         (Phase::In(place), Word::New)
     } else if matches!(byte, b' ' | b'\t' | b'\n') {

@@ -1,5 +1,6 @@
 //! What a byte does in a tag.
 ghost use Rattle.std.specs.Prelude.{◌≡◌, ℕ, List};
+ghost use Rattle.html_tokenizer.specs.Tokenizer.Names.{beside};
 ghost use Rattle.html_tokenizer.specs.Tokenizer.Phases.{moved, state_of};
 ghost use Rattle.html_tokenizer.specs.Tokenizer.States.{State, at};
 ghost use Rattle.html_tokenizer.specs.Tokenizer.Tags.{
@@ -7,15 +8,17 @@ ghost use Rattle.html_tokenizer.specs.Tokenizer.Tags.{
   after_value_byte,
   attribute_name_byte,
   before_name_byte,
+  closed_itself,
   content_state,
   end_tag_byte,
   end_tag_name_byte,
   end_tag_open_byte,
   ends_name,
   first_name_byte,
+  holds_comments,
+  holds_markup,
   in_tag,
   is_name_error,
-  is_normal,
   is_space,
   opened,
   self_closing_byte,
@@ -24,7 +27,7 @@ ghost use Rattle.html_tokenizer.specs.Tokenizer.Tags.{
 };
 ghost use Rattle.html_tokenizer.specs.Tokenizer.Transitions.{Transition};
 
-use crate::attributes::{closed, content_of, ends_content, inside, value_of};
+use crate::attributes::{beside, closed, content_of, ends_content, inside, value_of, with_element};
 use crate::slot_place::SlotPlace;
 use crate::states::{Code, Content, Move, OpenElement, Phase, Word, goes, refuses, to};
 
@@ -39,17 +42,40 @@ pub(crate) fn content_phase(element: OpenElement) -> Phase
     ensures { (word : List ℕ) → state_of result word ≡ content_state element }
 {
     match element {
-        OpenElement::Script | OpenElement::DataBlock | OpenElement::Style => Phase::InCode(
-            Code::Plain,
-        ),
+        OpenElement::Script | OpenElement::Style => Phase::InCode(Code::Plain),
+        OpenElement::DataBlock
+        | OpenElement::Frame
+        | OpenElement::SvgStyle
+        | OpenElement::NoScriptStyle
+        | OpenElement::NoScriptFrame => Phase::InCode(Code::Opaque),
         _ => Phase::In(SlotPlace::Text),
     }
 }
 
-fn is_normal(element: OpenElement) -> bool
-    ensures { result ≡ is_normal element }
+/// Whether tags begin in the content.
+#[inline(always)]
+pub(crate) fn holds_markup(element: OpenElement) -> bool
+    ensures { result ≡ holds_markup element }
 {
-    element == OpenElement::Normal
+    matches!(
+        element,
+        OpenElement::Normal
+            | OpenElement::Svg
+            | OpenElement::Math
+            | OpenElement::Select
+            | OpenElement::NoScript
+    )
+}
+
+// Whether comments begin in the content.
+#[inline(always)]
+fn holds_comments(element: OpenElement) -> bool
+    ensures { result ≡ holds_comments element }
+{
+    matches!(
+        element,
+        OpenElement::Normal | OpenElement::Svg | OpenElement::Math | OpenElement::Select
+    )
 }
 
 /// At the `>` of a start tag.
@@ -83,14 +109,13 @@ fn in_tag(blank: Move, content: Content, byte: u8, other: Move) -> Move
 pub(crate) fn tag_open_byte(content: Content, byte: u8) -> Move
     ensures { (word : List ℕ) → moved result word ≡ (tag_open_byte content byte).next }
 {
-    let normal = is_normal(content.element);
-    if normal && byte.is_ascii_alphabetic() {
+    if holds_markup(content.element) && byte.is_ascii_alphabetic() {
         goes(
             Phase::TagName,
             content,
             Word::Begin(byte.to_ascii_lowercase()),
         )
-    } else if normal && byte == b'!' {
+    } else if holds_comments(content.element) && byte == b'!' {
         to(Phase::Declaration, content)
     } else {
         refuses()
@@ -113,7 +138,8 @@ pub(crate) fn end_tag_open_byte(content: Content, byte: u8) -> Move
     }
 }
 
-fn ends_name(byte: u8) -> bool
+/// Whether the byte is white space, `/` or `>`.
+pub(crate) fn ends_name(byte: u8) -> bool
     ensures { result ≡ ends_name byte }
 {
     byte == b'>' || is_space(byte) || byte == b'/'
@@ -224,13 +250,28 @@ pub(crate) fn after_name_byte(content: Content, name: &[u8], byte: u8) -> Move
     }
 }
 
+// At the `/>` of a start tag.
+#[inline(always)]
+fn closed_itself(content: Content) -> Move
+    ensures { (word : List ℕ) → moved result word
+        ≡ (closed_itself (beside content.element) content).next }
+{
+    match beside(content.element) {
+        Some(element) => to(
+            content_phase(content.element),
+            with_element(content, element),
+        ),
+        None => refuses(),
+    }
+}
+
 /// After the `/` of a start tag.
 #[inline(always)]
 pub(crate) fn self_closing_byte(content: Content, byte: u8) -> Move
     ensures { (word : List ℕ) → moved result word ≡ (self_closing_byte content byte).next }
 {
     if byte == b'>' {
-        opened(content)
+        closed_itself(content)
     } else {
         refuses()
     }

@@ -1,6 +1,5 @@
 //! What a byte does in text and in the value of an attribute.
 ghost use Rattle.std.specs.Prelude.{◌≡◌, ℕ, List, []};
-ghost use Rattle.html_tokenizer.specs.Tokenizer.Names.{reference_read};
 ghost use Rattle.html_tokenizer.specs.Tokenizer.Phases.{attribute_in, moved, state_of};
 ghost use Rattle.html_tokenizer.specs.Tokenizer.Transitions.{goes, keeps};
 ghost use Rattle.html_tokenizer.specs.Tokenizer.Values.{
@@ -8,7 +7,6 @@ ghost use Rattle.html_tokenizer.specs.Tokenizer.Values.{
   begins_character,
   ended,
   quoted_byte,
-  reference_byte,
   text_byte,
   unquoted_byte,
   unquoted_value_byte,
@@ -18,7 +16,6 @@ use crate::attributes::{content_after, reference_read, value_byte_read};
 use crate::slot_place::SlotPlace;
 use crate::states::{Content, Kind, Move, Phase, Word, in_value, refuses, to};
 use crate::tags::{is_space, opened};
-use hesc_grammars::references::body_character;
 
 /// A byte of a value as it stands.
 #[inline(always)]
@@ -42,28 +39,6 @@ pub(crate) fn begins_character(place: SlotPlace, content: Content, kind: Kind) -
         reference_read(kind),
         Word::New,
     )
-}
-
-/// In a reference, which goes up to the first `;`.
-pub(crate) fn reference_byte(
-    place: SlotPlace,
-    content: Content,
-    kind: Kind,
-    word: &[u8],
-    byte: u8,
-) -> Move
-    ensures { moved result word.now
-        ≡ (reference_byte place content (reference_read (attribute_in kind word.now))
-        word.now byte).next }
-{
-    let kind = reference_read(kind);
-    if byte == b';' {
-        return match body_character(word) {
-            Some(_) => in_value(Phase::In(place), content, kind, Word::New),
-            None => refuses(),
-        };
-    }
-    in_value(Phase::Within(place), content, kind, Word::Add(byte))
 }
 
 /// In text.

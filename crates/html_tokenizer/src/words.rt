@@ -1,22 +1,15 @@
 //! The words of a script's code, of which two stand before a string that names a module.
-ghost use Rattle.std.specs.Prelude.{◌≡◌, IfSome};
+ghost use Rattle.std.specs.Prelude.{◌≡◌, IfSome, IsTrue};
 ghost use Rattle.html_tokenizer.specs.Tokenizer.CodeBytes.{is_blank, is_name_byte, longer};
 ghost use Rattle.html_tokenizer.specs.Tokenizer.States.{InCode, at};
-ghost use Rattle.html_tokenizer.specs.Tokenizer.Stretches.{word_after};
+ghost use Rattle.html_tokenizer.specs.Tokenizer.Stretches.{is_mark, settled, word_after};
 ghost use Rattle.html_tokenizer.specs.Tokenizer.Tokenization.{consume};
 ghost use Rattle.html_tokenizer.specs.declared.states.Content.{Content};
 ghost use Rattle.html_tokenizer.specs.declared.states.OpenElement.TheVariants.{Script};
 
+use crate::flags::is_name_byte;
 use crate::states::Code;
 use crate::tags::is_space;
-
-/// Whether the byte is in ASCII and of a name.
-#[inline(always)]
-pub(crate) fn is_name_byte(byte: u8) -> bool
-    ensures { result ≡ is_name_byte byte }
-{
-    byte.is_ascii_alphanumeric() || byte == b'$' || byte == b'_'
-}
 
 /// Whether the byte is white space, or may be a part of it.
 pub(crate) fn is_blank(byte: u8) -> bool
@@ -43,6 +36,41 @@ pub(crate) fn longer(code: Code, byte: u8) -> Option<Code>
     }
 }
 
+/// Whether the byte begins or ends more than a word of a script, or has no reading.
+#[inline(always)]
+fn is_mark(byte: u8) -> bool
+    ensures { result ≡ is_mark byte }
+{
+    matches!(
+        byte,
+        b'"' | b'\'' | b'\\' | b'`' | b'#' | b'/' | b'-' | b'<'
+    )
+}
+
+/// The word state after a byte that is no mark and begins neither word.
+#[inline(always)]
+pub(crate) fn settled(byte: u8) -> Code
+    ensures { result ≡ settled byte }
+{
+    if is_name_byte(byte) {
+        Code::Name
+    } else {
+        Code::Plain
+    }
+}
+
+/// A byte after which the word state is this one, if there is one.
+#[inline(always)]
+pub(crate) fn settled_byte(code: Code) -> Option<u8>
+    ensures { IfSome result (λ byte. settled byte ≡ code) }
+{
+    match code {
+        Code::Plain => Some(b' '),
+        Code::Name => Some(b'a'),
+        _ => None,
+    }
+}
+
 /// Where a byte of a script's code leads from a word to another one, or stays in one.
 #[inline(always)]
 #[tactic(auto, unfolding(crate::specs::Tokenizer::Tokenization::consume))]
@@ -51,17 +79,12 @@ pub(crate) fn next_word(code: Code, byte: u8) -> Option<Code>
     ensures leads { IfSome result (λ next. (content : Content) → content.element ≡ Script
         → (consume (at (InCode code) content) byte).next ≡ at (InCode next) content) }
 {
-    // Nearly all are letters, which are looked for first.
     match code {
-        Code::Name if byte.is_ascii_lowercase() => Some(Code::Name),
         Code::Plain | Code::Name => match byte {
             b'i' if code == Code::Plain => Some(Code::LetterI),
             b'f' if code == Code::Plain => Some(Code::LetterF),
-            b'a'..=b'z' => Some(Code::Name),
-            b' ' => Some(Code::Plain),
-            b'"' | b'\'' | b'\\' | b'`' | b'#' | b'/' | b'-' | b'<' => None,
-            _ if is_name_byte(byte) => Some(Code::Name),
-            _ => Some(Code::Plain),
+            _ if is_mark(byte) => None,
+            _ => Some(settled(byte)),
         },
         Code::LetterI
         | Code::LettersIm

@@ -1,10 +1,10 @@
 -- Strings of scripts, by the grammar and by the tokenizer.
-use Rattle.std.proofs.Common.{ℕ, ◌≡◌, true, false, List, [], ◌∷◌, ◌++◌, ◌==◌, ◌⊎◌, inl, inr, Option, Some, None, length, encode_utf8, bytes_eq, map, refl, subst, sym, ⊎_elim}
+use Rattle.std.proofs.Common.{ℕ, ◌≡◌, Bool, true, false, List, [], ◌∷◌, ◌++◌, ◌==◌, ◌⊎◌, inl, inr, Option, Some, None, length, encode_utf8, bytes_eq, map, refl, subst, sym, ⊎_elim}
 use Rattle.std.specs.Char.{is_digit}
 use Rattle.std.specs.Int.{is_in_range}
 use Rattle.std.specs.List.{list_all}
 use Rattle.std.specs.Str.Parse.{digits_value}
-use Rattle.std.proofs.lemmas.Bool.{cases_Bool, eqb-true}
+use Rattle.std.proofs.lemmas.Bool.{and_parts, cases_Bool, eqb-true}
 use Rattle.hesc_specs.specs.Text.Ascii.{backslash, carriage_return, double_quote, line_feed, lower_x, single_quote, slash}
 use Rattle.hesc_specs.specs.declared.quotes.Quotes.{Quotes}
 use Rattle.hesc_grammars.specs.declared.step.Mode.TheVariants.{Plain}
@@ -18,13 +18,16 @@ use Rattle.html_tokenizer.specs.declared.slot_place.SlotPlace.TheVariants as slo
 use Rattle.html_tokenizer.specs.declared.states.Content.{Content}
 use Rattle.html_tokenizer.specs.Agreement.{AgreesInString}
 use Rattle.html_tokenizer.specs.Tokenizer.Actions.{read_byte}
-use Rattle.html_tokenizer.specs.Tokenizer.CodeStrings.{ends_line}
+use Rattle.html_tokenizer.specs.Tokenizer.CodeBytes.{ends_line}
 use Rattle.html_tokenizer.specs.Tokenizer.States.{In, at}
 use Rattle.html_tokenizer.specs.Tokenizer.Tokenization.{consume}
 use Rattle.html_tokenizer.proofs.Passing.{Passes}
 use Rattle.html_tokenizer.proofs.Slots.Scripts.{ReadsScript, completes, reads_on, script_single_reads, script_double_reads}
 use Rattle.html_tokenizer.proofs.Slots.Strings.{begins_escape}
 use Rattle.html_tokenizer.proofs.Agreement.Strings.{Escaped, StringPlace, agrees_in, taken_escape}
+
+abbrev is_hex : ℕ → Bool
+is_hex b = is_digit b 16
 
 no : true ≡ false → ⊥
 no h = cc
@@ -80,7 +83,7 @@ module _ {p : SlotPlace} {mark : ℕ} {quotes : Quotes} {content : Content} (rea
       let never : None ≡ Some found = rw (reads.string.other, hex, surrogate) at is in cc)
       (λ (other : is_in_range 0xD800 0xDFFF (digits_value 16 digits) ≡ false).
       escape_of (lower_x ∷ digits) rest (digits_value 16 digits) (λ more. rw (hex, other) refl)
-      (begins_escape reads.string (reads_on reads [] refl (reads_on reads (lower_x ∷ []) refl
+      (begins_escape reads.string (reads_on reads [] refl (reads_on reads (lower_x ∷ []) (rw (and_parts (is_hex d) (list_all is_hex (e ∷ [])) hex).0 refl)
       (completes reads (encode_utf8 (digits_value 16 digits)) (rw (hex, other) refl))))) found is)
       (cases_Bool (is_in_range 0xD800 0xDFFF (digits_value 16 digits))))
       (λ (other : list_all (λ b. is_digit b 16) digits ≡ false).
@@ -98,8 +101,11 @@ module _ {p : SlotPlace} {mark : ℕ} {quotes : Quotes} {content : Content} (rea
       let never : None ≡ Some found = rw (reads.string.other, hex, surrogate) at is in cc)
       (λ (other : is_in_range 0xD800 0xDFFF (digits_value 16 digits) ≡ false).
       escape_of (lower_u ∷ digits) rest (digits_value 16 digits) (λ more. rw (hex, other) refl)
-      (begins_escape reads.string (reads_on reads [] refl (reads_on reads (lower_u ∷ []) refl
-      (reads_on reads (lower_u ∷ d ∷ []) refl (reads_on reads (lower_u ∷ d ∷ e ∷ []) refl
+      (let first = and_parts (is_hex d) (list_all is_hex (e ∷ f ∷ g ∷ [])) hex in
+      let second = and_parts (is_hex e) (list_all is_hex (f ∷ g ∷ [])) first.1 in
+      let third = and_parts (is_hex f) (list_all is_hex (g ∷ [])) second.1 in
+      begins_escape reads.string (reads_on reads [] refl (reads_on reads (lower_u ∷ []) (rw first.0 refl)
+      (reads_on reads (lower_u ∷ d ∷ []) (rw (first.0, second.0) refl) (reads_on reads (lower_u ∷ d ∷ e ∷ []) (rw (first.0, second.0, third.0) refl)
       (completes reads (encode_utf8 (digits_value 16 digits)) (rw (hex, other) refl))))))) found is)
       (cases_Bool (is_in_range 0xD800 0xDFFF (digits_value 16 digits))))
       (λ (other : list_all (λ b. is_digit b 16) digits ≡ false).

@@ -17,13 +17,13 @@ use Rattle.hesc_grammars.proofs.Takes.{Takes, reads_character, takes_two}
 use Rattle.html_tokenizer.specs.declared.slot_place.SlotPlace.{SlotPlace}
 use Rattle.html_tokenizer.specs.declared.slot_place.SlotPlace.TheVariants as slot
 use Rattle.html_tokenizer.specs.declared.states.Content.{Content}
-use Rattle.html_tokenizer.specs.Agreement.{AgreesInString, RefusesString}
+use Rattle.html_tokenizer.specs.Agreement.{AgreesInString, GivesUp, is_given_up}
 use Rattle.html_tokenizer.specs.Tokenizer.Actions.{read_byte}
-use Rattle.html_tokenizer.specs.Tokenizer.CodeStrings.{is_escape_space}
-use Rattle.html_tokenizer.specs.Tokenizer.States.{In, Within, at}
+use Rattle.html_tokenizer.specs.Tokenizer.CodeStrings.{gives_escape_up, is_escape_space}
+use Rattle.html_tokenizer.specs.Tokenizer.States.{Tokenizer, In, Within, at}
 use Rattle.html_tokenizer.specs.Tokenizer.Tokenization.{consume, state_after}
-use Rattle.html_tokenizer.specs.Tokenizer.Transitions.{Transition, goes, refuses}
-use Rattle.html_tokenizer.proofs.Passing.{Passes, passes_none, passes_both, passes_byte, passes_one, stays_refused}
+use Rattle.html_tokenizer.specs.Tokenizer.Transitions.{Transition, goes}
+use Rattle.html_tokenizer.proofs.Passing.{Passes, passes_none, passes_both, passes_byte, passes_one}
 use Rattle.html_tokenizer.proofs.Slots.Strings.{begins_escape}
 use Rattle.html_tokenizer.proofs.Slots.Styles.{ReadsStyle, style_single_reads, style_double_reads}
 use Rattle.html_tokenizer.proofs.Agreement.Readings.{after_some}
@@ -103,18 +103,19 @@ module _ {p : SlotPlace} {mark : ℕ} {quotes : Quotes} {content : Content} (rea
       taken_escape (b ∷ []) (b ∷ []) bytes found (takes_one b no_digit no_newline)
       (begins_escape reads.string (passes_one (read_byte p b ∷ []) (reads.within [] b ∙ rw (no_digit, no_newline, no_less) refl))) is
 
-  less_refused : (front : List ℕ) → RefusesString p content (backslash ∷ less_than ∷ front)
-  less_refused front =
+  less_gives_up : (front : List ℕ) → GivesUp p content (backslash ∷ less_than ∷ front)
+  less_gives_up front =
       let begins : consume (at (In p) content) backslash ≡ goes (Within p []) content [] = reads.string.bytes backslash ∙ rw reads.string.other refl in
-      let refuses_it : consume (at (Within p []) content) less_than ≡ refuses = reads.within [] less_than ∙ refl in
+      let up : consume (at (Within p []) content) less_than ≡ gives_escape_up content [] less_than = reads.within [] less_than ∙ refl in
+      let first : state_after (at (In p) content) (backslash ∷ less_than ∷ []) ≡ (gives_escape_up content [] less_than).next =
+      ap (λ (x : Transition). state_after x.next (less_than ∷ [])) begins ∙ ap (λ (x : Transition). x.next) up in
       record {
-        after = ap (λ (x : Transition). state_after x.next (less_than ∷ front)) begins
-            ∙ ap (λ (x : Transition). state_after x.next front) refuses_it ∙ stays_refused front;
         before = [];
         word = backslash ∷ less_than ∷ [];
         following = front;
         parts = refl;
         markup = refl;
+        after = ap (λ (x : Tokenizer). is_given_up x.state) first;
       }
 
   less : (bytes : List ℕ) → Reads p content mark (less_than ∷ bytes)
@@ -124,7 +125,7 @@ module _ {p : SlotPlace} {mark : ℕ} {quotes : Quotes} {content : Content} (rea
     value = less_than ∷ [];
     parts = refl;
     following = after_some (less_than ∷ []) 2 (reading_after (style_string_step mark) 0 Plain bytes) found (sym ((takes_one less_than refl refl).goes_on bytes) ∙ is);
-    reads = λ front more others rest_is read. inr (less_refused front);
+    reads = λ front more others rest_is read. inr (less_gives_up front);
   }
 
   -- digits are read on

@@ -142,7 +142,7 @@ module _ {start : State} {mode : Mode} {p : SlotPlace} {content : Content} {mark
       let long : length bytes ≡ length s.body + length (semicolon ∷ s.rest) = ap length s.parts ∙ length-append s.body (semicolon ∷ s.rest) in
       let fewer : length s.rest ≤ n = omega arith in
       subst (λ x. Ends (Reads start p content odd) mark x found) (sym whole)
-      (goes_on piece (encode_utf8 c) s.rest found (passes_character reads.html s.body c s.none read) following (go s.rest following.rest fewer following.is))
+      (goes_on piece (encode_utf8 c) s.rest found (passes_character reads.html s.body c read) following (go s.rest following.rest fewer following.is))
 
   by_semicolon : (n : ℕ) → GoesOn n → (bytes : List ℕ) (found : List ℕ × ℕ) → length bytes ≤ n →
       reading_after step 0 mode (ampersand ∷ bytes) ≡ Some found → (place : Option ℕ) → position_from (λ b. b == semicolon) 0 bytes ≡ place →

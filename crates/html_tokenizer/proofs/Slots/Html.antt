@@ -1,6 +1,5 @@
 -- What an HTML encoder writes stays in the value, and is read as the text.
-use Rattle.std.proofs.Common.{ℕ, ◌≡◌, ◌≢◌, ◌<◌, Bool, true, false, not, List, [], ◌∷◌, ◌++◌, ◌==◌, Some, length, flat_map, map, encode_utf8, refl, subst, sym, ◌∙◌, ⊎_elim, append_assoc, append-nil, ne_eqb}
-use Rattle.std.specs.List.{list_all}
+use Rattle.std.proofs.Common.{ℕ, ◌≡◌, ◌≢◌, ◌<◌, true, false, List, [], ◌∷◌, ◌++◌, ◌==◌, Some, length, flat_map, map, encode_utf8, refl, subst, sym, ◌∙◌, ⊎_elim, append_assoc, append-nil, ne_eqb}
 use Rattle.std.proofs.lemmas.Bool.{cases_Bool, and_parts}
 use Rattle.std.proofs.lemmas.Str.{encode_ascii}
 use Rattle.std.proofs.lemmas.List.{map-append}
@@ -14,38 +13,34 @@ use Rattle.hesc_specs.proofs.Html.Images.{in_class_is_ascii, kept_is_other}
 use Rattle.hesc_grammars.specs.References.{body_character}
 use Rattle.hesc_grammars.proofs.HtmlPieces.{read_image}
 use Rattle.hesc_grammars.proofs.ReadBacks.{read_back-text, read_back-nul}
-use Rattle.hesc_grammars.proofs.ReferenceBodies.{HasNoSemicolon}
 use Rattle.hesc_grammars.proofs.ReferenceImages.{IsRead, reference_to_is_read, body_to, character_to}
 use Rattle.html_tokenizer.specs.declared.slot_place.SlotPlace.{SlotPlace}
 use Rattle.html_tokenizer.specs.declared.slot_place.SlotPlace.TheVariants as place
 use Rattle.html_tokenizer.specs.declared.states.Content.{Content}
 use Rattle.html_tokenizer.specs.Tokenizer.Actions.{read_byte}
 use Rattle.html_tokenizer.specs.Tokenizer.States.{State, In, Within, BeforeValue, Ordinary, at}
-use Rattle.html_tokenizer.specs.Tokenizer.Tokenization.{consume}
+use Rattle.html_tokenizer.specs.Tokenizer.Tokenization.{consume, value_byte}
 use Rattle.html_tokenizer.specs.Tokenizer.Transitions.{goes, keeps}
-use Rattle.html_tokenizer.specs.Tokenizer.Values.{reference_byte}
+use Rattle.html_tokenizer.specs.Tokenizer.References.{goes_on, reference_byte}
+use Rattle.html_tokenizer.proofs.KnownReferences.{IsKnown, is_held, known}
 use Rattle.html_tokenizer.proofs.Passing.{Passes, passes_none, passes_both, passes_byte, passes_one}
 
 -- in the state a value begins or goes on that has references, and each byte outside of the class is kept
 pub record ReadsHtml (state : State) (p : SlotPlace) (content : Content) (class : Class) : Type 0 where
   pub html : IsHtml class
   pub references : consume (at state content) ampersand ≡ goes (Within p []) content []
-  pub within : (word : List ℕ) (b : ℕ) → consume (at (Within p word) content) b ≡ reference_byte p content Ordinary word b
+  pub within : (word : List ℕ) (b : ℕ) → consume (at (Within p word) content) b ≡ reference_byte p content Ordinary word b (value_byte p content Ordinary b)
   pub others : (b : ℕ) → in_class class b ≡ false → consume (at state content) b ≡ keeps p content Ordinary b
-
-not_true : (b : Bool) → not b ≡ true → b ≡ false
-not_true true h = cc
-not_true false h = refl
 
 -- the body of a reference is read on
 passes_body : {state : State} {p : SlotPlace} {content : Content} {class : Class} → ReadsHtml state p content class →
-    (word body : List ℕ) → HasNoSemicolon body →
+    (word body : List ℕ) → is_held word body ≡ true →
     Passes (at (Within p word) content) body [] (at (Within p (word ++ body)) content)
-passes_body {p = p} {content} reads word [] none = rw (append-nil word) passes_none
-passes_body {p = p} {content} reads word (b ∷ body) none =
-    let parts = and_parts (not (b == semicolon)) (list_all (λ d. not (d == semicolon)) body) none in
+passes_body {p = p} {content} reads word [] held = rw (append-nil word) passes_none
+passes_body {p = p} {content} reads word (b ∷ body) held =
+    let parts = and_parts (goes_on word b) (is_held (word ++ b ∷ []) body) held in
     let is : consume (at (Within p word) content) b ≡ goes (Within p (word ++ b ∷ [])) content [] =
-    reads.within word b ∙ rw (not_true (b == semicolon) parts.0) refl in
+    reads.within word b ∙ rw parts.0 refl in
     rw (sym (append_assoc word (b ∷ []) body)) (passes_byte is (passes_body reads (word ++ b ∷ []) body parts.1))
 
 encode_utf8-character_to : (b : ℕ) → b < 128 → encode_utf8 (character_to b) ≡ nul_image b
@@ -57,19 +52,20 @@ encode_utf8-character_to b small =
 
 -- a reference whose body stands for a character
 pub passes_character : {state : State} {p : SlotPlace} {content : Content} {class : Class} → ReadsHtml state p content class →
-    (body : List ℕ) (c : ℕ) → HasNoSemicolon body → body_character body ≡ Some c →
+    (body : List ℕ) (c : ℕ) → body_character body ≡ Some c →
     Passes (at state content) (ampersand ∷ (body ++ semicolon ∷ [])) (map (read_byte p) (encode_utf8 c)) (at (In p) content)
-passes_character {p = p} {content} reads body c none is =
+passes_character {p = p} {content} reads body c is =
+    let reference : IsKnown body c = known body c is in
     let ends : consume (at (Within p body) content) semicolon ≡ goes (In p) content (map (read_byte p) (encode_utf8 c)) =
-    reads.within body semicolon ∙ rw is refl in
+    reads.within body semicolon ∙ reference.read p content Ordinary (value_byte p content Ordinary semicolon) in
     passes_byte reads.references
-    (passes_both (passes_body reads [] body none) (passes_one (map (read_byte p) (encode_utf8 c)) ends))
+    (passes_both (passes_body reads [] body reference.held) (passes_one (map (read_byte p) (encode_utf8 c)) ends))
 
 passes_reference : {state : State} {p : SlotPlace} {content : Content} {class : Class} → ReadsHtml state p content class →
     (b : ℕ) → b < 128 → Passes (at state content) (reference_to b) (map (read_byte p) (nul_image b)) (at (In p) content)
 passes_reference reads b small =
     let is : IsRead b = reference_to_is_read b small in
-    rw (is.parts, ← encode_utf8-character_to b small) (passes_character reads (body_to b) (character_to b) is.whole is.character)
+    rw (is.parts, ← encode_utf8-character_to b small) (passes_character reads (body_to b) (character_to b) is.character)
 
 passes_image : {state : State} {p : SlotPlace} {content : Content} {class : Class} → ReadsHtml state p content class →
     (b : ℕ) → Passes (at state content) (image class b) (map (read_byte p) (read_image class b)) (at (In p) content)

@@ -14,7 +14,8 @@ use Rattle.html_tokenizer.specs.declared.slot_place.SlotPlace.{SlotPlace}
 use Rattle.html_tokenizer.specs.declared.slot_place.SlotPlace.TheVariants as place
 use Rattle.html_tokenizer.specs.declared.states.Content.{Content}
 use Rattle.html_tokenizer.specs.Tokenizer.Actions.{Action, read_byte}
-use Rattle.html_tokenizer.specs.Tokenizer.CodeStrings.{ends_line, script_escape_byte}
+use Rattle.html_tokenizer.specs.Tokenizer.CodeBytes.{ends_line}
+use Rattle.html_tokenizer.specs.Tokenizer.CodeStrings.{script_escape_byte}
 use Rattle.html_tokenizer.specs.Tokenizer.States.{In, Within, Ordinary, at}
 use Rattle.html_tokenizer.specs.Tokenizer.Tokenization.{consume}
 use Rattle.html_tokenizer.specs.Tokenizer.Transitions.{goes}
@@ -24,7 +25,7 @@ use Rattle.html_tokenizer.proofs.Slots.Strings.{ReadsString, StaysIn, ascii_stay
 -- the string of a script that this mark ends
 pub record ReadsScript (p : SlotPlace) (mark : ℕ) (quotes : Quotes) (content : Content) : Type 0 where
   pub string : ReadsString p mark ends_line content
-  pub within : (word : List ℕ) (b : ℕ) → consume (at (Within p word) content) b ≡ script_escape_byte p content Ordinary (word ++ b ∷ [])
+  pub within : (word : List ℕ) (b : ℕ) → consume (at (Within p word) content) b ≡ script_escape_byte p content Ordinary word b
   pub escapes : (c : ℕ) → is_escaped Script quotes c ≡ false → (c == mark) ≡ false
 
 module _ {p : SlotPlace} {mark : ℕ} {quotes : Quotes} {content : Content} (reads : ReadsScript p mark quotes content) where
@@ -42,13 +43,13 @@ module _ {p : SlotPlace} {mark : ℕ} {quotes : Quotes} {content : Content} (rea
 
   -- a byte of an escape, and the one that completes it
   pub reads_on : {b : ℕ} {bytes : List ℕ} {actions : List Action} (word : List ℕ) →
-      script_escape_byte p content Ordinary (word ++ b ∷ []) ≡ goes (Within p (word ++ b ∷ [])) content [] →
+      script_escape_byte p content Ordinary word b ≡ goes (Within p (word ++ b ∷ [])) content [] →
       Passes (at (Within p (word ++ b ∷ [])) content) bytes actions (at (In p) content) →
       Passes (at (Within p word) content) (b ∷ bytes) actions (at (In p) content)
   reads_on {b} word is rest = passes_byte (reads.within word b ∙ is) rest
 
   pub completes : {word : List ℕ} {b : ℕ} (text : List ℕ) →
-      script_escape_byte p content Ordinary (word ++ b ∷ []) ≡ goes (In p) content (map (read_byte p) text) →
+      script_escape_byte p content Ordinary word b ≡ goes (In p) content (map (read_byte p) text) →
       Passes (at (Within p word) content) (b ∷ []) (map (read_byte p) text) (at (In p) content)
   completes {word} {b} text is = passes_one (map (read_byte p) text) (reads.within word b ∙ is)
 
@@ -69,7 +70,7 @@ module _ {p : SlotPlace} {mark : ℕ} {quotes : Quotes} {content : Content} (rea
   hex_stays c small =
       begins_escape reads.string
       (reads_on [] refl
-      (reads_on (lower_x ∷ []) refl
+      (reads_on (lower_x ∷ []) (rw (is_digit-hex_digit (c / 16) (omega arith)) refl)
       (completes (encode_utf8 c) (
       rw (
         is_digit-hex_digit (c / 16) (omega arith),

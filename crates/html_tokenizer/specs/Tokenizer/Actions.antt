@@ -4,7 +4,13 @@ use Rattle.html_tokenizer.specs.declared.slot_place.SlotPlace.{SlotPlace}
 use Rattle.html_tokenizer.specs.declared.slot_place.SlotPlace.TheVariants.{Text, DoubleQuoted, SingleQuoted, Unquoted, ScriptSingle, ScriptDouble, StyleSingle, StyleDouble}
 
 pub data Action : Type 0 where
-  -- emit a DOCTYPE token with the name `html`
+  -- create a DOCTYPE token with the name `html`, set its public identifier to empty, append a byte to
+  -- it, the same of its system identifier, emit it
+  NewDoctype : Action
+  SetPublicEmpty : Action
+  PublicByte : ℕ → Action
+  SetSystemEmpty : Action
+  SystemByte : ℕ → Action
   EmitDoctype : Action
   -- create a comment token, append a byte to it, emit it
   NewComment : Action

@@ -1,13 +1,13 @@
--- What a byte does in a comment and in a DOCTYPE.
--- HTML Standard, 13.2.5.42 to 13.2.5.45, 13.2.5.50, 13.2.5.51 and 13.2.5.53 to 13.2.5.56, where what
--- the standard calls an error has no reading. 13.2.5.46 to 13.2.5.49 tell errors only: they append
--- and end as 13.2.5.45 does.
+-- What a byte does after `<!` and in a comment.
+-- HTML Standard, 13.2.5.42 to 13.2.5.45, 13.2.5.50, 13.2.5.51 and 13.2.5.53, where what the standard
+-- calls an error has no reading. 13.2.5.46 to 13.2.5.49 tell errors only: they append and end as
+-- 13.2.5.45 does.
 use Rattle.std.specs.Prelude.{ℕ, List, [], ◌∷◌, ◌++◌, ◌==◌, if◌then◌else◌, bytes_eq, codes}
-use Rattle.std.specs.Char.{is_ascii_alphabetic, to_ascii_lowercase}
+use Rattle.std.specs.Char.{to_ascii_lowercase}
 use Rattle.hesc_specs.specs.Text.Ascii.{greater_than}
 use Rattle.html_tokenizer.specs.declared.slot_place.SlotPlace.TheVariants as place
 use Rattle.html_tokenizer.specs.declared.states.Content.{Content}
-use Rattle.html_tokenizer.specs.Tokenizer.Actions.{Action, EmitDoctype, NewComment, CommentByte, EmitComment}
+use Rattle.html_tokenizer.specs.Tokenizer.Actions.{NewComment, CommentByte, EmitComment}
 use Rattle.html_tokenizer.specs.Tokenizer.States as state
 use Rattle.html_tokenizer.specs.Tokenizer.States.{State}
 use Rattle.html_tokenizer.specs.Tokenizer.Tags.{exclamation_mark, is_space}
@@ -16,34 +16,13 @@ use Rattle.html_tokenizer.specs.Tokenizer.Transitions.{Transition, goes, refuses
 abbrev pub dash : ℕ
 dash = 45
 
--- 13.2.5.42 Markup declaration open state: `--`, or `doctype` in any case
+-- 13.2.5.42 Markup declaration open state: `--`, or `doctype` in any case, and after it 13.2.5.53 DOCTYPE state
 abbrev pub declaration_byte : Content → List ℕ → ℕ → Transition
 declaration_byte content word b =
     if bytes_eq word (codes "-") then (if b == dash then goes state.CommentStart content (NewComment ∷ []) else refuses)
     else (if bytes_eq word (codes "doctype") then (if is_space b then goes state.BeforeDoctype content [] else refuses)
     else (if b == greater_than then refuses
     else goes (state.Declaration (word ++ to_ascii_lowercase b ∷ [])) content []))
-
--- 13.2.5.54 Before DOCTYPE name state
-abbrev pub before_doctype_byte : Content → ℕ → Transition
-before_doctype_byte content b =
-    if is_space b then goes state.BeforeDoctype content []
-    else (if is_ascii_alphabetic b then goes (state.Doctype (to_ascii_lowercase b ∷ [])) content []
-    else refuses)
-
--- 13.2.5.56 After DOCTYPE name state: no public or system identifier
-abbrev pub after_doctype_byte : Content → ℕ → Transition
-after_doctype_byte content b =
-    if is_space b then goes state.AfterDoctype content []
-    else (if b == greater_than then goes (state.In place.Text) content (EmitDoctype ∷ [])
-    else refuses)
-
--- 13.2.5.55 DOCTYPE name state: the name is `html`
-abbrev pub doctype_byte : Content → List ℕ → ℕ → Transition
-doctype_byte content name b =
-    if is_ascii_alphabetic b then goes (state.Doctype (name ++ to_ascii_lowercase b ∷ [])) content []
-    else (if bytes_eq name (codes "html") then after_doctype_byte content b
-    else refuses)
 
 -- 13.2.5.45 Comment state
 abbrev pub comment_byte : Content → ℕ → Transition

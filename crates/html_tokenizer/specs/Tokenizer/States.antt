@@ -18,11 +18,11 @@ pub data State : Type 0 where
   StringLess : SlotPlace → State
   -- 13.2.5.6 Tag open state, 13.2.5.9 RCDATA less-than sign state
   TagOpen : State
-  -- 13.2.5.7 End tag open state, 13.2.5.10, 13.2.5.13 and 13.2.5.16 the same in title, style and script
+  -- 13.2.5.7 End tag open state, 13.2.5.10 RCDATA end tag open state
   EndTagOpen : State
   -- 13.2.5.8 Tag name state of a start tag, and the name so far in lower case
   TagName : List ℕ → State
-  -- the same of an end tag, and 13.2.5.11, 13.2.5.14 and 13.2.5.17
+  -- the same of an end tag, and 13.2.5.11 RCDATA end tag name state
   EndTagName : List ℕ → State
   -- 13.2.5.32 Before attribute name state of an end tag, which has no attributes here
   AfterEndTagName : State
@@ -37,14 +37,31 @@ pub data State : Type 0 where
   SelfClosing : State
   -- 13.2.5.3 RAWTEXT state, 13.2.5.4 Script data state
   InCode : Code → State
-  -- 13.2.5.12 RAWTEXT less-than sign state, 13.2.5.15 Script data less-than sign state
+  -- 13.2.5.12 RAWTEXT less-than sign state, 13.2.5.15 Script data less-than sign state, 13.2.5.23 Script data escaped
+  -- less-than sign state, 13.2.5.30 Script data double escaped less-than sign state
   CodeLess : Code → State
-  -- 13.2.5.42 Markup declaration open state, and what was read in it
+  -- 13.2.5.13, 13.2.5.14, 13.2.5.16, 13.2.5.17, 13.2.5.24 and 13.2.5.25: after `</` in code, and the letters so far
+  CodeEndTag : Code → List ℕ → State
+  -- 13.2.5.26 Script data double escape start state, 13.2.5.31 Script data double escape end state, and the letters so far
+  CodeWord : Code → List ℕ → State
+  -- 13.2.5.42 Markup declaration open state, and what was read in it; after `doctype` 13.2.5.53 DOCTYPE state
   Declaration : List ℕ → State
-  -- 13.2.5.53 DOCTYPE state and 13.2.5.54 Before DOCTYPE name state, 13.2.5.55 DOCTYPE name state, 13.2.5.56 After DOCTYPE name state
+  -- 13.2.5.54 Before DOCTYPE name state, 13.2.5.55 DOCTYPE name state, 13.2.5.56 After DOCTYPE name state
   BeforeDoctype : State
   Doctype : List ℕ → State
   AfterDoctype : State
+  -- in 13.2.5.56 the letters so far of `public` or `system`; after the whole word 13.2.5.57 After DOCTYPE public keyword state, 13.2.5.63 After DOCTYPE system keyword state
+  DoctypeKeyword : List ℕ → State
+  -- 13.2.5.58 Before DOCTYPE public identifier state, 13.2.5.59 and 13.2.5.60 DOCTYPE public identifier states, with the quote mark that ends it, 13.2.5.61 After DOCTYPE public identifier state
+  BeforePublic : State
+  PublicIdentifier : ℕ → State
+  AfterPublic : State
+  -- 13.2.5.62 Between DOCTYPE public and system identifiers state
+  BetweenIdentifiers : State
+  -- 13.2.5.64 Before DOCTYPE system identifier state, 13.2.5.65 and 13.2.5.66 DOCTYPE system identifier states, 13.2.5.67 After DOCTYPE system identifier state
+  BeforeSystem : State
+  SystemIdentifier : ℕ → State
+  AfterSystem : State
   -- 13.2.5.43 Comment start state, 13.2.5.44 Comment start dash state, 13.2.5.45 Comment state, 13.2.5.50 Comment end dash state, 13.2.5.51 Comment end state
   CommentStart : State
   CommentStartDash : State
@@ -73,8 +90,10 @@ pub data Attribute : Type 0 where
   Encoding : List ℕ → Attribute
   Pragma : List ℕ → Attribute
   PageType : List ℕ → Attribute
-  -- one of these three, with a reference in it
+  -- one of these three, with a reference in it, or the next, with a `<` in it
   Unread : Attribute
+  -- in a `noscript`, whose bytes are raw text where scripts run
+  Raw : Attribute
 
 pub record Tokenizer : Type 0 where
   pub state : State

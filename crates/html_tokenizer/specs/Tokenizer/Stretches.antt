@@ -1,5 +1,6 @@
 -- The bytes up to which a stretch goes at which the tokenizer stays where it is.
-use Rattle.std.specs.Prelude.{⊤, ℕ, Bool, true, false, ◌||◌, ◌==◌, Option, Some, None, if◌then◌else◌}
+use Rattle.std.specs.Prelude.{⊤, ℕ, Bool, true, false, ◌||◌, ◌==◌, Option, Some, None, if◌then◌else◌, not}
+use Rattle.std.specs.Char.{is_ascii_digit, is_ascii_lowercase}
 use Rattle.std.specs.Option.{option_or}
 use Rattle.hesc_specs.specs.Text.Ascii.{number_sign, double_quote, ampersand, single_quote, slash, less_than, greater_than, backslash, backtick}
 use Rattle.hesc_grammars.specs.Html.{is_unquoted_error}
@@ -7,13 +8,12 @@ use Rattle.hesc_grammars.specs.StyleStrings.{is_newline_or_nul}
 use Rattle.html_tokenizer.specs.declared.slot_place.SlotPlace.{SlotPlace}
 use Rattle.html_tokenizer.specs.declared.slot_place.SlotPlace.TheVariants.{Text, DoubleQuoted, SingleQuoted, Unquoted, ScriptSingle, ScriptDouble, StyleSingle, StyleDouble}
 use Rattle.html_tokenizer.specs.declared.states.Code.{Code}
-use Rattle.html_tokenizer.specs.declared.states.Code.TheVariants.{Plain, Name, LetterI, LettersIm, LettersImp, LettersImpo, LettersImpor, LetterF, LettersFr, LettersFro, LineComment, BlockComment, Url}
+use Rattle.html_tokenizer.specs.declared.states.Code.TheVariants.{Plain, Name, LetterI, LettersIm, LettersImp, LettersImpo, LettersImpor, LetterF, LettersFr, LettersFro, LineComment, BlockComment, Url, Opaque, Escaped, DoubleEscaped}
 use Rattle.html_tokenizer.specs.declared.states.Kind.{Kind}
 use Rattle.html_tokenizer.specs.declared.states.Kind.TheVariants as kind
 use Rattle.html_tokenizer.specs.declared.states.OpenElement.{OpenElement}
-use Rattle.html_tokenizer.specs.declared.states.OpenElement.TheVariants.{Script, DataBlock, Style}
-use Rattle.html_tokenizer.specs.Tokenizer.CodeBytes.{asterisk, at_sign, closing_parenthesis, is_name_byte, longer, lower_f, lower_i, opening_parenthesis}
-use Rattle.html_tokenizer.specs.Tokenizer.CodeStrings.{ends_line}
+use Rattle.html_tokenizer.specs.declared.states.OpenElement.TheVariants.{Script, Style, Frame}
+use Rattle.html_tokenizer.specs.Tokenizer.CodeBytes.{asterisk, at_sign, closing_parenthesis, ends_line, is_name_byte, longer, lower_f, lower_i, opening_parenthesis}
 use Rattle.html_tokenizer.specs.Tokenizer.Comments.{dash}
 use Rattle.html_tokenizer.specs.Tokenizer.Tags.{is_space}
 
@@ -41,7 +41,11 @@ leaves_code Style Url b =
     b == double_quote || b == single_quote || b == opening_parenthesis || b == closing_parenthesis || b == backslash || b == slash || b == less_than
 leaves_code Script BlockComment b = b == asterisk || b == less_than
 leaves_code Style BlockComment b = b == asterisk || b == less_than
-leaves_code DataBlock Plain b = b == less_than
+leaves_code Script Escaped b = b == dash || b == less_than
+leaves_code Script DoubleEscaped b = b == dash || b == less_than
+leaves_code Script Opaque b = b == less_than
+leaves_code Style Opaque b = b == less_than
+leaves_code Frame Opaque b = b == less_than
 leaves_code other code b = true
 
 -- code and values for which a loop asks of each byte, and those through which a search goes
@@ -63,14 +67,30 @@ IsSettled kind.Ordinary = ⊤
 IsSettled kind.Forbidden = ⊤
 IsSettled other = ⊥
 
+-- a byte that a name of a tag or an attribute holds as it stands
+abbrev pub stands_in_name : ℕ → Bool
+stands_in_name b = is_ascii_lowercase b || is_ascii_digit b || b == dash
+
+-- a letter with which `import` or `from` begins
+abbrev pub begins_word : ℕ → Bool
+begins_word b = b == lower_i || b == lower_f
+
 -- a byte that begins or ends more than a word of a script, or has no reading
 abbrev pub is_mark : ℕ → Bool
 is_mark b =
     b == double_quote || b == single_quote || b == backslash || b == backtick || b == number_sign || b == slash ||
     b == dash || b == less_than
 
+-- whether a byte, after this one, is no mark and begins neither `import` nor `from`
+abbrev pub stays_settled : ℕ → ℕ → Bool
+stays_settled last b = if is_name_byte last then not (is_mark b) else not (is_mark b || begins_word b)
+
+-- the word state after such a byte
+abbrev pub settled : ℕ → Code
+settled b = if is_name_byte b then Name else Plain
+
 abbrev pub after_name : ℕ → Option Code
-after_name b = if is_name_byte b then Some Name else (if is_mark b then None else Some Plain)
+after_name b = if is_mark b then None else Some (settled b)
 
 abbrev pub after_letters : Code → ℕ → Option Code
 after_letters code b = option_or (longer code b) (if is_name_byte b then Some Name else None)

@@ -7,12 +7,12 @@ use Rattle.std.specs.Char.{is_ascii_alphabetic, to_ascii_lowercase}
 use Rattle.hesc_specs.specs.Text.Ascii.{carriage_return, double_quote, single_quote, slash, less_than, equals_sign, greater_than}
 use Rattle.hesc_grammars.specs.Words.{is_white_space}
 use Rattle.html_tokenizer.specs.declared.slot_place.SlotPlace.TheVariants as place
-use Rattle.html_tokenizer.specs.declared.states.Code.TheVariants.{Plain}
+use Rattle.html_tokenizer.specs.declared.states.Code.TheVariants.{Plain, Opaque}
 use Rattle.html_tokenizer.specs.declared.states.Content.{Content}
 use Rattle.html_tokenizer.specs.declared.states.OpenElement.{OpenElement}
-use Rattle.html_tokenizer.specs.declared.states.OpenElement.TheVariants.{Normal, Script, DataBlock, Style}
+use Rattle.html_tokenizer.specs.declared.states.OpenElement.TheVariants.{Normal, Script, DataBlock, Style, Frame, SvgStyle, Svg, Math, Select, NoScript, NoScriptStyle, NoScriptFrame}
 use Rattle.html_tokenizer.specs.Tokenizer.Actions.{NewStartTag, NewEndTag, TagNameByte, NewAttribute, NameByte, SetSelfClosing, EmitTag}
-use Rattle.html_tokenizer.specs.Tokenizer.Names.{closed, content_of, ends_content, inside, value_of}
+use Rattle.html_tokenizer.specs.Tokenizer.Names.{beside, closed, content_of, ends_content, inside, value_of, with_element}
 use Rattle.html_tokenizer.specs.Tokenizer.States as state
 use Rattle.html_tokenizer.specs.Tokenizer.States.{State, Attribute, at_value}
 use Rattle.html_tokenizer.specs.Tokenizer.Transitions.{Transition, goes, moves, refuses}
@@ -27,13 +27,26 @@ exclamation_mark = 33
 -- where the content of an element begins
 abbrev pub content_state : OpenElement → State
 content_state Script = state.InCode Plain
-content_state DataBlock = state.InCode Plain
+content_state DataBlock = state.InCode Opaque
 content_state Style = state.InCode Plain
+content_state Frame = state.InCode Opaque
+content_state SvgStyle = state.InCode Opaque
+content_state NoScriptStyle = state.InCode Opaque
+content_state NoScriptFrame = state.InCode Opaque
 content_state other = state.In place.Text
 
-abbrev pub is_normal : OpenElement → Bool
-is_normal Normal = true
-is_normal other = false
+-- contents of elements, in which tags and comments begin
+abbrev pub holds_comments : OpenElement → Bool
+holds_comments Normal = true
+holds_comments Svg = true
+holds_comments Math = true
+holds_comments Select = true
+holds_comments other = false
+
+-- those and a `noscript`, in which tags alone begin, since a comment might hold its end tag
+abbrev pub holds_markup : OpenElement → Bool
+holds_markup NoScript = true
+holds_markup other = holds_comments other
 
 -- at the `>` of a start tag
 abbrev pub opened : Content → Transition
@@ -50,9 +63,9 @@ in_tag blank content b other =
 -- 13.2.5.6 Tag open state, but for `/`: in a content of text alone no other tag begins
 abbrev pub tag_open_byte : Content → ℕ → Transition
 tag_open_byte content b =
-    if is_normal content.element && is_ascii_alphabetic b
+    if holds_markup content.element && is_ascii_alphabetic b
     then goes (state.TagName (to_ascii_lowercase b ∷ [])) content (NewStartTag ∷ TagNameByte (to_ascii_lowercase b) ∷ [])
-    else (if is_normal content.element && b == exclamation_mark then goes (state.Declaration []) content []
+    else (if holds_comments content.element && b == exclamation_mark then goes (state.Declaration []) content []
     else refuses)
 
 -- 13.2.5.7 End tag open state
@@ -128,7 +141,11 @@ after_name_byte content name b =
 abbrev pub after_value_byte : Content → ℕ → Transition
 after_value_byte content b = in_tag state.BeforeName content b refuses
 
+-- at the `/>` of a start tag, if it is read there
+abbrev pub closed_itself : Option OpenElement → Content → Transition
+closed_itself None content = refuses
+closed_itself (Some element) content = goes (content_state content.element) (with_element content element) (SetSelfClosing ∷ EmitTag ∷ [])
+
 -- 13.2.5.40 Self-closing start tag state
 abbrev pub self_closing_byte : Content → ℕ → Transition
-self_closing_byte content b =
-    if b == greater_than then goes (content_state content.element) (inside content) (SetSelfClosing ∷ EmitTag ∷ []) else refuses
+self_closing_byte content b = if b == greater_than then closed_itself (beside content.element) content else refuses

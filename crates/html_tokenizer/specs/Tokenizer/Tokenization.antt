@@ -5,15 +5,17 @@ use Rattle.html_tokenizer.specs.declared.slot_place.SlotPlace.{SlotPlace}
 use Rattle.html_tokenizer.specs.declared.slot_place.SlotPlace.TheVariants.{Text, DoubleQuoted, SingleQuoted, Unquoted, ScriptSingle, ScriptDouble, StyleSingle, StyleDouble}
 use Rattle.html_tokenizer.specs.declared.states.Content.{Content}
 use Rattle.html_tokenizer.specs.Tokenizer.Actions.{Action}
-use Rattle.html_tokenizer.specs.Tokenizer.CodeBytes.{in_code_byte, code_less_byte}
+use Rattle.html_tokenizer.specs.Tokenizer.CodeBytes.{in_code_byte, code_less_byte, code_end_tag_byte, code_word_byte}
 use Rattle.html_tokenizer.specs.Tokenizer.CodeStrings.{script_string_byte, style_string_byte, string_less_byte, script_escape_byte, style_escape_byte}
-use Rattle.html_tokenizer.specs.Tokenizer.Comments.{declaration_byte, before_doctype_byte, doctype_byte, after_doctype_byte, comment_start_byte, comment_start_dash_byte, comment_byte, comment_dash_byte, comment_end_byte}
+use Rattle.html_tokenizer.specs.Tokenizer.Comments.{declaration_byte, comment_start_byte, comment_start_dash_byte, comment_byte, comment_dash_byte, comment_end_byte}
+use Rattle.html_tokenizer.specs.Tokenizer.Doctypes.{before_doctype_byte, doctype_byte, after_doctype_byte, doctype_keyword_byte, before_public_byte, public_byte, after_public_byte, between_identifiers_byte, before_system_byte, system_byte, after_system_byte}
 use Rattle.html_tokenizer.specs.Tokenizer.Names.{reference_read}
+use Rattle.html_tokenizer.specs.Tokenizer.References.{reference_byte}
 use Rattle.html_tokenizer.specs.Tokenizer.States as state
 use Rattle.html_tokenizer.specs.Tokenizer.States.{State, Attribute, Tokenizer}
 use Rattle.html_tokenizer.specs.Tokenizer.Tags.{tag_open_byte, end_tag_open_byte, tag_name_byte, end_tag_name_byte, end_tag_byte, before_name_byte, attribute_name_byte, after_name_byte, after_value_byte, self_closing_byte}
 use Rattle.html_tokenizer.specs.Tokenizer.Transitions.{Transition, goes, refuses}
-use Rattle.html_tokenizer.specs.Tokenizer.Values.{text_byte, quoted_byte, unquoted_value_byte, before_value_byte, reference_byte}
+use Rattle.html_tokenizer.specs.Tokenizer.Values.{text_byte, quoted_byte, unquoted_value_byte, before_value_byte}
 
 -- a byte of a value
 abbrev pub value_byte : SlotPlace → Content → Attribute → ℕ → Transition
@@ -28,18 +30,19 @@ value_byte StyleDouble content attribute b = style_string_byte double_quote Styl
 
 -- a byte of a reference, or of an escape
 abbrev pub within_byte : SlotPlace → Content → Attribute → List ℕ → ℕ → Transition
-within_byte ScriptSingle content attribute word b = script_escape_byte ScriptSingle content attribute (word ++ b ∷ [])
-within_byte ScriptDouble content attribute word b = script_escape_byte ScriptDouble content attribute (word ++ b ∷ [])
+within_byte ScriptSingle content attribute word b = script_escape_byte ScriptSingle content attribute word b
+within_byte ScriptDouble content attribute word b = script_escape_byte ScriptDouble content attribute word b
 within_byte StyleSingle content attribute word b =
     style_escape_byte StyleSingle content attribute word b (value_byte StyleSingle content attribute b)
 within_byte StyleDouble content attribute word b =
     style_escape_byte StyleDouble content attribute word b (value_byte StyleDouble content attribute b)
-within_byte other content attribute word b = reference_byte other content attribute word b
+within_byte other content attribute word b =
+    reference_byte other content attribute word b (value_byte other content attribute b)
 
 abbrev pub byte_in : State → Content → Attribute → ℕ → Transition
 byte_in (state.In p) content attribute b = value_byte p content attribute b
 byte_in (state.Within p word) content attribute b = within_byte p content (reference_read attribute) word b
-byte_in (state.StringLess p) content attribute b = string_less_byte (value_byte p content attribute b) b
+byte_in (state.StringLess p) content attribute b = string_less_byte content (value_byte p content attribute b) b
 byte_in state.TagOpen content attribute b = if b == slash then goes state.EndTagOpen content [] else tag_open_byte content b
 byte_in state.EndTagOpen content attribute b = end_tag_open_byte content b
 byte_in (state.TagName name) content attribute b = tag_name_byte content name b
@@ -53,10 +56,20 @@ byte_in state.AfterValue content attribute b = after_value_byte content b
 byte_in state.SelfClosing content attribute b = self_closing_byte content b
 byte_in (state.InCode kind) content attribute b = in_code_byte kind content b
 byte_in (state.CodeLess kind) content attribute b = code_less_byte kind content b
+byte_in (state.CodeEndTag kind word) content attribute b = code_end_tag_byte kind content word b
+byte_in (state.CodeWord kind word) content attribute b = code_word_byte kind content word b
 byte_in (state.Declaration word) content attribute b = declaration_byte content word b
 byte_in state.BeforeDoctype content attribute b = before_doctype_byte content b
 byte_in (state.Doctype name) content attribute b = doctype_byte content name b
 byte_in state.AfterDoctype content attribute b = after_doctype_byte content b
+byte_in (state.DoctypeKeyword word) content attribute b = doctype_keyword_byte content word b
+byte_in state.BeforePublic content attribute b = before_public_byte content b
+byte_in (state.PublicIdentifier mark) content attribute b = public_byte mark content b
+byte_in state.AfterPublic content attribute b = after_public_byte content b
+byte_in state.BetweenIdentifiers content attribute b = between_identifiers_byte content b
+byte_in state.BeforeSystem content attribute b = before_system_byte content b
+byte_in (state.SystemIdentifier mark) content attribute b = system_byte mark content b
+byte_in state.AfterSystem content attribute b = after_system_byte content b
 byte_in state.CommentStart content attribute b = comment_start_byte content b
 byte_in state.CommentStartDash content attribute b = comment_start_dash_byte content b
 byte_in state.Comment content attribute b = comment_byte content b

@@ -1,10 +1,9 @@
 -- What a byte does in text and in the value of an attribute.
--- HTML Standard, 13.2.5.1 Data state, 13.2.5.2 RCDATA state, 13.2.5.35 to 13.2.5.39 and 13.2.5.72 to
--- 13.2.5.80, where the bytes that the standard calls errors have no reading.
-use Rattle.std.specs.Prelude.{ℕ, List, [], ◌∷◌, ◌++◌, ◌==◌, Option, Some, None, if◌then◌else◌, encode_utf8, map}
-use Rattle.hesc_specs.specs.Text.Ascii.{double_quote, single_quote, ampersand, semicolon, less_than, greater_than}
+-- HTML Standard, 13.2.5.1 Data state, 13.2.5.2 RCDATA state and 13.2.5.35 to 13.2.5.39, where the bytes that
+-- the standard calls errors have no reading.
+use Rattle.std.specs.Prelude.{ℕ, [], ◌==◌, Option, Some, None, if◌then◌else◌, encode_utf8, map}
+use Rattle.hesc_specs.specs.Text.Ascii.{double_quote, single_quote, ampersand, less_than, greater_than}
 use Rattle.hesc_grammars.specs.Html.{is_unquoted_error}
-use Rattle.hesc_grammars.specs.References.{body_character}
 use Rattle.html_tokenizer.specs.declared.slot_place.SlotPlace.{SlotPlace}
 use Rattle.html_tokenizer.specs.declared.slot_place.SlotPlace.TheVariants.{Text, DoubleQuoted, SingleQuoted, Unquoted}
 use Rattle.html_tokenizer.specs.declared.states.Content.{Content}
@@ -15,7 +14,7 @@ use Rattle.html_tokenizer.specs.Tokenizer.States.{Attribute, at_value}
 use Rattle.html_tokenizer.specs.Tokenizer.Tags.{is_space, opened}
 use Rattle.html_tokenizer.specs.Tokenizer.Transitions.{Transition, goes, moves, refuses, keeps}
 
--- at a `&`, which begins a reference, or a `\`, which begins an escape
+-- at a `&`, which may begin a reference, or a `\`, which begins an escape
 abbrev pub begins_character : SlotPlace → Content → Attribute → Transition
 begins_character p content attribute = moves (at_value (state.Within p []) content (reference_read attribute)) []
 
@@ -24,12 +23,6 @@ abbrev pub character_read : SlotPlace → Content → Attribute → Option ℕ �
 character_read p content attribute None = refuses
 character_read p content attribute (Some c) =
     moves (at_value (state.In p) content attribute) (map (read_byte p) (encode_utf8 c))
-
--- 13.2.5.72 Character reference state to 13.2.5.80: a reference goes up to the first `;`
-abbrev pub reference_byte : SlotPlace → Content → Attribute → List ℕ → ℕ → Transition
-reference_byte p content attribute body b =
-    if b == semicolon then character_read p content attribute (body_character body)
-    else moves (at_value (state.Within p (body ++ b ∷ [])) content attribute) []
 
 -- 13.2.5.1 Data state, 13.2.5.2 RCDATA state
 abbrev pub text_byte : Content → Attribute → ℕ → Transition

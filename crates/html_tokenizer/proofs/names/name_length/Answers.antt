@@ -1,4 +1,4 @@
-use Rattle.std.proofs.Common.{ℕ, List, ◌++◌, ◌∷◌, [], ◌+◌, append-nil, append_assoc, refl, slice_index, take, arith, sym, ◌∙◌}
+use Rattle.std.proofs.Common.{◌++◌, ◌∷◌, [], append-nil, append_assoc, refl, slice_index, take, arith, sym}
 use Rattle.std.proofs.lemmas.List.{take_more}
 use Rattle.html_tokenizer.specs.Tokenizer.Phases.{state_of}
 use Rattle.html_tokenizer.specs.Tokenizer.States.{at}

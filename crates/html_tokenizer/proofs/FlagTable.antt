@@ -1,0 +1,34 @@
+-- The table of flags against the definitions: each of the 256 bytes, computed.
+use Rattle.std.proofs.Common.{◌≡◌, ℕ, ◌<◌, Bool, true, not, ◌||◌, nat_eq, get_or, bit_and, refl}
+use Rattle.std.proofs.lemmas.Bool.{agree_below, agree_below_at}
+use Rattle.html_tokenizer.specs.declared.flags.TheConstants.{FLAGS}
+use Rattle.html_tokenizer.specs.Tokenizer.CodeBytes.{is_name_byte}
+use Rattle.html_tokenizer.specs.Tokenizer.Stretches.{begins_word, is_mark, stands_in_name}
+
+-- whether none of these bits of the byte is set
+abbrev pub lacks : ℕ → ℕ → Bool
+lacks bits b = nat_eq (bit_and (get_or FLAGS b 0) bits) 0
+
+in_name : agree_below (λ b. not (lacks 1 b)) stands_in_name 256 ≡ true
+in_name = refl
+
+in_word : agree_below (λ b. not (lacks 2 b)) is_name_byte 256 ≡ true
+in_word = refl
+
+no_mark : agree_below (lacks 4) (λ b. not (is_mark b)) 256 ≡ true
+no_mark = refl
+
+no_stop : agree_below (lacks 12) (λ b. not (is_mark b || begins_word b)) 256 ≡ true
+no_stop = refl
+
+pub name_tells : (b : ℕ) → b < 256 → not (lacks 1 b) ≡ stands_in_name b
+name_tells b lt = agree_below_at (λ x. not (lacks 1 x)) stands_in_name 256 b in_name lt
+
+pub word_tells : (b : ℕ) → b < 256 → not (lacks 2 b) ≡ is_name_byte b
+word_tells b lt = agree_below_at (λ x. not (lacks 2 x)) is_name_byte 256 b in_word lt
+
+pub mark_tells : (b : ℕ) → b < 256 → lacks 4 b ≡ not (is_mark b)
+mark_tells b lt = agree_below_at (lacks 4) (λ x. not (is_mark x)) 256 b no_mark lt
+
+pub stop_tells : (b : ℕ) → b < 256 → lacks 12 b ≡ not (is_mark b || begins_word b)
+stop_tells b lt = agree_below_at (lacks 12) (λ x. not (is_mark x || begins_word x)) 256 b no_stop lt
