@@ -1,5 +1,5 @@
 //! Hostile texts in every place.
-use crate::pages::{parts, put, stay};
+use crate::pages::{PLACES, parts, put, stay};
 use html_template::{FillFault, Template};
 use std::alloc::{AllocError, Global};
 use std::process::Abort;
@@ -155,7 +155,7 @@ static SPACES: [&str; 14] = [
 
 // The text in every place at once.
 fn stays(alloc: Global, template: &Template, text: &str) -> Result<bool, AllocError> {
-    stay(alloc, template, &[text; 9])
+    stay(alloc, template, &[text; PLACES])
 }
 
 fn all_stay(alloc: Global, texts: &[&str]) -> Result<bool, AllocError> {
@@ -196,7 +196,7 @@ fn an_empty_text_stays_but_without_quotes(rt: HostRuntime) -> Result<(), Fail> {
     let Ok(template) = Template::new(rt.alloc(), &parts) else {
         panic!(rt; "the parts are a template");
     };
-    let mut texts = [""; 9];
+    let mut texts = [""; PLACES];
     let mut page = String::new(rt.alloc());
     assert!(rt; template.append(&mut page, &texts) == Err(FillFault::EmptyUnquoted(4)));
     put(&mut texts, 4, "x");

@@ -3,6 +3,12 @@
 #![tactic(auto)]
 
 #[cfg(test)]
+mod code;
+#[cfg(test)]
+mod contents;
+#[cfg(test)]
+mod doctypes;
+#[cfg(test)]
 mod examples;
 #[cfg(test)]
 mod hostile;
@@ -18,6 +24,8 @@ mod otherwise;
 mod pages;
 #[cfg(test)]
 mod pairs;
+#[cfg(test)]
+mod references;
 #[cfg(test)]
 mod sources;
 #[cfg(test)]

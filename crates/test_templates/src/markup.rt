@@ -9,21 +9,39 @@ use std::test::Fail;
 
 // A head, a part that stands there so often that it makes a megabyte, and a tail: together a page that
 // may end.
-static MARKUP: [(&str, &str, &str); 14] = [
+static MARKUP: [(&str, &str, &str); 32] = [
     ("", "a.", ""),
     ("", "/", ""),
     ("", "\u{2026}", ""),
     ("", "&amp;", ""),
+    ("", "&a", " "),
+    ("&", "a", " "),
+    ("<p a=\"", "&notx", "\">"),
     ("<!--", "-", "-->"),
     ("<!--", "- ", "-->"),
+    ("<!doctype html public \"", "a", "\">"),
+    ("<!doctype html system '", "<", "'>"),
     ("<p", "q", ">"),
     ("<p ", "a", "=b>"),
     ("<p a=\"", "&lt;", "\">"),
+    ("<p a='", "&b=", "'>"),
     ("<p a=", "b", ">"),
     ("<script>/*", "*", "*/</script>"),
     ("<script>//", "<", "\n</script>"),
     ("<script>'", "\\\\", "'</script>"),
     ("<style>", "u", "</style>"),
+    ("<script>`", "a", "</script>"),
+    ("<script>`", "</script", "</script>"),
+    ("<script><!--", "-a", "--></script>"),
+    ("<script><!--", "<script></script>-", "</script>"),
+    ("<style>\\", "</", "</style>"),
+    ("<iframe>", "<", "</iframe>"),
+    ("<svg>", "<g/>", "</svg>"),
+    ("<svg><style>", "a", "</style></svg>"),
+    ("<math>", "<mi>a</mi>", "</math>"),
+    ("<select>", "<option>a", "</select>"),
+    ("<noscript>", "<p a='b'>", "</noscript>"),
+    ("<noscript><style>", "a", "</style></noscript>"),
 ];
 
 // Short stretches, each up to a byte that is near, where another byte that could end it comes at the end

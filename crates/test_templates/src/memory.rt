@@ -3,7 +3,7 @@
 //! where many names are bound in another order than that of their slots. A reader asks for what it holds
 //! alone.
 use crate::named::{self, bindings, names};
-use crate::pages::parts;
+use crate::pages::{PLACES, parts};
 use html_template::{FillFault, Part, Template, TemplateFault};
 use html_template_source::{BindFault, NamedTemplate, SourceFault};
 use html_tokenizer::Reader;
@@ -35,7 +35,10 @@ fn every_request_of_new_is_refused_in_turn(rt: HostRuntime) -> Result<(), Fail> 
     Ok(())
 }
 
-static TEXTS: [&str; 9] = ["<", "&", "\"", "'", " ", "'", "\"", "\\", "</style>"];
+static TEXTS: [&str; PLACES] = [
+    "<", "&", "\"", "'", " ", "'", "\"", "\\", "</style>", "\"", "</title>", "'", "</svg>",
+    "</mi>", "&", "<",
+];
 
 #[test]
 fn an_append_asks_once_or_not_at_all(rt: HostRuntime) -> Result<(), Fail> {
@@ -269,7 +272,7 @@ fn a_fault_of_many_names_is_told_before_memory_is_asked_for(rt: HostRuntime) -> 
 
 // Markup, and how many bytes of it a reader holds at once: the longest name, beginning of an address,
 // type of a script, reference or escape.
-static HELD: [(Long, usize); 12] = [
+static HELD: [(Long, usize); 13] = [
     (("", "a.", MILLION / 2, ""), 0),
     (("<!--", "- ", MILLION / 2, "-->"), 0),
     (("<script>", "a/**/", MILLION / 5, "</script>"), 6),
@@ -282,6 +285,7 @@ static HELD: [(Long, usize); 12] = [
     (("<p ", "a", MILLION, "=b>"), MILLION),
     (("<", "p", MILLION, ">"), MILLION),
     (("&#", "0", MILLION, "65;"), MILLION + 3),
+    (("&", "a", MILLION, " "), MILLION),
 ];
 
 // The room is doubled when it is full, so that all requests together are for at most four times of what

@@ -13,9 +13,11 @@ fn fault<'a>(alloc: Global, before: &'a str, following: &'a str) -> Option<Templ
     }
 }
 
-type Row = (&'static str, &'static str, Option<TemplateFault>);
+/// What stands before a slot and after it, and the fault.
+pub(crate) type Row = (&'static str, &'static str, Option<TemplateFault>);
 
-fn hold(rt: &impl Abort, alloc: Global, rows: &[Row]) {
+/// Each template has its fault.
+pub(crate) fn hold(rt: &impl Abort, alloc: Global, rows: &[Row]) {
     for &(before, following, wanted) in rows {
         assert!(rt; fault(alloc, before, following) == wanted, "{before}");
     }
@@ -26,42 +28,42 @@ static URLS: [Row; 11] = [
     (
         "<style>p{--x:myurl(/*);content:'",
         "'}</style>",
-        Some(Malformed(0)),
+        Some(Forbidden(1)),
     ),
     (
         "<style>p{--x:1url(/*);content:'",
         "'}</style>",
-        Some(Malformed(0)),
+        Some(Forbidden(1)),
     ),
     (
         "<style>p{--x:-url(/*);content:'",
         "'}</style>",
-        Some(Malformed(0)),
+        Some(Forbidden(1)),
     ),
     (
         "<style>p{--x:#url(/*);content:'",
         "'}</style>",
-        Some(Malformed(0)),
+        Some(Forbidden(1)),
     ),
     (
         "<style>p{--x:@url(/*);content:'",
         "'}</style>",
-        Some(Malformed(0)),
+        Some(Forbidden(1)),
     ),
     (
         "<style>p{--x:\u{e9}url(/*);content:'",
         "'}</style>",
-        Some(Malformed(0)),
+        Some(Forbidden(1)),
     ),
     (
         "<style>p{--x:\u{d7}url( a//*);content:'",
         "'}</style>",
-        Some(Malformed(0)),
+        Some(Forbidden(1)),
     ),
     (
         "<style>p{--x:url(a<*/*);content:'",
         "'}</style>",
-        Some(Malformed(0)),
+        Some(Forbidden(1)),
     ),
     (
         "<style>p{--x:url(//a/b<*c*/d);content:'",

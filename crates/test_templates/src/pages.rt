@@ -5,8 +5,11 @@ use std::alloc::{AllocError, Global};
 use std::process::Abort;
 use std::test::Fail;
 
+/// How many slots the page has.
+pub const PLACES: usize = 16;
+
 /// The markup before each slot, and the place that the slot stands in.
-pub static SLOTS: [(&str, Place); 9] = [
+pub static SLOTS: [(&str, Place); PLACES] = [
     ("<!DOCTYPE html><title>", Place::Text),
     ("</title><p>", Place::Text),
     ("</p><p title=\"", Place::DoubleAttribute),
@@ -19,10 +22,20 @@ pub static SLOTS: [(&str, Place); 9] = [
     ("', \"", Place::ScriptDouble),
     ("\");</script><style>p { x: '", Place::StyleSingle),
     ("'; y: \"", Place::StyleDouble),
+    ("\" }</style><svg viewBox=\"", Place::DoubleAttribute),
+    ("\"><title>", Place::Text),
+    ("</title><use href='#", Place::SingleAttribute),
+    ("'/><text>", Place::Text),
+    ("</text></svg><math><mi>", Place::Text),
+    (
+        "</mi></math><select><option value=\"",
+        Place::DoubleAttribute,
+    ),
+    ("\">", Place::Text),
 ];
 
 /// The markup after the last slot.
-pub const LAST: &str = "\" }</style>";
+pub const LAST: &str = "</option></select>";
 
 /// The parts of the page.
 pub fn parts(alloc: Global) -> Result<Vec<Part<'static>>, AllocError> {
@@ -95,14 +108,14 @@ pub fn stay(alloc: Global, template: &Template, texts: &[&str]) -> Result<bool, 
 }
 
 const PLAIN: &str =
-    "<!DOCTYPE html><title>a</title><p>a</p><p title=\"a\"><p title='a'><p class=a title=a><script>f('a', \"a\");</script><style>p { x: 'a'; y: \"a\" }</style>";
+    "<!DOCTYPE html><title>a</title><p>a</p><p title=\"a\"><p title='a'><p class=a title=a><script>f('a', \"a\");</script><style>p { x: 'a'; y: \"a\" }</style><svg viewBox=\"a\"><title>a</title><use href='#a'/><text>a</text></svg><math><mi>a</mi></math><select><option value=\"a\">a</option></select>";
 
 #[test]
 fn a_page_is_told_from_others(rt: HostRuntime) -> Result<(), Fail> {
-    let texts = ["a"; 9];
+    let texts = ["a"; PLACES];
     assert!(rt; holds(rt.alloc(), PLAIN, &texts)?);
     assert!(rt; !holds(rt.alloc(), "<!DOCTYPE html><title>a", &texts)?);
-    for wrong in 0..9usize {
+    for wrong in 0..PLACES {
         let mut others = texts;
         put(&mut others, wrong, "b");
         assert!(rt; !holds(rt.alloc(), PLAIN, &others)?, "{wrong}");

@@ -1,5 +1,5 @@
 //! Two hostile texts in turn in every pair of slots: neither reaches the other.
-use crate::pages::{parts, put, stay};
+use crate::pages::{PLACES, parts, put, stay};
 use html_template::Template;
 use std::alloc::{AllocError, Global};
 use std::process::Abort;
@@ -33,8 +33,8 @@ fn stay_apart<'t>(
     second: &'t str,
     before: usize,
 ) -> Result<bool, AllocError> {
-    for following in 0..9usize {
-        let mut texts = ["x"; 9];
+    for following in 0..PLACES {
+        let mut texts = ["x"; PLACES];
         put(&mut texts, before, first);
         put(&mut texts, following, second);
         if !stay(alloc, template, &texts)? {
@@ -51,7 +51,7 @@ fn no_text_reaches_another(rt: HostRuntime) -> Result<(), Fail> {
         panic!(rt; "the parts are a template");
     };
     for &(first, second) in &PAIRS {
-        for before in 0..9usize {
+        for before in 0..PLACES {
             assert!(rt;
                 stay_apart(rt.alloc(), &template, first, second, before)?,
                 "{first} in {before}, and {second}"

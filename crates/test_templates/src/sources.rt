@@ -21,7 +21,7 @@ static SOURCES: [(&str, Option<SourceFault>); 12] = [
         Some(SourceFault::NoTemplate(TemplateFault::Forbidden(3))),
     ),
     (
-        "{{a}}<svg>",
+        "{{a}}<xmp>",
         Some(SourceFault::NoTemplate(TemplateFault::Malformed(2))),
     ),
     (

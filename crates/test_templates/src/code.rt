@@ -1,0 +1,103 @@
+//! Scripts, styles and the text of an `iframe`: where they take a slot, where the rest is opaque, and where
+//! they end. What is expected comes from the HTML Standard, ECMAScript and CSS, never from the code.
+use crate::otherwise::{Row, hold};
+use html_template::TemplateFault::{Forbidden, Malformed, NoPlace, Unfinished};
+
+// After an end of a script a slot stands in text.
+static SCRIPTS: [Row; 36] = [
+    ("<script>a /b/; f('", "')</script>", Some(Forbidden(1))),
+    ("<script>f('", "'); a /b/</script>", None),
+    ("<script>`", "`</script>", Some(Forbidden(1))),
+    ("<script>a-->b('", "')</script>", Some(Forbidden(1))),
+    ("<script>#!a\nf('", "')</script>", Some(Forbidden(1))),
+    ("<script>\\u0061('", "')</script>", Some(Forbidden(1))),
+    ("<script>'a\n'+'", "'</script>", Some(Forbidden(1))),
+    ("<script>'\\d'+'", "'</script>", Some(Forbidden(1))),
+    ("<script>'\\u{61}'+'", "'</script>", Some(Forbidden(1))),
+    ("<script>'\\x4g'+'", "'</script>", Some(Forbidden(1))),
+    ("<script>'\\ud800'+'", "'</script>", Some(Forbidden(1))),
+    ("<script>'</b>'+'", "'</script>", Some(Forbidden(1))),
+    ("<script>'<!a'+'", "'</script>", Some(Forbidden(1))),
+    ("<script>'<b>'+'", "'</script>", None),
+    ("<script>/* </b> */f('", "')</script>", None),
+    ("<script>// </b>\nf('", "')</script>", None),
+    ("<script>// \u{2028}f('", "')</script>", None),
+    ("<script>// \u{2028}", "</script>", Some(NoPlace(1))),
+    ("<script>a /b/</script>", "", None),
+    ("<script>a /<b/</SCRIPT >", "", None),
+    ("<script>f('</script>", "", None),
+    ("<script>f('\\</script>", "", None),
+    ("<script>// </script>", "", None),
+    ("<script>/* </script>", "", None),
+    ("<script>`</scripts></script/>", "", Some(Malformed(0))),
+    ("<script>`</script\t>", "", None),
+    ("<script>`</sCript\n>", "", None),
+    ("<script><!-- a --></script>", "", None),
+    ("<script><!-- <script></script>", "", Some(Forbidden(1))),
+    ("<script><!-- <script></script></script>", "", None),
+    ("<script><!-- <script>--></script>", "", None),
+    ("<script><!-- <scripts></script>", "", None),
+    ("<script><!-<script></script>", "", None),
+    ("<script><!--></script>", "", None),
+    (
+        "<script type=text/template><b>",
+        "</b></script>",
+        Some(Forbidden(1)),
+    ),
+    ("<script>`", "", Some(Forbidden(1))),
+];
+
+#[test]
+fn scripts(rt: HostRuntime) {
+    hold(&rt, rt.alloc(), &SCRIPTS);
+}
+
+static STYLES: [Row; 17] = [
+    ("<style>a\\:b{c:'", "'}</style>", Some(Forbidden(1))),
+    ("<style>a{b:'", "'} c\\:d{}</style>", None),
+    ("<style>@Import 'a';b{c:'", "'}</style>", Some(Forbidden(1))),
+    ("<style>@media a{b{c:'", "'}}</style>", None),
+    ("<style>a{b:url(x'y);c:'", "'}</style>", Some(Forbidden(1))),
+    ("<style>a{b:'\n';c:'", "'}</style>", Some(Forbidden(1))),
+    ("<style>a{b:'</b>';c:'", "'}</style>", Some(Forbidden(1))),
+    ("<style>a{b:'\\<';c:'", "'}</style>", Some(Forbidden(1))),
+    ("<style>a{b:'<!--';c:'", "'}</style>", None),
+    ("<style><!-- a{b:'", "'} --></style>", None),
+    ("<style>/* </b> */a{b:'", "'}</style>", None),
+    ("<style>/* </style>", "", None),
+    ("<style>a{b:'</STYLE\n>", "", None),
+    ("<style>a{b:'\\</style>", "", None),
+    ("<style>\\<!-- <style></style>", "", None),
+    ("<style>a</styles></style>", "", None),
+    ("<style>\\", "", Some(Forbidden(1))),
+];
+
+#[test]
+fn styles(rt: HostRuntime) {
+    hold(&rt, rt.alloc(), &STYLES);
+}
+
+static FRAMES: [Row; 7] = [
+    ("<iframe title=\"", "\"></iframe>", None),
+    ("<iframe src=\"", "\"></iframe>", Some(Forbidden(1))),
+    ("<iframe srcdoc='", "'></iframe>", Some(Forbidden(1))),
+    ("<iframe>", "</iframe>", Some(Forbidden(1))),
+    ("<iframe><b><!-- </b></IFRAME>", "", None),
+    ("<iframe></iframes></iframe/>", "", Some(Malformed(0))),
+    ("<iframe>", "", Some(Forbidden(1))),
+];
+
+#[test]
+fn frames(rt: HostRuntime) {
+    hold(&rt, rt.alloc(), &FRAMES);
+}
+
+#[test]
+fn an_open_script_is_unfinished(rt: HostRuntime) {
+    let rows: [Row; 3] = [
+        ("<p>", "<script>", Some(Unfinished)),
+        ("<p>", "<script>`", Some(Unfinished)),
+        ("<p>", "<iframe>", Some(Unfinished)),
+    ];
+    hold(&rt, rt.alloc(), &rows);
+}
