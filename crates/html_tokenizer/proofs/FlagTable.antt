@@ -1,16 +1,24 @@
 -- The table of flags against the definitions: each of the 256 bytes, computed.
-use Rattle.std.proofs.Common.{◌≡◌, ℕ, ◌<◌, Bool, true, not, ◌||◌, nat_eq, get_or, bit_and, refl}
+use Rattle.std.proofs.Common.{◌≡◌, ℕ, ◌<◌, Bool, true, not, ◌||◌, nat_eq, get_or, bit_and, bit_or, refl}
 use Rattle.std.proofs.lemmas.Bool.{agree_below, agree_below_at}
 use Rattle.html_tokenizer.specs.declared.flags.TheConstants.{FLAGS}
 use Rattle.html_tokenizer.specs.Tokenizer.CodeBytes.{is_name_byte}
-use Rattle.html_tokenizer.specs.Tokenizer.Stretches.{begins_word, is_mark, stands_in_name}
+use Rattle.std.specs.Char.{to_ascii_lowercase}
+use Rattle.html_tokenizer.specs.Tokenizer.Stretches.{begins_word, is_mark, is_name_letter}
 
 -- whether none of these bits of the byte is set
 abbrev pub lacks : ℕ → ℕ → Bool
 lacks bits b = nat_eq (bit_and (get_or FLAGS b 0) bits) 0
 
-in_name : agree_below (λ b. not (lacks 1 b)) stands_in_name 256 ≡ true
+in_name : agree_below (λ b. not (lacks 1 b)) is_name_letter 256 ≡ true
 in_name = refl
+
+-- the byte with its bit of a capital
+abbrev pub small : ℕ → ℕ
+small b = bit_or b (bit_and (get_or FLAGS b 0) 32)
+
+in_small : agree_below (λ b. lacks 1 b || nat_eq (small b) (to_ascii_lowercase b)) (λ b. true) 256 ≡ true
+in_small = refl
 
 in_word : agree_below (λ b. not (lacks 2 b)) is_name_byte 256 ≡ true
 in_word = refl
@@ -21,8 +29,11 @@ no_mark = refl
 no_stop : agree_below (lacks 12) (λ b. not (is_mark b || begins_word b)) 256 ≡ true
 no_stop = refl
 
-pub name_tells : (b : ℕ) → b < 256 → not (lacks 1 b) ≡ stands_in_name b
-name_tells b lt = agree_below_at (λ x. not (lacks 1 x)) stands_in_name 256 b in_name lt
+pub name_tells : (b : ℕ) → b < 256 → not (lacks 1 b) ≡ is_name_letter b
+name_tells b lt = agree_below_at (λ x. not (lacks 1 x)) is_name_letter 256 b in_name lt
+
+pub small_tells : (b : ℕ) → b < 256 → (lacks 1 b || nat_eq (small b) (to_ascii_lowercase b)) ≡ true
+small_tells b lt = agree_below_at (λ x. lacks 1 x || nat_eq (small x) (to_ascii_lowercase x)) (λ x. true) 256 b in_small lt
 
 pub word_tells : (b : ℕ) → b < 256 → not (lacks 2 b) ≡ is_name_byte b
 word_tells b lt = agree_below_at (λ x. not (lacks 2 x)) is_name_byte 256 b in_word lt

@@ -1,4 +1,3 @@
-pub mod BeforeNames
 pub mod FlagTable
 pub mod HeldWords
 pub mod KnownReferences
@@ -6,6 +5,5 @@ pub mod Passing
 pub mod SettledWords
 pub mod ShortNames
 pub mod Staying
-pub mod WholeNames
 pub mod Slots
 pub mod Agreement

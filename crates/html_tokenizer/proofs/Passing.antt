@@ -1,7 +1,7 @@
 -- Bytes from one state of the tokenizer to another.
-use Rattle.std.proofs.Common.{ℕ, ◌≡◌, List, [], ◌∷◌, ◌++◌, refl, ap, ◌∙◌, sym, append_assoc, append-nil}
+use Rattle.std.proofs.Common.{ℕ, zero, suc, ◌≡◌, ◌<◌, List, [], ◌∷◌, ◌++◌, length, take, refl, ap, ◌∙◌, sym, append_assoc, append-nil, arith}
 use Rattle.html_tokenizer.specs.Tokenizer.Actions.{Action}
-use Rattle.html_tokenizer.specs.Tokenizer.States.{Tokenizer, refused}
+use Rattle.html_tokenizer.specs.Tokenizer.States.{Refused, Tokenizer, refused}
 use Rattle.html_tokenizer.specs.Tokenizer.Tokenization.{consume, state_after, actions_of}
 use Rattle.html_tokenizer.specs.Tokenizer.Transitions.{Transition, moves}
 
@@ -56,3 +56,12 @@ pub stays_refused : (bytes : List ℕ) → state_after refused bytes ≡ refused
 unfolding consume
 stays_refused [] = refl
 stays_refused (b ∷ bytes) = stays_refused bytes
+
+-- so that after a refusal the rest need not be read
+pub refuses_rest : (t u : Tokenizer) (bytes : List ℕ) (count : ℕ) → count < length bytes →
+    u ≡ state_after t (take count bytes) → u.state ≡ Refused → state_after t bytes ≡ refused
+unfolding consume
+refuses_rest t u [] count within before is = absurd (omega arith)
+refuses_rest t u (b ∷ bytes) zero within before is =
+    ap (λ x. state_after (consume x b).next bytes) (sym before) ∙ rw is (stays_refused bytes)
+refuses_rest t u (b ∷ bytes) (suc count) within before is = refuses_rest (consume t b).next u bytes count (omega arith) before is

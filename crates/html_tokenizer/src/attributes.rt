@@ -489,6 +489,15 @@ pub(crate) fn content_after(content: Content, kind: Kind, word: &[u8]) -> Option
     ensures { result ≡ content_after content (attribute_in kind word.now) }
 {
     match kind {
+        Kind::Ordinary => Some(content),
+        _ => content_after_word(content, kind, word),
+    }
+}
+
+fn content_after_word(content: Content, kind: Kind, word: &[u8]) -> Option<Content>
+    ensures { result ≡ content_after content (attribute_in kind word.now) }
+{
+    match kind {
         Kind::ScriptType if is_javascript(word) => Some(with_element(content, OpenElement::Script)),
         Kind::Pragma if word == b"content-type".as_slice() => {
             Some(with_element(content, OpenElement::MetaType))

@@ -1,8 +1,9 @@
 //! What the tokenizer does at a byte.
-ghost use Rattle.std.specs.Prelude.{◌≡◌};
+ghost use Rattle.std.specs.Prelude.{◌≡◌, ℕ, List};
 ghost use Rattle.html_tokenizer.specs.Tokenizer.Names.{reference_read};
-ghost use Rattle.html_tokenizer.specs.Tokenizer.Phases.{IsNoScriptEscape, attribute_in, moved, state_of};
+ghost use Rattle.html_tokenizer.specs.Tokenizer.Phases.{IsBeforeName, IsInName, IsNoScriptEscape, IsTextOrValue, attribute_in, moved, state_of};
 ghost use Rattle.html_tokenizer.specs.Tokenizer.Tokenization.{byte_in, value_byte, within_byte};
+ghost use Rattle.html_tokenizer.specs.declared.states.Kind.{Kind};
 ghost use Rattle.html_tokenizer.specs.declared.states.Phase.TheVariants as phase;
 
 use crate::attributes::reference_read;
@@ -70,6 +71,61 @@ fn within_byte(place: SlotPlace, content: Content, kind: Kind, word: &[u8], byte
     }
 }
 
+/// What the tokenizer does in text, in a value in quotes, and right before and after one.
+#[inline(always)]
+pub(crate) fn text_or_value_byte(
+    phase: Phase,
+    content: Content,
+    kind: Kind,
+    word: &[u8],
+    byte: u8,
+) -> Move
+    requires { IsTextOrValue phase }
+    ensures { moved result word.now
+        ≡ (byte_in (state_of phase word.now) content (attribute_in kind word.now) byte).next }
+{
+    match phase {
+        Phase::In(SlotPlace::Text) => text_byte(content, kind, word, byte),
+        Phase::In(SlotPlace::DoubleQuoted) => {
+            quoted_byte(b'"', SlotPlace::DoubleQuoted, content, kind, word, byte)
+        }
+        Phase::In(SlotPlace::SingleQuoted) => {
+            quoted_byte(b'\'', SlotPlace::SingleQuoted, content, kind, word, byte)
+        }
+        Phase::BeforeValue => before_value_byte(content, kind, word, byte),
+        _ => after_value_byte(content, byte),
+    }
+}
+
+/// What the tokenizer does where the name of a tag or an attribute may begin.
+#[inline]
+pub(crate) fn first_byte(phase: Phase, content: Content, byte: u8) -> Move
+    requires { IsBeforeName phase }
+    ensures { (kind : Kind) (word : List ℕ) → moved result word
+        ≡ (byte_in (state_of phase word) content (attribute_in kind word) byte).next }
+{
+    match phase {
+        Phase::TagOpen if byte == b'/' => to(Phase::EndTagOpen, content),
+        Phase::TagOpen => tag_open_byte(content, byte),
+        Phase::EndTagOpen => end_tag_open_byte(content, byte),
+        _ => before_name_byte(content, byte),
+    }
+}
+
+/// What the tokenizer does in the name of a tag or an attribute.
+#[inline(always)]
+pub(crate) fn name_byte(phase: Phase, content: Content, name: &[u8], byte: u8) -> Move
+    requires { IsInName phase }
+    ensures { (kind : Kind) → moved result name.now
+        ≡ (byte_in (state_of phase name.now) content (attribute_in kind name.now) byte).next }
+{
+    match phase {
+        Phase::TagName => tag_name_byte(content, name, byte),
+        Phase::EndTagName => end_tag_name_byte(content, name, byte),
+        _ => attribute_name_byte(content, name, byte),
+    }
+}
+
 /// What the tokenizer does at a byte, but within an escape of a script.
 #[inline(always)]
 pub(crate) fn byte_in(phase: Phase, content: Content, kind: Kind, word: &[u8], byte: u8) -> Move
@@ -78,23 +134,19 @@ pub(crate) fn byte_in(phase: Phase, content: Content, kind: Kind, word: &[u8], b
         ≡ (byte_in (state_of phase word.now) content (attribute_in kind word.now) byte).next }
 {
     match phase {
+        Phase::In(SlotPlace::Text | SlotPlace::DoubleQuoted | SlotPlace::SingleQuoted)
+        | Phase::BeforeValue
+        | Phase::AfterValue => text_or_value_byte(phase, content, kind, word, byte),
+        Phase::TagOpen | Phase::EndTagOpen | Phase::BeforeName => first_byte(phase, content, byte),
+        Phase::TagName | Phase::EndTagName | Phase::Name => name_byte(phase, content, word, byte),
         Phase::In(place) => value_byte(place, content, kind, word, byte),
         Phase::Within(place) => within_byte(place, content, kind, word, byte),
         Phase::StringLess(place) => {
             let again = value_byte(place, content, kind, word, byte);
             string_less_byte(content, again, byte)
         }
-        Phase::TagOpen if byte == b'/' => to(Phase::EndTagOpen, content),
-        Phase::TagOpen => tag_open_byte(content, byte),
-        Phase::EndTagOpen => end_tag_open_byte(content, byte),
-        Phase::TagName => tag_name_byte(content, word, byte),
-        Phase::EndTagName => end_tag_name_byte(content, word, byte),
         Phase::AfterEndTagName => end_tag_byte(content, byte),
-        Phase::BeforeName => before_name_byte(content, byte),
-        Phase::Name => attribute_name_byte(content, word, byte),
         Phase::AfterName => after_name_byte(content, word, byte),
-        Phase::BeforeValue => before_value_byte(content, kind, word, byte),
-        Phase::AfterValue => after_value_byte(content, byte),
         Phase::SelfClosing => self_closing_byte(content, byte),
         Phase::InCode(code) => in_code_byte(code, content, byte),
         Phase::CodeLess(code) => code_less_byte(code, content, byte),

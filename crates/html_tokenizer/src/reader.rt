@@ -3,22 +3,20 @@ ghost use Rattle.std.specs.Prelude.{◌≡◌, ◌≤◌, ◌<◌, ◌++◌, ◌
 ghost use Rattle.html_tokenizer.specs.Standing.{AfterStanding, is_refused, may_end, standing};
 ghost use Rattle.html_tokenizer.specs.Tokenizer.CodeStrings.{script_escape_byte};
 ghost use Rattle.html_tokenizer.specs.Tokenizer.Names.{reference_read};
-ghost use Rattle.html_tokenizer.specs.Tokenizer.Phases.{attribute_in, moved, state_of, tokenizer_of};
+ghost use Rattle.html_tokenizer.specs.Tokenizer.Phases.{IsBeforeName, IsNoScriptEscape, IsTextOrValue, ReadsOn, attribute_in, moved, tokenizer_of};
 ghost use Rattle.html_tokenizer.specs.Tokenizer.States.{at, data_state};
 ghost use Rattle.html_tokenizer.specs.Tokenizer.Tokenization.{consume, state_after};
 ghost use Rattle.html_tokenizer.specs.declared.states.OpenElement.TheVariants as element;
 ghost use Rattle.html_tokenizer.specs.declared.states.Kind.TheVariants as kind;
 ghost use Rattle.html_tokenizer.specs.declared.states.Phase.TheVariants as phase;
 
-use crate::attributes::{content_after, inside};
 use crate::code::is_opaque;
-use crate::consume::byte_in;
-use crate::names::{before_name, begun_name, name_length, whole_name};
+use crate::consume::{byte_in, first_byte, name_byte, text_or_value_byte};
+use crate::names::{MOST_LETTERS, begun_name, read_letters};
 use crate::slot_place::SlotPlace;
-use crate::states::{Code, Content, Kind, Move, OpenElement, Phase, Word};
-use crate::stretches::{has_stretches, script_words, stretch};
+use crate::states::{Code, Content, Kind, Move, OpenElement, Phase, Word, goes, refuses};
+use crate::stretches::{script_words, stretch, text_stretch};
 use crate::strings::script_escape_byte;
-use crate::tags::content_phase;
 use std::alloc::{AllocError, Allocator};
 
 /// Where a slot stands.
@@ -39,6 +37,30 @@ pub struct Reader<A: Allocator> {
     content: Content,
     kind: Kind,
     word: Vec<u8, A>,
+}
+
+// Whether it is the same state, of those that `read_markup` goes through.
+#[inline(always)]
+fn is_same(phase: Phase, other: Phase) -> bool
+    ensures { IsTrue result → phase ≡ other }
+{
+    matches!(
+        (phase, other),
+        (Phase::In(SlotPlace::Text), Phase::In(SlotPlace::Text))
+            | (
+                Phase::In(SlotPlace::DoubleQuoted),
+                Phase::In(SlotPlace::DoubleQuoted)
+            )
+            | (
+                Phase::In(SlotPlace::SingleQuoted),
+                Phase::In(SlotPlace::SingleQuoted)
+            )
+            | (Phase::TagOpen, Phase::TagOpen)
+            | (Phase::EndTagOpen, Phase::EndTagOpen)
+            | (Phase::BeforeName, Phase::BeforeName)
+            | (Phase::BeforeValue, Phase::BeforeValue)
+            | (Phase::AfterValue, Phase::AfterValue)
+    )
 }
 
 impl<A: Allocator> Reader<A> {
@@ -87,6 +109,19 @@ impl<A: Allocator> Reader<A> {
         self.go(next)
     }
 
+    // Reads a byte in this state, which is known where the call is compiled.
+    #[inline(always)]
+    #[tactic(auto, unfolding(crate::specs::Tokenizer::Tokenization::consume))]
+    fn step_in(&mut self, phase: Phase, byte: u8) -> Result<(), AllocError>
+        requires phase { self.old.phase ≡ phase }
+        requires no_escape { IsNoScriptEscape phase }
+        ensures { OnOk result (tokenizer_of self.new
+            ≡ (consume (tokenizer_of self.old) byte).next) }
+    {
+        let next = byte_in(phase, self.content, self.kind, &self.word, byte);
+        self.go(next)
+    }
+
     #[tactic(auto, unfolding(crate::specs::Tokenizer::Tokenization::consume))]
     fn step(&mut self, byte: u8) -> Result<(), AllocError>
         ensures { OnOk result (tokenizer_of self.new
@@ -95,220 +130,185 @@ impl<A: Allocator> Reader<A> {
         match self.phase {
             Phase::Within(SlotPlace::ScriptSingle) => self.escape(SlotPlace::ScriptSingle, byte),
             Phase::Within(SlotPlace::ScriptDouble) => self.escape(SlotPlace::ScriptDouble, byte),
-            phase => {
-                let next = byte_in(phase, self.content, self.kind, &self.word, byte);
+            phase => self.step_in(phase, byte),
+        }
+    }
+
+    // Goes where this word leads, which is held only if it is needed there.
+    #[inline(always)]
+    fn go_from(&mut self, word: &[u8], next: Move) -> Result<(), AllocError>
+        ensures { OnOk result (tokenizer_of self.new ≡ moved next word.now) }
+    {
+        match next.word {
+            Word::New => self.go(next),
+            _ => {
+                self.word.clear();
+                self.word.extend_from_slice(word)?;
                 self.go(next)
             }
         }
     }
 
-    // Reads on in a name or a reference, if one is read, over its first bytes, and answers how many.
+    // Reads on in this state, over the bytes that leave it as it is and over the next one.
     #[inline(always)]
-    fn name_bytes(&mut self, bytes: &[u8]) -> Result<usize, AllocError>
-        requires { self.old.kind ≡ kind.Ordinary }
-        ensures within { IfOk result (λ count. count ≤ length bytes.now) }
-        ensures read { IfOk result (λ count. tokenizer_of self.new
-            ≡ state_after (tokenizer_of self.old) (take count bytes.now)) }
-        ensures kind { IfOk result (λ count. self.new.kind ≡ kind.Ordinary) }
+    fn read_on(&mut self, phase: Phase, bytes: &[u8], done: &mut usize) -> Result<(), AllocError>
+        requires phase { self.old.phase ≡ phase }
+        requires no_escape { IsNoScriptEscape phase }
+        requires within { done.old ≤ length bytes.now }
+        ensures forth { OnOk result (done.old ≤ done.new) }
+        ensures within { OnOk result (done.new ≤ length bytes.now) }
+        ensures read { OnOk result (ReadsOn (tokenizer_of self.old) (tokenizer_of self.new)
+            bytes.now done.old done.new) }
     {
-        let count = name_length(self.phase, bytes);
-        self.word.extend_from_slice(&bytes[..count])?;
-        Ok(count)
-    }
-
-    // Reads over the quote mark that opens a value, if one stands there, and answers how many bytes.
-    #[inline(always)]
-    fn open_value(&mut self, bytes: &[u8]) -> usize
-        ensures within { result ≤ length bytes.now }
-        ensures read { tokenizer_of self.new
-            ≡ state_after (tokenizer_of self.old) (take result bytes.now) }
-    {
-        match self.phase {
-            Phase::BeforeValue if !bytes.is_empty() && bytes[0] == b'"' => {
-                self.phase = Phase::In(SlotPlace::DoubleQuoted);
-                1
-            }
-            _ => 0,
+        *done += stretch(phase, self.content, self.kind, &bytes[*done..]);
+        if *done == bytes.len() {
+            return Ok(());
         }
+        self.step_in(phase, bytes[*done])?;
+        *done += 1;
+        Ok(())
     }
 
-    // Reads over a name that begins at the first byte, and answers how many bytes. A name that ends
-    // here is not held, and its end and the quote mark of its value are read, too.
+    // The same in this state of text or a value, if it is the state. Compiled for it alone.
     #[inline(always)]
-    fn read_name(&mut self, phase: Phase, bytes: &[u8]) -> Result<usize, AllocError>
+    fn read_in(&mut self, phase: Phase, bytes: &[u8], done: &mut usize) -> Result<(), AllocError>
+        requires phase { IsTextOrValue phase }
+        requires within { done.old ≤ length bytes.now }
+        ensures forth { OnOk result (done.old ≤ done.new) }
+        ensures within { OnOk result (done.new ≤ length bytes.now) }
+        ensures read { OnOk result (ReadsOn (tokenizer_of self.old) (tokenizer_of self.new)
+            bytes.now done.old done.new) }
+    {
+        if !is_same(self.phase, phase) {
+            return Ok(());
+        }
+        *done += text_stretch(phase, self.kind, &bytes[*done..]);
+        if *done == bytes.len() {
+            return Ok(());
+        }
+        let next = text_or_value_byte(phase, self.content, self.kind, &self.word, bytes[*done]);
+        self.go(next)?;
+        *done += 1;
+        Ok(())
+    }
+
+    // Reads over the next byte in this state, if it is the state, and over the name that begins there
+    // and its end.
+    #[inline(always)]
+    fn read_name(&mut self, phase: Phase, bytes: &[u8], done: &mut usize) -> Result<(), AllocError>
+        requires phase { IsBeforeName phase }
+        requires within { done.old ≤ length bytes.now }
+        ensures forth { OnOk result (done.old ≤ done.new) }
+        ensures within { OnOk result (done.new ≤ length bytes.now) }
+        ensures read { OnOk result (ReadsOn (tokenizer_of self.old) (tokenizer_of self.new)
+            bytes.now done.old done.new) }
+    {
+        if !is_same(self.phase, phase) || *done == bytes.len() {
+            return Ok(());
+        }
+        let first = first_byte(phase, self.content, bytes[*done]);
+        *done += 1;
+        let Some((name, letter)) = begun_name(first) else {
+            self.go(first)?;
+            return Ok(());
+        };
+        let mut letters = [0; MOST_LETTERS];
+        letters[0] = letter;
+        let count = read_letters(name, &bytes[*done..], &mut letters, 1);
+        *done += count;
+        let word = &letters[..1 + count];
+        if *done == bytes.len() {
+            self.go_from(word, goes(name, first.content, Word::Keep))?;
+            return Ok(());
+        }
+        let next = name_byte(name, first.content, word, bytes[*done]);
+        *done += 1;
+        self.go_from(word, next)?;
+        Ok(())
+    }
+
+    // Reads on through values, text and tags, in the order of their states.
+    #[inline(always)]
+    fn read_markup(&mut self, bytes: &[u8], done: &mut usize) -> Result<(), AllocError>
+        requires { done.old ≤ length bytes.now }
+        ensures forth { OnOk result (done.old ≤ done.new) }
+        ensures within { OnOk result (done.new ≤ length bytes.now) }
+        ensures read { OnOk result (ReadsOn (tokenizer_of self.old) (tokenizer_of self.new)
+            bytes.now done.old done.new) }
+    {
+        self.read_in(Phase::In(SlotPlace::DoubleQuoted), bytes, done)?;
+        self.read_in(Phase::In(SlotPlace::SingleQuoted), bytes, done)?;
+        self.read_in(Phase::AfterValue, bytes, done)?;
+        self.read_in(Phase::In(SlotPlace::Text), bytes, done)?;
+        self.read_name(Phase::TagOpen, bytes, done)?;
+        self.read_name(Phase::EndTagOpen, bytes, done)?;
+        self.read_name(Phase::BeforeName, bytes, done)?;
+        self.read_in(Phase::BeforeValue, bytes, done)
+    }
+
+    // Reads on in a name or a reference.
+    #[inline(always)]
+    fn read_held(&mut self, bytes: &[u8], done: &mut usize) -> Result<(), AllocError>
         requires kind { self.old.kind ≡ kind.Ordinary }
-        requires some { 0 < length bytes.now }
-        requires begun { (consume (tokenizer_of self.old) (slice_index bytes.now 0)).next
-            ≡ at (state_of phase (slice_index bytes.now 0 ∷ [])) self.old.content }
-        ensures within { IfOk result (λ count. count ≤ length bytes.now) }
-        ensures read { IfOk result (λ count. tokenizer_of self.new
-            ≡ state_after (tokenizer_of self.old) (take count bytes.now)) }
+        requires within { done.old ≤ length bytes.now }
+        ensures forth { OnOk result (done.old ≤ done.new) }
+        ensures within { OnOk result (done.new ≤ length bytes.now) }
+        ensures read { OnOk result (ReadsOn (tokenizer_of self.old) (tokenizer_of self.new)
+            bytes.now done.old done.new) }
     {
-        let end = 1 + name_length(phase, &bytes[1..]);
-        if end != bytes.len()
-            && let Some(next) = whole_name(phase, self.content, &bytes[..end], bytes[end])
-        {
-            self.go(next)?;
-            let ended = end + 1;
-            return Ok(ended + self.open_value(&bytes[ended..]));
-        }
-        self.phase = phase;
-        self.word.clear();
-        self.word.extend_from_slice(&bytes[..end])?;
-        Ok(end)
+        let mut letters = [0; MOST_LETTERS];
+        let count = read_letters(self.phase, &bytes[*done..], &mut letters, 0);
+        self.word.extend_from_slice(&letters[..count])?;
+        *done += count;
+        Ok(())
     }
 
-    // Reads over a name, if one begins at the first byte, and answers how many bytes. A tag's name has
-    // a copy of what follows to itself.
+    // Reads on in code, over the words of a script and what ends them.
     #[inline(always)]
-    fn read_begun_name(&mut self, bytes: &[u8]) -> Result<usize, AllocError>
-        requires kind { self.old.kind ≡ kind.Ordinary }
-        requires some { 0 < length bytes.now }
-        ensures within { IfOk result (λ count. count ≤ length bytes.now) }
-        ensures read { IfOk result (λ count. tokenizer_of self.new
-            ≡ state_after (tokenizer_of self.old) (take count bytes.now)) }
-    {
-        match begun_name(self.phase, self.content, bytes[0]) {
-            Some(Phase::TagName) => self.read_name(Phase::TagName, bytes),
-            Some(Phase::EndTagName) => self.read_name(Phase::EndTagName, bytes),
-            Some(phase) => self.read_name(phase, bytes),
-            None => Ok(0),
-        }
-    }
-
-    // Reads over the beginning of a name and over the name, if one begins, and answers how many
-    // bytes. Not inlined, since three kinds of passes end in it.
-    #[inline(never)]
-    fn begin_name(&mut self, bytes: &[u8]) -> Result<usize, AllocError>
-        requires { self.old.kind ≡ kind.Ordinary }
-        ensures within { IfOk result (λ count. count ≤ length bytes.now) }
-        ensures read { IfOk result (λ count. tokenizer_of self.new
-            ≡ state_after (tokenizer_of self.old) (take count bytes.now)) }
-    {
-        let (before, count) = before_name(self.phase, bytes);
-        self.phase = before;
-        if count == bytes.len() {
-            return Ok(count);
-        }
-        let more = self.read_begun_name(&bytes[count..])?;
-        Ok(count + more)
-    }
-
-    // Reads over the quote mark that ends a value, if one stands there, and answers how many bytes.
-    #[inline(always)]
-    fn close_value(&mut self, bytes: &[u8]) -> usize
-        ensures within { result ≤ length bytes.now }
-        ensures read { tokenizer_of self.new
-            ≡ state_after (tokenizer_of self.old) (take result bytes.now) }
-    {
-        match self.phase {
-            Phase::In(SlotPlace::DoubleQuoted) if !bytes.is_empty() && bytes[0] == b'"' => {
-                let Some(content) = content_after(self.content, self.kind, &self.word) else {
-                    return 0;
-                };
-                self.phase = Phase::AfterValue;
-                self.content = content;
-                self.kind = Kind::Ordinary;
-                1
-            }
-            _ => 0,
-        }
-    }
-
-    // Reads over the `>` after a value, if one stands there, and answers how many bytes.
-    #[inline(always)]
-    fn close_tag(&mut self, bytes: &[u8]) -> usize
-        requires { self.old.kind ≡ kind.Ordinary }
-        ensures within { result ≤ length bytes.now }
-        ensures read { tokenizer_of self.new
-            ≡ state_after (tokenizer_of self.old) (take result bytes.now) }
-        ensures kind { self.new.kind ≡ kind.Ordinary }
-    {
-        match self.phase {
-            Phase::AfterValue if !bytes.is_empty() && bytes[0] == b'>' => {
-                self.phase = content_phase(self.content.element);
-                self.content = inside(self.content);
-                1
-            }
-            _ => 0,
-        }
-    }
-
-    // Reads on in text and through the name that follows, and answers how many bytes.
-    #[inline(always)]
-    fn read_text(&mut self, bytes: &[u8]) -> Result<usize, AllocError>
-        requires { self.old.kind ≡ kind.Ordinary }
-        ensures within { IfOk result (λ count. count ≤ length bytes.now) }
-        ensures read { IfOk result (λ count. tokenizer_of self.new
-            ≡ state_after (tokenizer_of self.old) (take count bytes.now)) }
-    {
-        let count = stretch(self.phase, self.content, self.kind, bytes);
-        let more = self.begin_name(&bytes[count..])?;
-        Ok(count + more)
-    }
-
-    // Reads on in a value, over its end, and over the end of its tag or through the name that follows,
-    // and answers how many bytes.
-    #[inline(always)]
-    fn read_value(&mut self, bytes: &[u8]) -> Result<usize, AllocError>
-        ensures within { IfOk result (λ count. count ≤ length bytes.now) }
-        ensures read { IfOk result (λ count. tokenizer_of self.new
-            ≡ state_after (tokenizer_of self.old) (take count bytes.now)) }
-    {
-        let inside = stretch(self.phase, self.content, self.kind, bytes);
-        let closed = inside + self.close_value(&bytes[inside..]);
-        match self.kind {
-            Kind::Ordinary => {
-                let ended = closed + self.close_tag(&bytes[closed..]);
-                let more = self.begin_name(&bytes[ended..])?;
-                Ok(ended + more)
-            }
-            _ => Ok(closed),
-        }
-    }
-
-    // Reads on in the code of a script, and answers how many bytes.
-    #[inline(always)]
-    fn read_script(&mut self, code: Code, bytes: &[u8]) -> usize
+    fn read_code(&mut self, code: Code, bytes: &[u8], done: &mut usize) -> Result<(), AllocError>
         requires phase { self.old.phase ≡ phase.InCode code }
         requires kind { self.old.kind ≡ kind.Ordinary }
-        requires script { self.old.content.element ≡ element.Script }
-        ensures within { result ≤ length bytes.now }
-        ensures read { tokenizer_of self.new
-            ≡ state_after (tokenizer_of self.old) (take result bytes.now) }
+        requires within { done.old ≤ length bytes.now }
+        ensures forth { OnOk result (done.old ≤ done.new) }
+        ensures within { OnOk result (done.new ≤ length bytes.now) }
+        ensures read { OnOk result (ReadsOn (tokenizer_of self.old) (tokenizer_of self.new)
+            bytes.now done.old done.new) }
     {
-        let (count, reached) = script_words(code, bytes);
-        if count != 0 {
+        if self.content.element == OpenElement::Script {
+            let (count, reached) = script_words(code, &bytes[*done..]);
             self.phase = Phase::InCode(reached);
-            return count;
+            *done += count;
+            self.read_on(Phase::InCode(reached), bytes, done)?;
+            return Ok(());
         }
-        stretch(self.phase, self.content, self.kind, bytes)
+        self.read_on(Phase::InCode(code), bytes, done)
     }
 
-    // Reads over the first bytes that lead to no other state, or only through a name or a value.
-    // Answers how many, and whether more such bytes may follow.
+    // Reads on by more than a byte, if the state has a way.
     #[inline(always)]
-    fn pass(&mut self, bytes: &[u8]) -> Result<(usize, bool), AllocError>
-        ensures within { IfOk result (λ passed. passed.0 ≤ length bytes.now) }
-        ensures read { IfOk result (λ passed. tokenizer_of self.new
-            ≡ state_after (tokenizer_of self.old) (take passed.0 bytes.now)) }
-        ensures more { IfOk result (λ passed. IsTrue passed.1 → 0 < passed.0) }
+    fn read_more(&mut self, bytes: &[u8], done: &mut usize) -> Result<(), AllocError>
+        requires { done.old ≤ length bytes.now }
+        ensures forth { OnOk result (done.old ≤ done.new) }
+        ensures within { OnOk result (done.new ≤ length bytes.now) }
+        ensures read { OnOk result (ReadsOn (tokenizer_of self.old) (tokenizer_of self.new)
+            bytes.now done.old done.new) }
     {
-        let count = match (self.phase, self.kind) {
-            (Phase::TagName | Phase::EndTagName | Phase::Name, Kind::Ordinary) => {
-                self.name_bytes(bytes)?
-            }
-            (Phase::Within(_), Kind::Ordinary) => return Ok((self.name_bytes(bytes)?, false)),
-            (Phase::In(SlotPlace::Text), Kind::Ordinary) => self.read_text(bytes)?,
-            (Phase::BeforeName | Phase::AfterValue, Kind::Ordinary) => self.begin_name(bytes)?,
-            (Phase::In(SlotPlace::DoubleQuoted), _) => self.read_value(bytes)?,
-            (Phase::InCode(code), Kind::Ordinary) if self.content.element == OpenElement::Script =>
-                {
-                    return Ok((self.read_script(code, bytes), false));
-                }
-            _ => return Ok((stretch(self.phase, self.content, self.kind, bytes), false)),
-        };
-        Ok((count, count != 0))
+        match (self.phase, self.kind) {
+            (Phase::InCode(code), Kind::Ordinary) => self.read_code(code, bytes, done),
+            (Phase::TagName | Phase::EndTagName | Phase::Name | Phase::Within(_), Kind::Ordinary) =>
+                self.read_held(bytes, done),
+            (
+                Phase::In(SlotPlace::Text | SlotPlace::DoubleQuoted | SlotPlace::SingleQuoted)
+                | Phase::TagOpen
+                | Phase::EndTagOpen
+                | Phase::BeforeName
+                | Phase::BeforeValue
+                | Phase::AfterValue,
+                _,
+            ) => self.read_markup(bytes, done),
+            (Phase::Within(_), _) => Ok(()),
+            (phase, _) => self.read_on(phase, bytes, done),
+        }
     }
 
     /// Reads on.
@@ -324,15 +324,15 @@ impl<A: Allocator> Reader<A> {
         }
         let mut done = 0;
         'bytes: while done < bytes.len() {
-            if has_stretches(self.phase) {
-                let (count, more) = self.pass(&bytes[done..])?;
-                done += count;
-                if more {
-                    continue 'bytes;
-                }
-                if done == bytes.len() {
-                    return Ok(());
-                }
+            // Nothing leads out of a refusal.
+            if let Phase::Refused = self.phase {
+                self.go(refuses())?;
+                return Ok(());
+            }
+            let before = done;
+            self.read_more(bytes, &mut done)?;
+            if done != before {
+                continue 'bytes;
             }
             self.step(bytes[done])?;
             done += 1;

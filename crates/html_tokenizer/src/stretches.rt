@@ -201,7 +201,8 @@ fn value_bytes(place: SlotPlace, bytes: &[u8]) -> usize
 }
 
 #[inline(always)]
-fn value_stretch(place: SlotPlace, bytes: &[u8]) -> usize
+fn searched_stretch(place: SlotPlace, bytes: &[u8]) -> usize
+    requires { is_searched place ≡ true }
     ensures whole { IsFirstPlace (leaves_value place) bytes.now 0 result }
     ensures stays { (content : Content) (attribute : Attribute)
         → ((b : ℕ) → value_byte_read attribute b ≡ attribute)
@@ -217,11 +218,48 @@ fn value_stretch(place: SlotPlace, bytes: &[u8]) -> usize
         SlotPlace::DoubleQuoted => first_of_two(b'"', b'&', bytes, 0),
         SlotPlace::SingleQuoted if matches!(bytes, [b'\'' | b'&', ..]) => 0,
         SlotPlace::SingleQuoted => first_of_two(b'\'', b'&', bytes, 0),
+        _ => 0,
+    }
+}
+
+#[inline(always)]
+fn value_stretch(place: SlotPlace, bytes: &[u8]) -> usize
+    ensures whole { IsFirstPlace (leaves_value place) bytes.now 0 result }
+    ensures stays { (content : Content) (attribute : Attribute)
+        → ((b : ℕ) → value_byte_read attribute b ≡ attribute)
+        → state_after (at_value (In place) content attribute) (take result bytes.now)
+        ≡ at_value (In place) content attribute }
+{
+    match place {
+        SlotPlace::Text | SlotPlace::DoubleQuoted | SlotPlace::SingleQuoted => {
+            searched_stretch(place, bytes)
+        }
         SlotPlace::Unquoted => value_bytes(SlotPlace::Unquoted, bytes),
         SlotPlace::ScriptSingle => value_bytes(SlotPlace::ScriptSingle, bytes),
         SlotPlace::ScriptDouble => value_bytes(SlotPlace::ScriptDouble, bytes),
         SlotPlace::StyleSingle => value_bytes(SlotPlace::StyleSingle, bytes),
         SlotPlace::StyleDouble => value_bytes(SlotPlace::StyleDouble, bytes),
+    }
+}
+
+/// How many of the first bytes leave the tokenizer where it is, in text and in a value in quotes. In
+/// other states none are gone over.
+#[inline(always)]
+pub(crate) fn text_stretch(phase: Phase, kind: Kind, bytes: &[u8]) -> usize
+    ensures within { result ≤ length bytes.now }
+    ensures stays { (content : Content) (word : List ℕ)
+        → state_after (at_value (state_of phase word) content (attribute_in kind word))
+        (take result bytes.now)
+        ≡ at_value (state_of phase word) content (attribute_in kind word) }
+{
+    match (phase, kind) {
+        (
+            Phase::In(
+                place @ (SlotPlace::Text | SlotPlace::DoubleQuoted | SlotPlace::SingleQuoted),
+            ),
+            Kind::Ordinary | Kind::Forbidden,
+        ) => searched_stretch(place, bytes),
+        _ => 0,
     }
 }
 
@@ -246,27 +284,4 @@ pub(crate) fn stretch(phase: Phase, content: Content, kind: Kind, bytes: &[u8]) 
         (Phase::Comment, _, Kind::Ordinary) => first_byte(b'-', bytes, 0),
         _ => 0,
     }
-}
-
-/// Whether bytes may leave the tokenizer where it is in this state, begin a name, or go on in one or in a
-/// reference.
-#[inline(always)]
-pub(crate) fn has_stretches(phase: Phase) -> bool {
-    matches!(
-        phase,
-        Phase::In(_)
-            | Phase::Within(
-                SlotPlace::Text
-                    | SlotPlace::DoubleQuoted
-                    | SlotPlace::SingleQuoted
-                    | SlotPlace::Unquoted
-            )
-            | Phase::InCode(_)
-            | Phase::Comment
-            | Phase::TagName
-            | Phase::EndTagName
-            | Phase::BeforeName
-            | Phase::Name
-            | Phase::AfterValue
-    )
 }

@@ -1,5 +1,5 @@
 -- The states of the running tokenizer, as those of the definitions.
-use Rattle.std.specs.Prelude.{⊤, ℕ, List, [], ◌∷◌, ◌++◌}
+use Rattle.std.specs.Prelude.{⊤, ℕ, ◌≡◌, List, [], ◌∷◌, ◌++◌, take}
 use Rattle.html_tokenizer.specs.declared.slot_place.SlotPlace.TheVariants as place
 use Rattle.html_tokenizer.specs.declared.reader.Reader.{Reader}
 use Rattle.html_tokenizer.specs.declared.states.Kind.{Kind}
@@ -11,6 +11,7 @@ use Rattle.html_tokenizer.specs.declared.states.Word.{Word}
 use Rattle.html_tokenizer.specs.declared.states.Word.TheVariants.{New, Keep, Begin, Add}
 use Rattle.html_tokenizer.specs.Tokenizer.States as state
 use Rattle.html_tokenizer.specs.Tokenizer.States.{State, Attribute, Tokenizer, at_value}
+use Rattle.html_tokenizer.specs.Tokenizer.Tokenization.{state_after}
 
 abbrev pub state_of : Phase → List ℕ → State
 state_of (phase.In p) word = state.In p
@@ -80,8 +81,35 @@ moved m word =
 abbrev pub tokenizer_of : {A : Type 0} → Reader A → Tokenizer
 tokenizer_of reader = at_value (state_of reader.phase reader.word.items) reader.content (attribute_in reader.kind reader.word.items)
 
+-- what is after so many of the bytes leads to what is after so many
+abbrev pub ReadsOn : Tokenizer → Tokenizer → List ℕ → ℕ → ℕ → Type 0
+ReadsOn t u bytes before after = (start : Tokenizer) → t ≡ state_after start (take before bytes) → u ≡ state_after start (take after bytes)
+
 -- the tokenizer is not within an escape of a script's string
 abbrev pub IsNoScriptEscape : Phase → Type 0
 IsNoScriptEscape (phase.Within place.ScriptSingle) = ⊥
 IsNoScriptEscape (phase.Within place.ScriptDouble) = ⊥
 IsNoScriptEscape other = ⊤
+
+-- the tokenizer is in text, in a value in quotes, or right before or after one
+abbrev pub IsTextOrValue : Phase → Type 0
+IsTextOrValue (phase.In place.Text) = ⊤
+IsTextOrValue (phase.In place.DoubleQuoted) = ⊤
+IsTextOrValue (phase.In place.SingleQuoted) = ⊤
+IsTextOrValue phase.BeforeValue = ⊤
+IsTextOrValue phase.AfterValue = ⊤
+IsTextOrValue other = ⊥
+
+-- the tokenizer is where the name of a tag or an attribute may begin
+abbrev pub IsBeforeName : Phase → Type 0
+IsBeforeName phase.TagOpen = ⊤
+IsBeforeName phase.EndTagOpen = ⊤
+IsBeforeName phase.BeforeName = ⊤
+IsBeforeName other = ⊥
+
+-- the tokenizer is in such a name
+abbrev pub IsInName : Phase → Type 0
+IsInName phase.TagName = ⊤
+IsInName phase.EndTagName = ⊤
+IsInName phase.Name = ⊤
+IsInName other = ⊥

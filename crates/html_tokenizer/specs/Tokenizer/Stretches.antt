@@ -1,6 +1,6 @@
 -- The bytes up to which a stretch goes at which the tokenizer stays where it is.
 use Rattle.std.specs.Prelude.{⊤, ℕ, Bool, true, false, ◌||◌, ◌==◌, Option, Some, None, if◌then◌else◌, not}
-use Rattle.std.specs.Char.{is_ascii_digit, is_ascii_lowercase}
+use Rattle.std.specs.Char.{is_ascii_alphabetic, is_ascii_digit, to_ascii_lowercase}
 use Rattle.std.specs.Option.{option_or}
 use Rattle.hesc_specs.specs.Text.Ascii.{number_sign, double_quote, ampersand, single_quote, slash, less_than, greater_than, backslash, backtick}
 use Rattle.hesc_grammars.specs.Html.{is_unquoted_error}
@@ -67,9 +67,12 @@ IsSettled kind.Ordinary = ⊤
 IsSettled kind.Forbidden = ⊤
 IsSettled other = ⊥
 
--- a byte that a name of a tag or an attribute holds as it stands
-abbrev pub stands_in_name : ℕ → Bool
-stands_in_name b = is_ascii_lowercase b || is_ascii_digit b || b == dash
+-- a byte as a name of a tag or an attribute holds it, if it is a letter, a digit or `-`
+abbrev pub is_name_letter : ℕ → Bool
+is_name_letter b = is_ascii_alphabetic b || is_ascii_digit b || b == dash
+
+abbrev pub name_letter : ℕ → Option ℕ
+name_letter b = if is_name_letter b then Some (to_ascii_lowercase b) else None
 
 -- a letter with which `import` or `from` begins
 abbrev pub begins_word : ℕ → Bool

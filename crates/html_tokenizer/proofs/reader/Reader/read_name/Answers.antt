@@ -1,27 +1,53 @@
-use Rattle.std.proofs.Common.{◌≡◌, ◌+◌, arith, sym, take, ◌∙◌}
+use Rattle.std.proofs.Common.{◌≡◌, ◌+◌, ◌∷◌, [], arith, sym, take, ◌∙◌}
+use Rattle.html_tokenizer.specs.declared.states.Kind.TheVariants as kind
 use Rattle.html_tokenizer.specs.Tokenizer.Phases.{state_of, tokenizer_of}
 use Rattle.html_tokenizer.specs.Tokenizer.States.{Tokenizer, at}
-use Rattle.html_tokenizer.specs.Tokenizer.Tokenization.{state_after}
+use Rattle.html_tokenizer.specs.Tokenizer.Tokenization.{consume, state_after}
 use Rattle.html_tokenizer.proofs.Staying.{reads_longer, reads_more}
-use Rattle.html_tokenizer.proofs.WholeNames.{reads_name}
 use Rattle.html_tokenizer.proofs.reader.Reader.read_name.Goals as goal
 
-pub returns-clause-read : goal.returns-clause-read
-returns-clause-read g c =
+pub returns-in_default-clause-read : goal.returns-in_default-clause-read
+unfolding consume
+returns-in_default-clause-read g c = λ start before.
+    let self = c.args.self.now in
+    let same : self.phase ≡ c.args.phase = c.is_same.ensures c.if-not-is_same.false in
+    reads_longer start (tokenizer_of self) (tokenizer_of c.go.new.self) c.args.bytes.now c.args.done.now (omega arith) before
+    (rw same (sym (c.in_ok-go.ensures ∙ c.first_byte-first.ensures self.kind self.word.items)))
+
+pub returns-then-done-bytes-2-clause-read : goal.returns-then-done-bytes-2-clause-read
+unfolding consume
+returns-then-done-bytes-2-clause-read g c = λ start before.
     let self = c.args.self.now in
     let bytes = c.args.bytes.now in
-    let end = 1 + c.name_length-end.result in
-    let start : Tokenizer = tokenizer_of self in
-    let named : at (state_of c.args.phase (take end bytes)) self.content ≡ state_after start (take end bytes) =
-    reads_name start c.args.phase self.content bytes c.name_length-end.result c.requires.some c.requires.begun (c.name_length-end.ensures.read self.content) in
-    let ended : tokenizer_of c.go.new.self ≡ state_after start (take (end + 1) bytes) =
-    reads_longer start (at (state_of c.args.phase (take end bytes)) self.content) (tokenizer_of c.go.new.self) bytes end
-    (omega (arith, c.name_length-end.ensures.within, c.if-end-bytes.true)) named (sym (c.in_ok-go.ensures ∙ c.in-Some.ensures _)) in
-    reads_more start (tokenizer_of c.go.new.self) (tokenizer_of c.open_value.new.self) bytes (end + 1) c.open_value.result ended c.open_value.ensures.read
+    let done = c.args.done.now in
+    let content = c.first_byte-first.result.content in
+    let same : self.phase ≡ c.args.phase = c.is_same.ensures c.if-not-is_same.false in
+    let begun : Tokenizer = at (state_of c.in-Some.name (c.in-Some.letter ∷ [])) content in
+    let first : begun ≡ state_after start (take (done + 1) bytes) =
+    reads_longer start (tokenizer_of self) begun bytes done (omega arith) before
+    (rw same (sym (sym (c.in-Some.ensures.begins self.word.items) ∙ c.first_byte-first.ensures self.kind self.word.items))) in
+    let named : Tokenizer = at (state_of c.in-Some.name (take (1 + c.read_letters-count.result) c.read_letters-count.new.letters)) content in
+    let read : named ≡ state_after start (take (done + 1 + c.read_letters-count.result) bytes) =
+    reads_more start begun named bytes (done + 1) c.read_letters-count.result first
+    (sym (c.read_letters-count.ensures.read content [])) in
+    c.in_ok-go_from.ensures ∙ (c.goes.ensures _ ∙ read)
 
-pub returns-2-clause-read : goal.returns-2-clause-read
-returns-2-clause-read g c =
-    rw (c.requires.kind, c.in_ok-extend_from_slice.ensures.items, c.clear.ensures.items)
-    (rw c.requires.kind at
-    (reads_name (tokenizer_of c.args.self.now) c.args.phase c.args.self.now.content c.args.bytes.now c.name_length-end.result
-    c.requires.some c.requires.begun (c.name_length-end.ensures.read c.args.self.now.content)))
+pub returns-clause-read : goal.returns-clause-read
+unfolding consume
+returns-clause-read g c = λ start before.
+    let self = c.args.self.now in
+    let bytes = c.args.bytes.now in
+    let done = c.args.done.now in
+    let content = c.first_byte-first.result.content in
+    let same : self.phase ≡ c.args.phase = c.is_same.ensures c.if-not-is_same.false in
+    let begun : Tokenizer = at (state_of c.in-Some.name (c.in-Some.letter ∷ [])) content in
+    let first : begun ≡ state_after start (take (done + 1) bytes) =
+    reads_longer start (tokenizer_of self) begun bytes done (omega arith) before
+    (rw same (sym (sym (c.in-Some.ensures.begins self.word.items) ∙ c.first_byte-first.ensures self.kind self.word.items))) in
+    let named : Tokenizer = at (state_of c.in-Some.name (take (1 + c.read_letters-count.result) c.read_letters-count.new.letters)) content in
+    let read : named ≡ state_after start (take (done + 1 + c.read_letters-count.result) bytes) =
+    reads_more start begun named bytes (done + 1) c.read_letters-count.result first
+    (sym (c.read_letters-count.ensures.read content [])) in
+    reads_longer start named (tokenizer_of c.go_from-2.new.self) bytes (done + 1 + c.read_letters-count.result)
+    (omega (arith, c.read_letters-count.ensures.within)) read
+    (sym (c.in_ok-go_from-2.ensures ∙ c.name_byte-next.ensures kind.Ordinary))

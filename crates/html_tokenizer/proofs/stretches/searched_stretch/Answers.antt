@@ -2,7 +2,7 @@ use Rattle.std.proofs.Common.{refl}
 use Rattle.hesc_specs.specs.Text.Ascii.{ampersand, double_quote, less_than, single_quote}
 use Rattle.html_tokenizer.specs.declared.slot_place.SlotPlace.TheVariants.{DoubleQuoted, SingleQuoted}
 use Rattle.html_tokenizer.proofs.Staying.{stays_up_to_two, stays_in_text, stays_in_quotes}
-use Rattle.html_tokenizer.proofs.stretches.value_stretch.Goals as goal
+use Rattle.html_tokenizer.proofs.stretches.searched_stretch.Goals as goal
 
 pub returns-in-Text-2-clause-stays : goal.returns-in-Text-2-clause-stays
 returns-in-Text-2-clause-stays c = λ content attribute settled.

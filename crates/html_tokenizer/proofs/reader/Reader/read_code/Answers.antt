@@ -1,0 +1,15 @@
+use Rattle.std.proofs.Common.{◌≡◌, ◌+◌, rules, sym, take}
+use Rattle.html_tokenizer.specs.Tokenizer.Phases.{tokenizer_of}
+use Rattle.html_tokenizer.specs.Tokenizer.States.{InCode, Tokenizer, at}
+use Rattle.html_tokenizer.specs.Tokenizer.Tokenization.{state_after}
+use Rattle.html_tokenizer.proofs.Staying.{reads_more}
+use Rattle.html_tokenizer.proofs.reader.Reader.read_code.Goals as goal
+
+pub returns-then-eq-clause-read : goal.returns-then-eq-clause-read
+returns-then-eq-clause-read g c = λ start before.
+    let self = c.args.self.now in
+    let reached : Tokenizer = at (InCode c.script_words-count.result.1) self.content in
+    let words : reached ≡ state_after start (take (c.args.done.now + c.script_words-count.result.0) c.args.bytes.now) =
+    reads_more start (tokenizer_of self) reached c.args.bytes.now c.args.done.now c.script_words-count.result.0 before
+    (rw (c.requires.phase, c.requires.kind) (sym (c.script_words-count.ensures.read self.content (search rules)))) in
+    c.in_ok-read_on.ensures.read start (rw c.requires.kind words)
