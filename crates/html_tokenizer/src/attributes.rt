@@ -2,7 +2,6 @@
 ghost use Rattle.std.specs.Prelude.{◌≡◌, ℕ, List, [], ◌==◌, if◌then◌else◌, map, true};
 ghost use Rattle.std.specs.Char.{to_ascii_lowercase};
 ghost use Rattle.hesc_specs.specs.Text.Ascii.{slash};
-ghost use Rattle.html_tokenizer.specs.Tokenizer.CodeBytes.{ends_code};
 ghost use Rattle.html_tokenizer.specs.Tokenizer.Names.{
   attribute_of,
   around,
@@ -40,6 +39,7 @@ ghost use Rattle.html_tokenizer.specs.Tokenizer.Names.{
   with_element,
 };
 ghost use Rattle.html_tokenizer.specs.Tokenizer.Phases.{attribute_in, moved, word_after};
+ghost use Rattle.html_tokenizer.specs.Tokenizer.Tags.{is_appropriate};
 ghost use Rattle.html_tokenizer.specs.declared.states.Kind.TheVariants as kind;
 
 use crate::encodings::{is_utf_8, names_no_other};
@@ -309,11 +309,13 @@ pub(crate) fn ends_content(element: OpenElement, name: &[u8]) -> bool
     }
 }
 
-/// Whether an end tag of this name in any case ends the code.
-pub(crate) fn ends_code(element: OpenElement, name: &[u8]) -> bool
-    ensures { result ≡ ends_code element (map to_ascii_lowercase name.now) }
+/// Whether an end tag of this name in any case ends the code or the text.
+pub(crate) fn is_appropriate(element: OpenElement, name: &[u8]) -> bool
+    ensures { result ≡ is_appropriate element (map to_ascii_lowercase name.now) }
 {
     match element {
+        OpenElement::Title => name.eq_ignore_ascii_case(b"title"),
+        OpenElement::Textarea => name.eq_ignore_ascii_case(b"textarea"),
         OpenElement::Script => name.eq_ignore_ascii_case(b"script"),
         OpenElement::Style => name.eq_ignore_ascii_case(b"style"),
         OpenElement::Frame => name.eq_ignore_ascii_case(b"iframe"),

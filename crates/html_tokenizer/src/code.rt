@@ -34,13 +34,12 @@ ghost use Rattle.html_tokenizer.specs.Tokenizer.CodeBytes.{
 ghost use Rattle.html_tokenizer.specs.Tokenizer.Phases.{moved};
 ghost use Rattle.html_tokenizer.specs.Tokenizer.States.{Forbidden, In, at_value};
 
-use crate::attributes::{ends_code, with_element};
 use crate::flags::is_name_byte;
 use crate::slot_place::SlotPlace;
 use crate::states::{
     Code, Content, Kind, Move, OpenElement, Phase, Word, goes, in_value, refuses, to,
 };
-use crate::tags::{end_tag_byte, ends_name, is_space};
+use crate::tags::{ends_name, held_end_tag_byte, is_space};
 use crate::words::{is_blank, longer};
 
 #[inline(always)]
@@ -434,13 +433,9 @@ pub(crate) fn code_less_byte(code: Code, content: Content, byte: u8) -> Move
 pub(crate) fn code_end_tag_byte(code: Code, content: Content, word: &[u8], byte: u8) -> Move
     ensures { moved result word.now ≡ (code_end_tag_byte code content word.now byte).next }
 {
-    if ends_name(byte) && ends_code(content.element, word) {
-        end_tag_byte(with_element(content, OpenElement::Normal), byte)
-    } else if byte.is_ascii_alphabetic() {
-        goes(Phase::CodeEndTag(code), content, Word::Add(byte))
-    } else {
-        in_code_byte(code, content, byte)
-    }
+    let longer = goes(Phase::CodeEndTag(code), content, Word::Add(byte));
+    let again = in_code_byte(code, content, byte);
+    held_end_tag_byte(content, word, longer, again, byte)
 }
 
 /// In a word that begins or ends what hides an end tag.

@@ -1,8 +1,8 @@
 //! What the tokenizer does at a byte.
-ghost use Rattle.std.specs.Prelude.{◌≡◌, ℕ, List};
+ghost use Rattle.std.specs.Prelude.{◌≡◌};
 ghost use Rattle.html_tokenizer.specs.Tokenizer.Names.{reference_read};
 ghost use Rattle.html_tokenizer.specs.Tokenizer.Phases.{IsBeforeName, IsInName, IsNoScriptEscape, IsTextOrValue, attribute_in, moved, state_of};
-ghost use Rattle.html_tokenizer.specs.Tokenizer.Tokenization.{byte_in, value_byte, within_byte};
+ghost use Rattle.html_tokenizer.specs.Tokenizer.Tokenization.{byte_in, value_byte, value_end_tag_byte, within_byte};
 ghost use Rattle.html_tokenizer.specs.declared.states.Kind.{Kind};
 ghost use Rattle.html_tokenizer.specs.declared.states.Phase.TheVariants as phase;
 
@@ -24,9 +24,13 @@ use crate::strings::{
 };
 use crate::tags::{
     after_name_byte, after_value_byte, attribute_name_byte, before_name_byte, end_tag_byte,
-    end_tag_name_byte, end_tag_open_byte, self_closing_byte, tag_name_byte, tag_open_byte,
+    end_tag_name_byte, end_tag_open_byte, held_end_tag_byte, is_rcdata, self_closing_byte,
+    tag_name_byte, tag_open_byte,
 };
-use crate::values::{before_value_byte, quoted_byte, text_byte, unquoted_value_byte};
+use crate::values::{
+    before_value_byte, quoted_byte, rcdata_end_tag_open_byte, rcdata_less_byte, text_byte,
+    unquoted_value_byte,
+};
 
 #[inline(always)]
 fn value_byte(place: SlotPlace, content: Content, kind: Kind, word: &[u8], byte: u8) -> Move
@@ -71,6 +75,18 @@ fn within_byte(place: SlotPlace, content: Content, kind: Kind, word: &[u8], byte
     }
 }
 
+// After `</` in a text or a string, where the word has the letters so far.
+fn value_end_tag_byte(place: SlotPlace, content: Content, kind: Kind, word: &[u8], byte: u8) -> Move
+    ensures { moved result word.now
+        ≡ (value_end_tag_byte place content (reference_read (attribute_in kind word.now))
+        word.now byte).next }
+{
+    let kind = reference_read(kind);
+    let longer = in_value(Phase::ValueEndTag(place), content, kind, Word::Add(byte));
+    let again = value_byte(place, content, kind, word, byte);
+    held_end_tag_byte(content, word, longer, again, byte)
+}
+
 /// What the tokenizer does in text, in a value in quotes, and right before and after one.
 #[inline(always)]
 pub(crate) fn text_or_value_byte(
@@ -99,14 +115,18 @@ pub(crate) fn text_or_value_byte(
 
 /// What the tokenizer does where the name of a tag or an attribute may begin.
 #[inline]
-pub(crate) fn first_byte(phase: Phase, content: Content, byte: u8) -> Move
+pub(crate) fn first_byte(phase: Phase, content: Content, word: &[u8], byte: u8) -> Move
     requires { IsBeforeName phase }
-    ensures { (kind : Kind) (word : List ℕ) → moved result word
-        ≡ (byte_in (state_of phase word) content (attribute_in kind word) byte).next }
+    ensures { (kind : Kind) → moved result word.now
+        ≡ (byte_in (state_of phase word.now) content (attribute_in kind word.now) byte).next }
 {
     match phase {
         Phase::TagOpen if byte == b'/' => to(Phase::EndTagOpen, content),
+        Phase::TagOpen if is_rcdata(content.element) => rcdata_less_byte(content, word, byte),
         Phase::TagOpen => tag_open_byte(content, byte),
+        Phase::EndTagOpen if is_rcdata(content.element) => {
+            rcdata_end_tag_open_byte(content, word, byte)
+        }
         Phase::EndTagOpen => end_tag_open_byte(content, byte),
         _ => before_name_byte(content, byte),
     }
@@ -137,14 +157,17 @@ pub(crate) fn byte_in(phase: Phase, content: Content, kind: Kind, word: &[u8], b
         Phase::In(SlotPlace::Text | SlotPlace::DoubleQuoted | SlotPlace::SingleQuoted)
         | Phase::BeforeValue
         | Phase::AfterValue => text_or_value_byte(phase, content, kind, word, byte),
-        Phase::TagOpen | Phase::EndTagOpen | Phase::BeforeName => first_byte(phase, content, byte),
+        Phase::TagOpen | Phase::EndTagOpen | Phase::BeforeName => first_byte(
+            phase, content, word, byte,
+        ),
         Phase::TagName | Phase::EndTagName | Phase::Name => name_byte(phase, content, word, byte),
         Phase::In(place) => value_byte(place, content, kind, word, byte),
         Phase::Within(place) => within_byte(place, content, kind, word, byte),
         Phase::StringLess(place) => {
             let again = value_byte(place, content, kind, word, byte);
-            string_less_byte(content, again, byte)
+            string_less_byte(place, content, kind, again, byte)
         }
+        Phase::ValueEndTag(place) => value_end_tag_byte(place, content, kind, word, byte),
         Phase::AfterEndTagName => end_tag_byte(content, byte),
         Phase::AfterName => after_name_byte(content, word, byte),
         Phase::SelfClosing => self_closing_byte(content, byte),

@@ -20,8 +20,8 @@ use crate::states::Content;
 /// place's reading ends it stays in the value, and it reads the same value.
 ///
 /// In a value without quotes a carriage return, which the grammar keeps, is a line feed, which ends
-/// the value. A string it may give up, but only one in which `</` or `<!` stands, or in a style a `<`
-/// after a `\`; what follows takes no slot.
+/// the value. A string it may give up, but only at a `<!` of a script or a `\<` of a style, behind which
+/// no slot stands; and the end tag of its element ends it, and the code.
 ///
 /// For instance both read `a&lt;b` before `<`, in text, as `a<b`.
 pub fn agreement_law(content: Content, bytes: &[u8])

@@ -206,7 +206,7 @@ impl<A: Allocator> Reader<A> {
         if !is_same(self.phase, phase) || *done == bytes.len() {
             return Ok(());
         }
-        let first = first_byte(phase, self.content, bytes[*done]);
+        let first = first_byte(phase, self.content, &self.word, bytes[*done]);
         *done += 1;
         let Some((name, letter)) = begun_name(first) else {
             self.go(first)?;

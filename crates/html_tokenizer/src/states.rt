@@ -168,6 +168,7 @@ pub(crate) enum Phase {
     EndTagOpen,
     TagName,
     EndTagName,
+    ValueEndTag(SlotPlace),
     AfterEndTagName,
     BeforeName,
     Name,

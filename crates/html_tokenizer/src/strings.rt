@@ -66,11 +66,21 @@ pub(crate) fn is_newline_or_nul(byte: u8) -> bool
 
 /// After a `<` of a string, where the byte alone would lead on so.
 #[inline(always)]
-pub(crate) fn string_less_byte(content: Content, again: Move, byte: u8) -> Move
+pub(crate) fn string_less_byte(
+    place: SlotPlace,
+    content: Content,
+    kind: Kind,
+    again: Move,
+    byte: u8,
+) -> Move
     ensures { (word : List ℕ) (t : Transition) → moved again word ≡ t.next
-        → moved result word ≡ (string_less_byte content t byte).next }
+        → moved result word
+        ≡ (string_less_byte place content (attribute_in kind word) t byte).next }
 {
-    if (byte == b'/') | ((byte == b'!') & is_script(content.element)) {
+    if byte == b'/' {
+        let phase = Phase::ValueEndTag(place);
+        in_value(phase, content, reference_read(kind), Word::New)
+    } else if (byte == b'!') & is_script(content.element) {
         less_byte(Code::Opaque, content, byte)
     } else {
         again

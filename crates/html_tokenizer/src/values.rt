@@ -7,6 +7,8 @@ ghost use Rattle.html_tokenizer.specs.Tokenizer.Values.{
   begins_character,
   ended,
   quoted_byte,
+  rcdata_end_tag_open_byte,
+  rcdata_less_byte,
   text_byte,
   unquoted_byte,
   unquoted_value_byte,
@@ -14,7 +16,7 @@ ghost use Rattle.html_tokenizer.specs.Tokenizer.Values.{
 
 use crate::attributes::{content_after, reference_read, value_byte_read};
 use crate::slot_place::SlotPlace;
-use crate::states::{Content, Kind, Move, Phase, Word, in_value, refuses, to};
+use crate::states::{Content, Kind, Move, Phase, Word, goes, in_value, refuses, to};
 use crate::tags::{is_space, opened};
 
 /// A byte of a value as it stands.
@@ -51,6 +53,26 @@ pub(crate) fn text_byte(content: Content, kind: Kind, word: &[u8], byte: u8) -> 
         b'<' => to(Phase::TagOpen, content),
         b'&' => begins_character(SlotPlace::Text, content, kind),
         _ => keeps(SlotPlace::Text, content, kind, word, byte),
+    }
+}
+
+/// After a `<` of a `title` or `textarea`, but for a `/`.
+#[inline(always)]
+pub(crate) fn rcdata_less_byte(content: Content, word: &[u8], byte: u8) -> Move
+    ensures { moved result word.now ≡ (rcdata_less_byte content byte).next }
+{
+    text_byte(content, Kind::Ordinary, word, byte)
+}
+
+/// After `</` of a `title` or `textarea`.
+pub(crate) fn rcdata_end_tag_open_byte(content: Content, word: &[u8], byte: u8) -> Move
+    ensures { moved result word.now ≡ (rcdata_end_tag_open_byte content byte).next }
+{
+    if byte.is_ascii_alphabetic() {
+        let letter = Word::Begin(byte);
+        goes(Phase::ValueEndTag(SlotPlace::Text), content, letter)
+    } else {
+        text_byte(content, Kind::Ordinary, word, byte)
     }
 }
 

@@ -16,7 +16,7 @@ static SCRIPTS: [Row; 36] = [
     ("<script>'\\u{61}'+'", "'</script>", Some(Forbidden(1))),
     ("<script>'\\x4g'+'", "'</script>", Some(Forbidden(1))),
     ("<script>'\\ud800'+'", "'</script>", Some(Forbidden(1))),
-    ("<script>'</b>'+'", "'</script>", Some(Forbidden(1))),
+    ("<script>'</b>'+'", "'</script>", None),
     ("<script>'<!a'+'", "'</script>", Some(Forbidden(1))),
     ("<script>'<b>'+'", "'</script>", None),
     ("<script>/* </b> */f('", "')</script>", None),
@@ -59,7 +59,7 @@ static STYLES: [Row; 17] = [
     ("<style>@media a{b{c:'", "'}}</style>", None),
     ("<style>a{b:url(x'y);c:'", "'}</style>", Some(Forbidden(1))),
     ("<style>a{b:'\n';c:'", "'}</style>", Some(Forbidden(1))),
-    ("<style>a{b:'</b>';c:'", "'}</style>", Some(Forbidden(1))),
+    ("<style>a{b:'</b>';c:'", "'}</style>", None),
     ("<style>a{b:'\\<';c:'", "'}</style>", Some(Forbidden(1))),
     ("<style>a{b:'<!--';c:'", "'}</style>", None),
     ("<style><!-- a{b:'", "'} --></style>", None),
@@ -75,6 +75,59 @@ static STYLES: [Row; 17] = [
 #[test]
 fn styles(rt: HostRuntime) {
     hold(&rt, rt.alloc(), &STYLES);
+}
+
+// 13.2.5.12 to 13.2.5.17: in a string `</` is a part of it, unless the end tag of its element follows.
+static STRINGS: [Row; 40] = [
+    ("<script>f(\"</b>\", \"", "\")</script>", None),
+    ("<script>f('</b> ", "')</script>", None),
+    ("<script>f('</b>');</script><p>", "</p>", None),
+    ("<script>f('<</b", " c', '')</script>", Some(NoPlace(1))),
+    ("<script>f('</scripts>", "')</script>", None),
+    ("<script>f('</ script>", "')</script>", None),
+    ("<script>f('</SCRIPT-", "')</script>", None),
+    ("<script>f('</script'+'", "')</script>", None),
+    ("<script>f('</script\\n", "')</script>", None),
+    ("<script>f('</script\\", "n')</script>", Some(NoPlace(1))),
+    ("<script>f('</</b>", "')</script>", None),
+    ("<script>f('</style>", "')</script>", None),
+    ("<script>f('</1", "')</script>", None),
+    ("<script>f('</script>", "", None),
+    ("<script>f('a</</sCRipt\t>", "", None),
+    ("<script>f('</script\n>", "", None),
+    ("<script>f(\"</script >", "<b>", None),
+    ("<script>f('</script/>", "", Some(Malformed(0))),
+    ("<script>f('</script a>", "", Some(Malformed(0))),
+    ("<script>f('</", "')</script>", Some(NoPlace(1))),
+    ("<script>f('</b", "')</script>", Some(NoPlace(1))),
+    ("<script>f('</script", "')</script>", Some(NoPlace(1))),
+    ("<script>f('</b\n'+'", "'</script>", Some(Forbidden(1))),
+    ("<script>f('</<!a", "')</script>", Some(Forbidden(1))),
+    (
+        "<script>f('</b'); a /b/; f('",
+        "')</script>",
+        Some(Forbidden(1)),
+    ),
+    ("<script>import '</b>", "'</script>", Some(Forbidden(1))),
+    ("", "<script>f('</script", Some(Unfinished)),
+    ("", "<script>f('</b>')", Some(Unfinished)),
+    ("<style>a{b:\"</b>\";c:\"", "\"}</style>", None),
+    ("<style>a{b:'</b>", "'}</style>", None),
+    ("<style>a{b:'</styles>", "'}</style>", None),
+    ("<style>a{b:'</script>", "'}</style>", None),
+    ("<style>a{b:'</b\\26 ", "'}</style>", None),
+    ("<style>a{b:'</sTYLE >", "", None),
+    ("<style>a{b:'</style/>", "", Some(Malformed(0))),
+    ("<style>a{b:'</style", "'}</style>", Some(NoPlace(1))),
+    ("<style>a{b:'</", "style>'}</style>", Some(NoPlace(1))),
+    ("<style>a{b:'</b\n'c:'", "'}</style>", Some(Forbidden(1))),
+    ("<style>a{b:'</\\<';c:'", "'}</style>", Some(Forbidden(1))),
+    ("<style>a{b:url('</b>", "')}</style>", Some(Forbidden(1))),
+];
+
+#[test]
+fn strings(rt: HostRuntime) {
+    hold(&rt, rt.alloc(), &STRINGS);
 }
 
 static FRAMES: [Row; 7] = [

@@ -2,7 +2,7 @@
 //! refused there. What is expected comes from the HTML Standard, never from the code.
 use crate::templates::fault;
 use html_template::TemplateFault;
-use html_template::TemplateFault::{Forbidden, Malformed, Unfinished};
+use html_template::TemplateFault::{Forbidden, Malformed, NoPlace, Unfinished};
 use std::alloc::{AllocError, Global};
 use std::process::Abort;
 use std::test::Fail;
@@ -13,6 +13,60 @@ fn hold(rt: &impl Abort, alloc: Global, rows: &[Row]) {
     for &(before, following, wanted) in rows {
         assert!(rt; fault(alloc, before, following) == wanted, "{before}");
     }
+}
+
+// 13.2.5.2 RCDATA state, 13.2.5.9 to 13.2.5.11: what begins no appropriate end tag is text.
+static TEXTS: [Row; 41] = [
+    ("<title>a < b</title><p>", "</p>", None),
+    ("<title>a < b ", "</title>", None),
+    ("<title>a<<b ", "<</title>", None),
+    ("<title><b>", "</b></title>", None),
+    ("<textarea><b>", "</b></textarea>", None),
+    ("<textarea></b></textarea>", "", None),
+    ("<title></titles></title>", "", None),
+    ("<title></titles>", "</title>", None),
+    ("<textarea></TEXT area>", "</TextArea\n>", None),
+    ("<title></ title></title>", "", None),
+    ("<title></</title>", "", None),
+    ("<title></t</title>", "", None),
+    ("<title><</tItLe\t>", "", None),
+    ("<title></1", "</title>", None),
+    ("<title></title1></title>", "", None),
+    ("<title></title-></title>", "", None),
+    ("<title><!-- </title>", "", None),
+    ("<title><!-- ", "--></title>", None),
+    ("<title><?xml ", "?></title>", None),
+    ("<title><&lt;", "</title>", None),
+    ("<title></t&amp;", "</title>", None),
+    ("<title></textarea></title>", "", None),
+    ("<textarea></title></textarea>", "", None),
+    ("<title><script></title>", "", None),
+    ("<title><script></title><script>f('", "')</script>", None),
+    ("<title><template></title>", "", None),
+    (
+        "<template><textarea></template></textarea>",
+        "</template>",
+        None,
+    ),
+    ("<title><", "</title>", Some(NoPlace(1))),
+    ("<title><", "b></title>", Some(NoPlace(1))),
+    ("<title></", "title>", Some(NoPlace(1))),
+    ("<title></titl", "e>", Some(NoPlace(1))),
+    ("<title></title", ">", Some(NoPlace(1))),
+    ("<textarea></b", "></textarea>", Some(NoPlace(1))),
+    ("<title></titles>", "", Some(Unfinished)),
+    ("<textarea></title>", "", Some(Unfinished)),
+    ("", "<title><", Some(Unfinished)),
+    ("", "<title></title", Some(Unfinished)),
+    ("<title></title/>", "", Some(Malformed(0))),
+    ("<title></title a>", "", Some(Malformed(0))),
+    ("<title></titl&nix;</title>", "", Some(Malformed(0))),
+    ("<title>a < b</title>a < b", "", Some(Malformed(0))),
+];
+
+#[test]
+fn texts(rt: HostRuntime) {
+    hold(&rt, rt.alloc(), &TEXTS);
 }
 
 // After an end a `title` has text again, and a script has code.

@@ -9,7 +9,7 @@ use std::test::Fail;
 
 // A head, a part that stands there so often that it makes a megabyte, and a tail: together a page that
 // may end.
-static MARKUP: [(&str, &str, &str); 32] = [
+static MARKUP: [(&str, &str, &str); 39] = [
     ("", "a.", ""),
     ("", "/", ""),
     ("", "\u{2026}", ""),
@@ -21,6 +21,10 @@ static MARKUP: [(&str, &str, &str); 32] = [
     ("<!--", "- ", "-->"),
     ("<!doctype html public \"", "a", "\">"),
     ("<!doctype html system '", "<", "'>"),
+    ("<title>", "<", "</title>"),
+    ("<title></", "a", "></title>"),
+    ("<textarea>", "</textare", "</textarea>"),
+    ("<textarea>", "<b></b>", "</textarea>"),
     ("<p", "q", ">"),
     ("<p ", "a", "=b>"),
     ("<p a=\"", "&lt;", "\">"),
@@ -29,6 +33,9 @@ static MARKUP: [(&str, &str, &str); 32] = [
     ("<script>/*", "*", "*/</script>"),
     ("<script>//", "<", "\n</script>"),
     ("<script>'", "\\\\", "'</script>"),
+    ("<script>'", "</b>", "'</script>"),
+    ("<script>'</", "a", "'</script>"),
+    ("<style>'", "</styl", "'</style>"),
     ("<style>", "u", "</style>"),
     ("<script>`", "a", "</script>"),
     ("<script>`", "</script", "</script>"),
@@ -46,12 +53,13 @@ static MARKUP: [(&str, &str, &str); 32] = [
 
 // Short stretches, each up to a byte that is near, where another byte that could end it comes at the end
 // alone: a search that went on to that one, and began anew for each stretch, would not end.
-static SHORT_STRETCHES: [(&str, &str, &str); 16] = [
+static SHORT_STRETCHES: [(&str, &str, &str); 18] = [
     ("<script>", "a/**/", "</script>"),
     ("<script>", "'a'+", "''</script>"),
     ("<script>", "\"a\"+", "''</script>"),
     ("<script>/*", "a*", "*/</script>"),
     ("<script>'", "a\\n", "'</script>"),
+    ("<script>'", "a</b>", "'</script>"),
     ("<script>", "a//b\n", "</script>"),
     ("<script type=\"text/plain\">", "a<", "</script>"),
     ("<style>", "a/**/", "</style>"),
@@ -60,6 +68,7 @@ static SHORT_STRETCHES: [(&str, &str, &str); 16] = [
     ("<!--", "a-", "-->"),
     ("", "a&lt;", ""),
     ("", "a<b>", ""),
+    ("<title>", "a<b>", "</title>"),
     ("<p a=\"", "b&lt;", "\">"),
     ("<p a='", "b&lt;", "'>"),
     ("<p a=", "b&lt;", ">"),

@@ -272,7 +272,7 @@ fn a_fault_of_many_names_is_told_before_memory_is_asked_for(rt: HostRuntime) -> 
 
 // Markup, and how many bytes of it a reader holds at once: the longest name, beginning of an address,
 // type of a script, reference or escape.
-static HELD: [(Long, usize); 13] = [
+static HELD: [(Long, usize); 15] = [
     (("", "a.", MILLION / 2, ""), 0),
     (("<!--", "- ", MILLION / 2, "-->"), 0),
     (("<script>", "a/**/", MILLION / 5, "</script>"), 6),
@@ -286,6 +286,8 @@ static HELD: [(Long, usize); 13] = [
     (("<", "p", MILLION, ">"), MILLION),
     (("&#", "0", MILLION, "65;"), MILLION + 3),
     (("&", "a", MILLION, " "), MILLION),
+    (("<title></", "a", MILLION, "></title>"), MILLION),
+    (("<script>'</", "a", MILLION, "'</script>"), MILLION),
 ];
 
 // The room is doubled when it is full, so that all requests together are for at most four times of what

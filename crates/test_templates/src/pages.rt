@@ -10,17 +10,17 @@ pub const PLACES: usize = 16;
 
 /// The markup before each slot, and the place that the slot stands in.
 pub static SLOTS: [(&str, Place); PLACES] = [
-    ("<!DOCTYPE html><title>", Place::Text),
-    ("</title><p>", Place::Text),
+    ("<!DOCTYPE html><title>a < b</b>", Place::Text),
+    ("</title><textarea></title> < </textarea><p>", Place::Text),
     ("</p><p title=\"", Place::DoubleAttribute),
     ("\"><p title='", Place::SingleAttribute),
     (
         "'><p class=a title=",
         Place::UnquotedAttribute(End::Greater),
     ),
-    ("><script>f('", Place::ScriptSingle),
-    ("', \"", Place::ScriptDouble),
-    ("\");</script><style>p { x: '", Place::StyleSingle),
+    ("><script>f('</b>", Place::ScriptSingle),
+    ("', \"</SCRIPTS>", Place::ScriptDouble),
+    ("\");</script><style>p { x: '</script>", Place::StyleSingle),
     ("'; y: \"", Place::StyleDouble),
     ("\" }</style><svg viewBox=\"", Place::DoubleAttribute),
     ("\"><title>", Place::Text),
@@ -108,13 +108,13 @@ pub fn stay(alloc: Global, template: &Template, texts: &[&str]) -> Result<bool, 
 }
 
 const PLAIN: &str =
-    "<!DOCTYPE html><title>a</title><p>a</p><p title=\"a\"><p title='a'><p class=a title=a><script>f('a', \"a\");</script><style>p { x: 'a'; y: \"a\" }</style><svg viewBox=\"a\"><title>a</title><use href='#a'/><text>a</text></svg><math><mi>a</mi></math><select><option value=\"a\">a</option></select>";
+    "<!DOCTYPE html><title>a < b</b>a</title><textarea></title> < </textarea><p>a</p><p title=\"a\"><p title='a'><p class=a title=a><script>f('</b>a', \"</SCRIPTS>a\");</script><style>p { x: '</script>a'; y: \"a\" }</style><svg viewBox=\"a\"><title>a</title><use href='#a'/><text>a</text></svg><math><mi>a</mi></math><select><option value=\"a\">a</option></select>";
 
 #[test]
 fn a_page_is_told_from_others(rt: HostRuntime) -> Result<(), Fail> {
     let texts = ["a"; PLACES];
     assert!(rt; holds(rt.alloc(), PLAIN, &texts)?);
-    assert!(rt; !holds(rt.alloc(), "<!DOCTYPE html><title>a", &texts)?);
+    assert!(rt; !holds(rt.alloc(), "<!DOCTYPE html><title>a < b</b>a", &texts)?);
     for wrong in 0..PLACES {
         let mut others = texts;
         put(&mut others, wrong, "b");

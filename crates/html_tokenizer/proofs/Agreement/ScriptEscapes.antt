@@ -162,8 +162,13 @@ unfolding consume script_string_step
 single_place content = record {
   string = (script_single_reads content).string;
   less = λ b. refl;
+  end_tag = λ word b. refl;
   one = λ b. refl;
+  no_less = refl;
+  no_slash = refl;
   quote = refl;
+  no_letter = refl;
+  no_end = refl;
   closes = λ bytes. refl;
   others = others (script_single_reads content);
   escapes = escapes (script_single_reads content);
@@ -174,8 +179,13 @@ unfolding consume script_string_step
 double_place content = record {
   string = (script_double_reads content).string;
   less = λ b. refl;
+  end_tag = λ word b. refl;
   one = λ b. refl;
+  no_less = refl;
+  no_slash = refl;
   quote = refl;
+  no_letter = refl;
+  no_end = refl;
   closes = λ bytes. refl;
   others = others (script_double_reads content);
   escapes = escapes (script_double_reads content);

@@ -17,7 +17,7 @@ use Rattle.hesc_grammars.proofs.Takes.{Takes, reads_character, takes_two}
 use Rattle.html_tokenizer.specs.declared.slot_place.SlotPlace.{SlotPlace}
 use Rattle.html_tokenizer.specs.declared.slot_place.SlotPlace.TheVariants as slot
 use Rattle.html_tokenizer.specs.declared.states.Content.{Content}
-use Rattle.html_tokenizer.specs.Agreement.{AgreesInString, GivesUp, is_given_up}
+use Rattle.html_tokenizer.specs.Agreement.{AgreesInString, LeavesEarly, is_given_up}
 use Rattle.html_tokenizer.specs.Tokenizer.Actions.{read_byte}
 use Rattle.html_tokenizer.specs.Tokenizer.CodeStrings.{gives_escape_up, is_escape_space}
 use Rattle.html_tokenizer.specs.Tokenizer.States.{Tokenizer, In, Within, at}
@@ -103,7 +103,7 @@ module _ {p : SlotPlace} {mark : ℕ} {quotes : Quotes} {content : Content} (rea
       taken_escape (b ∷ []) (b ∷ []) bytes found (takes_one b no_digit no_newline)
       (begins_escape reads.string (passes_one (read_byte p b ∷ []) (reads.within [] b ∙ rw (no_digit, no_newline, no_less) refl))) is
 
-  less_gives_up : (front : List ℕ) → GivesUp p content (backslash ∷ less_than ∷ front)
+  less_gives_up : (front : List ℕ) → LeavesEarly p content (backslash ∷ less_than ∷ front)
   less_gives_up front =
       let begins : consume (at (In p) content) backslash ≡ goes (Within p []) content [] = reads.string.bytes backslash ∙ rw reads.string.other refl in
       let up : consume (at (Within p []) content) less_than ≡ gives_escape_up content [] less_than = reads.within [] less_than ∙ refl in
@@ -114,8 +114,7 @@ module _ {p : SlotPlace} {mark : ℕ} {quotes : Quotes} {content : Content} (rea
         word = backslash ∷ less_than ∷ [];
         following = front;
         parts = refl;
-        markup = refl;
-        after = ap (λ (x : Tokenizer). is_given_up x.state) first;
+        leaves = inl (record { markup = refl; after = ap (λ (x : Tokenizer). is_given_up x.state) first });
       }
 
   less : (bytes : List ℕ) → Reads p content mark (less_than ∷ bytes)
@@ -269,8 +268,13 @@ unfolding consume style_string_step
 single_place content = record {
   string = (style_single_reads content).string;
   less = λ b. refl;
+  end_tag = λ word b. refl;
   one = λ b. refl;
+  no_less = refl;
+  no_slash = refl;
   quote = refl;
+  no_letter = refl;
+  no_end = refl;
   closes = λ bytes. refl;
   others = others (style_single_reads content);
   escapes = escapes (style_single_reads content);
@@ -281,8 +285,13 @@ unfolding consume style_string_step
 double_place content = record {
   string = (style_double_reads content).string;
   less = λ b. refl;
+  end_tag = λ word b. refl;
   one = λ b. refl;
+  no_less = refl;
+  no_slash = refl;
   quote = refl;
+  no_letter = refl;
+  no_end = refl;
   closes = λ bytes. refl;
   others = others (style_double_reads content);
   escapes = escapes (style_double_reads content);

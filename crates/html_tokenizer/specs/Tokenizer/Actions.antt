@@ -1,5 +1,5 @@
 -- What the tokenizer does at a byte: the standard's own actions, and those at the code of scripts and styles.
-use Rattle.std.specs.Prelude.{ℕ}
+use Rattle.std.specs.Prelude.{ℕ, List, [], ◌∷◌}
 use Rattle.html_tokenizer.specs.declared.slot_place.SlotPlace.{SlotPlace}
 use Rattle.html_tokenizer.specs.declared.slot_place.SlotPlace.TheVariants.{Text, DoubleQuoted, SingleQuoted, Unquoted, ScriptSingle, ScriptDouble, StyleSingle, StyleDouble}
 
@@ -45,3 +45,11 @@ read_byte ScriptSingle = StringByte
 read_byte ScriptDouble = StringByte
 read_byte StyleSingle = StringByte
 read_byte StyleDouble = StringByte
+
+-- what is done where the end tag of its element ends a text or a string
+abbrev pub value_end : SlotPlace → List Action
+value_end ScriptSingle = StringEnd ∷ []
+value_end ScriptDouble = StringEnd ∷ []
+value_end StyleSingle = StringEnd ∷ []
+value_end StyleDouble = StringEnd ∷ []
+value_end other = []

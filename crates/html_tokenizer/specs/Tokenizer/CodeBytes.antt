@@ -4,7 +4,7 @@
 -- its end tag is looked for. So is what follows a `/` of a script that begins no comment, and is a division or a
 -- regular expression; a backtick, which begins a template literal; a `#` and a `\`; `-->` and `<!`, which may begin
 -- a comment; a `\` of a style, which may be part of a name, and an `@import`, whose string is a URL.
-use Rattle.std.specs.Prelude.{ℕ, Bool, true, false, ◌&&◌, ◌||◌, List, [], ◌∷◌, ◌++◌, ◌==◌, Option, Some, None, if◌then◌else◌, nat_lt, bytes_eq, codes, map}
+use Rattle.std.specs.Prelude.{ℕ, Bool, true, false, ◌&&◌, ◌||◌, List, [], ◌∷◌, ◌++◌, ◌==◌, Option, Some, None, if◌then◌else◌, nat_lt, bytes_eq, codes}
 use Rattle.std.specs.Char.{is_ascii_alphabetic, is_ascii_alphanumeric, to_ascii_lowercase}
 use Rattle.hesc_specs.specs.Text.Ascii.{line_feed, carriage_return, number_sign, double_quote, ampersand, single_quote, slash, less_than, greater_than, backslash, backtick}
 use Rattle.html_tokenizer.specs.declared.slot_place.SlotPlace.TheVariants.{ScriptSingle, ScriptDouble, StyleSingle, StyleDouble}
@@ -12,13 +12,12 @@ use Rattle.html_tokenizer.specs.declared.states.Code.{Code}
 use Rattle.html_tokenizer.specs.declared.states.Code.TheVariants as code
 use Rattle.html_tokenizer.specs.declared.states.Content.{Content}
 use Rattle.html_tokenizer.specs.declared.states.OpenElement.{OpenElement}
-use Rattle.html_tokenizer.specs.declared.states.OpenElement.TheVariants.{Normal, Script, Style, Frame, SvgStyle, NoScriptStyle, NoScriptFrame}
-use Rattle.html_tokenizer.specs.Tokenizer.Actions.{CodeByte, NewEndTag, StringStart, TagNameByte}
+use Rattle.html_tokenizer.specs.declared.states.OpenElement.TheVariants.{Script, Style, SvgStyle, NoScriptStyle, NoScriptFrame}
+use Rattle.html_tokenizer.specs.Tokenizer.Actions.{CodeByte, StringStart}
 use Rattle.html_tokenizer.specs.Tokenizer.Comments.{dash}
-use Rattle.html_tokenizer.specs.Tokenizer.Names.{with_element}
 use Rattle.html_tokenizer.specs.Tokenizer.States as state
-use Rattle.html_tokenizer.specs.Tokenizer.States.{Forbidden, at_value}
-use Rattle.html_tokenizer.specs.Tokenizer.Tags.{end_tag_byte, ends_name, exclamation_mark, is_space}
+use Rattle.html_tokenizer.specs.Tokenizer.States.{Forbidden, at, at_value}
+use Rattle.html_tokenizer.specs.Tokenizer.Tags.{ends_name, exclamation_mark, held_end_tag_byte, is_space}
 use Rattle.html_tokenizer.specs.Tokenizer.Transitions.{Transition, goes, moves, refuses, reconsumes}
 
 abbrev pub asterisk : ℕ
@@ -327,22 +326,12 @@ code_less_byte code.Escaped content b = escaped_less_byte content b
 code_less_byte code.DoubleEscaped content b = double_escaped_less_byte content b
 code_less_byte other content b = text_less_byte other content b
 
--- the appropriate end tag (13.2.5) of code
-abbrev pub ends_code : OpenElement → List ℕ → Bool
-ends_code Script name = bytes_eq name (codes "script")
-ends_code Style name = bytes_eq name (codes "style")
-ends_code Frame name = bytes_eq name (codes "iframe")
-ends_code other name = false
-
 -- 13.2.5.13 RAWTEXT end tag open state, 13.2.5.14 RAWTEXT end tag name state, 13.2.5.16 Script data end tag open
 -- state, 13.2.5.17 Script data end tag name state, 13.2.5.24 Script data escaped end tag open state, 13.2.5.25
 -- Script data escaped end tag name state
 abbrev pub code_end_tag_byte : Code → Content → List ℕ → ℕ → Transition
 code_end_tag_byte kind content word b =
-    if ends_name b && ends_code content.element (map to_ascii_lowercase word)
-    then reconsumes (NewEndTag ∷ map (λ d. TagNameByte (to_ascii_lowercase d)) word) (end_tag_byte (with_element content Normal) b)
-    else (if is_ascii_alphabetic b then goes (state.CodeEndTag kind (word ++ b ∷ [])) content []
-    else reconsumes (CodeByte less_than ∷ CodeByte slash ∷ map CodeByte word) (in_code_byte kind content b))
+    held_end_tag_byte content word [] (at (state.CodeEndTag kind (word ++ b ∷ [])) content) CodeByte (in_code_byte kind content b) b
 
 -- the state that the word `script` leads to: a start tag within a comment hides an end tag
 abbrev pub other_escape : Code → Code

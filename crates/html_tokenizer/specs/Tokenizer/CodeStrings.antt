@@ -1,8 +1,8 @@
 -- What a byte does in a string of a script or a style.
 -- ECMAScript, 12.9.4 String Literals, with the escapes of hesc_grammars' grammar and `\/`.
 -- CSS Syntax Module Level 3, 4.3.5 Consume a string token, 4.3.7 Consume an escaped code point.
--- Where the HTML around a string could read on at a `<` (13.2.5.12, 13.2.5.15), and where the profile does not read
--- an escape, the string is given up: the rest of the code is opaque.
+-- The end tag of the element (13.2.5.12 to 13.2.5.17) ends a string, too. Where `<!` begins an escape of a script, and
+-- where the profile does not read one of the string, the string is given up: the rest of the code is opaque.
 use Rattle.std.specs.Prelude.{ℕ, Bool, false, ◌&&◌, ◌||◌, List, [], ◌∷◌, ◌++◌, ◌==◌, Option, Some, None, nat_lt, bytes_eq, if◌then◌else◌, length, map}
 use Rattle.std.specs.Char.{is_digit}
 use Rattle.std.specs.List.{list_all}
@@ -17,6 +17,7 @@ use Rattle.html_tokenizer.specs.declared.states.Code.TheVariants.{Plain, Opaque}
 use Rattle.html_tokenizer.specs.declared.states.Content.{Content}
 use Rattle.html_tokenizer.specs.Tokenizer.Actions.{CodeByte, StringByte, StringEnd, read_byte}
 use Rattle.html_tokenizer.specs.Tokenizer.CodeBytes.{ends_line, in_code_byte, is_script, less_byte}
+use Rattle.html_tokenizer.specs.Tokenizer.Names.{reference_read}
 use Rattle.html_tokenizer.specs.Tokenizer.States as state
 use Rattle.html_tokenizer.specs.Tokenizer.States.{Attribute, at_value}
 use Rattle.html_tokenizer.specs.Tokenizer.Tags.{exclamation_mark}
@@ -38,12 +39,16 @@ script_string_byte = string_byte ends_line
 abbrev pub style_string_byte : ℕ → SlotPlace → Content → Attribute → ℕ → Transition
 style_string_byte = string_byte is_newline_or_nul
 
+-- `<!` begins an escape (13.2.5.18) of a script, also in a string
+abbrev pub begins_comment : Content → ℕ → Bool
+begins_comment content b = b == exclamation_mark && is_script content.element
+
 -- after a `<` of a string
-abbrev pub string_less_byte : Content → Transition → ℕ → Transition
-string_less_byte content again b =
-    if b == slash || (b == exclamation_mark && is_script content.element)
-    then reconsumes (StringEnd ∷ []) (less_byte Opaque content b)
-    else reconsumes (StringByte less_than ∷ []) again
+abbrev pub string_less_byte : SlotPlace → Content → Attribute → Transition → ℕ → Transition
+string_less_byte p content attribute again b =
+    if b == slash then moves (at_value (state.ValueEndTag p []) content (reference_read attribute)) []
+    else (if begins_comment content b then reconsumes (StringEnd ∷ []) (less_byte Opaque content b)
+    else reconsumes (StringByte less_than ∷ []) again)
 
 -- the bytes of an escape that is not read, before this one
 abbrev pub gives_escape_up : Content → List ℕ → ℕ → Transition

@@ -21,6 +21,7 @@ state_of phase.TagOpen word = state.TagOpen
 state_of phase.EndTagOpen word = state.EndTagOpen
 state_of phase.TagName word = state.TagName word
 state_of phase.EndTagName word = state.EndTagName word
+state_of (phase.ValueEndTag p) word = state.ValueEndTag p word
 state_of phase.AfterEndTagName word = state.AfterEndTagName
 state_of phase.BeforeName word = state.BeforeName
 state_of phase.Name word = state.Name word

@@ -14,7 +14,7 @@ pub data State : Type 0 where
   In : SlotPlace → State
   -- 13.2.5.72 Character reference state, which returns there; an escape of a string; and its bytes so far
   Within : SlotPlace → List ℕ → State
-  -- a `<` in a string
+  -- a `<` in a string, 13.2.5.12 RAWTEXT less-than sign state, 13.2.5.15 Script data less-than sign state
   StringLess : SlotPlace → State
   -- 13.2.5.6 Tag open state, 13.2.5.9 RCDATA less-than sign state
   TagOpen : State
@@ -22,8 +22,11 @@ pub data State : Type 0 where
   EndTagOpen : State
   -- 13.2.5.8 Tag name state of a start tag, and the name so far in lower case
   TagName : List ℕ → State
-  -- the same of an end tag, and 13.2.5.11 RCDATA end tag name state
+  -- the same of an end tag, also in other contents of text alone
   EndTagName : List ℕ → State
+  -- 13.2.5.11 RCDATA end tag name state in a `title` or `textarea`, and the letters so far; in a string 13.2.5.13,
+  -- 13.2.5.14, 13.2.5.16 and 13.2.5.17
+  ValueEndTag : SlotPlace → List ℕ → State
   -- 13.2.5.32 Before attribute name state of an end tag, which has no attributes here
   AfterEndTagName : State
   -- 13.2.5.32 Before attribute name state, 13.2.5.33 Attribute name state, 13.2.5.34 After attribute name state, and the name so far

@@ -4,7 +4,7 @@ use Rattle.hesc_specs.specs.Text.Ascii.{double_quote, single_quote, slash}
 use Rattle.html_tokenizer.specs.declared.slot_place.SlotPlace.{SlotPlace}
 use Rattle.html_tokenizer.specs.declared.slot_place.SlotPlace.TheVariants.{Text, DoubleQuoted, SingleQuoted, Unquoted, ScriptSingle, ScriptDouble, StyleSingle, StyleDouble}
 use Rattle.html_tokenizer.specs.declared.states.Content.{Content}
-use Rattle.html_tokenizer.specs.Tokenizer.Actions.{Action}
+use Rattle.html_tokenizer.specs.Tokenizer.Actions.{Action, read_byte, value_end}
 use Rattle.html_tokenizer.specs.Tokenizer.CodeBytes.{in_code_byte, code_less_byte, code_end_tag_byte, code_word_byte}
 use Rattle.html_tokenizer.specs.Tokenizer.CodeStrings.{script_string_byte, style_string_byte, string_less_byte, script_escape_byte, style_escape_byte}
 use Rattle.html_tokenizer.specs.Tokenizer.Comments.{declaration_byte, comment_start_byte, comment_start_dash_byte, comment_byte, comment_dash_byte, comment_end_byte}
@@ -12,10 +12,10 @@ use Rattle.html_tokenizer.specs.Tokenizer.Doctypes.{before_doctype_byte, doctype
 use Rattle.html_tokenizer.specs.Tokenizer.Names.{reference_read}
 use Rattle.html_tokenizer.specs.Tokenizer.References.{reference_byte}
 use Rattle.html_tokenizer.specs.Tokenizer.States as state
-use Rattle.html_tokenizer.specs.Tokenizer.States.{State, Attribute, Tokenizer}
-use Rattle.html_tokenizer.specs.Tokenizer.Tags.{tag_open_byte, end_tag_open_byte, tag_name_byte, end_tag_name_byte, end_tag_byte, before_name_byte, attribute_name_byte, after_name_byte, after_value_byte, self_closing_byte}
+use Rattle.html_tokenizer.specs.Tokenizer.States.{State, Attribute, Tokenizer, at_value}
+use Rattle.html_tokenizer.specs.Tokenizer.Tags.{tag_open_byte, end_tag_open_byte, tag_name_byte, end_tag_name_byte, end_tag_byte, before_name_byte, attribute_name_byte, after_name_byte, after_value_byte, self_closing_byte, held_end_tag_byte, is_rcdata}
 use Rattle.html_tokenizer.specs.Tokenizer.Transitions.{Transition, goes, refuses}
-use Rattle.html_tokenizer.specs.Tokenizer.Values.{text_byte, quoted_byte, unquoted_value_byte, before_value_byte}
+use Rattle.html_tokenizer.specs.Tokenizer.Values.{text_byte, rcdata_less_byte, rcdata_end_tag_open_byte, quoted_byte, unquoted_value_byte, before_value_byte}
 
 -- a byte of a value
 abbrev pub value_byte : SlotPlace → Content → Attribute → ℕ → Transition
@@ -39,12 +39,23 @@ within_byte StyleDouble content attribute word b =
 within_byte other content attribute word b =
     reference_byte other content attribute word b (value_byte other content attribute b)
 
+-- 13.2.5.11 RCDATA end tag name state; in a string 13.2.5.13 RAWTEXT end tag open state, 13.2.5.14 RAWTEXT end tag name
+-- state, 13.2.5.16 Script data end tag open state, 13.2.5.17 Script data end tag name state
+abbrev pub value_end_tag_byte : SlotPlace → Content → Attribute → List ℕ → ℕ → Transition
+value_end_tag_byte p content attribute word b =
+    held_end_tag_byte content word (value_end p) (at_value (state.ValueEndTag p (word ++ b ∷ [])) content attribute) (read_byte p) (value_byte p content attribute b) b
+
 abbrev pub byte_in : State → Content → Attribute → ℕ → Transition
 byte_in (state.In p) content attribute b = value_byte p content attribute b
 byte_in (state.Within p word) content attribute b = within_byte p content (reference_read attribute) word b
-byte_in (state.StringLess p) content attribute b = string_less_byte content (value_byte p content attribute b) b
-byte_in state.TagOpen content attribute b = if b == slash then goes state.EndTagOpen content [] else tag_open_byte content b
-byte_in state.EndTagOpen content attribute b = end_tag_open_byte content b
+byte_in (state.StringLess p) content attribute b = string_less_byte p content attribute (value_byte p content attribute b) b
+byte_in state.TagOpen content attribute b =
+    if b == slash then goes state.EndTagOpen content []
+    else (if is_rcdata content.element then rcdata_less_byte content b
+    else tag_open_byte content b)
+byte_in state.EndTagOpen content attribute b =
+    if is_rcdata content.element then rcdata_end_tag_open_byte content b else end_tag_open_byte content b
+byte_in (state.ValueEndTag p word) content attribute b = value_end_tag_byte p content (reference_read attribute) word b
 byte_in (state.TagName name) content attribute b = tag_name_byte content name b
 byte_in (state.EndTagName name) content attribute b = end_tag_name_byte content name b
 byte_in state.AfterEndTagName content attribute b = end_tag_byte content b

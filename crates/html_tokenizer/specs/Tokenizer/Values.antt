@@ -1,18 +1,19 @@
 -- What a byte does in text and in the value of an attribute.
--- HTML Standard, 13.2.5.1 Data state, 13.2.5.2 RCDATA state and 13.2.5.35 to 13.2.5.39, where the bytes that
+-- HTML Standard, 13.2.5.1 Data state, 13.2.5.2 RCDATA state, 13.2.5.9 to 13.2.5.11 and 13.2.5.35 to 13.2.5.39, where the bytes that
 -- the standard calls errors have no reading.
-use Rattle.std.specs.Prelude.{ℕ, [], ◌==◌, Option, Some, None, if◌then◌else◌, encode_utf8, map}
-use Rattle.hesc_specs.specs.Text.Ascii.{double_quote, single_quote, ampersand, less_than, greater_than}
+use Rattle.std.specs.Prelude.{ℕ, [], ◌∷◌, ◌==◌, Option, Some, None, if◌then◌else◌, encode_utf8, map}
+use Rattle.std.specs.Char.{is_ascii_alphabetic}
+use Rattle.hesc_specs.specs.Text.Ascii.{double_quote, single_quote, ampersand, slash, less_than, greater_than}
 use Rattle.hesc_grammars.specs.Html.{is_unquoted_error}
 use Rattle.html_tokenizer.specs.declared.slot_place.SlotPlace.{SlotPlace}
 use Rattle.html_tokenizer.specs.declared.slot_place.SlotPlace.TheVariants.{Text, DoubleQuoted, SingleQuoted, Unquoted}
 use Rattle.html_tokenizer.specs.declared.states.Content.{Content}
-use Rattle.html_tokenizer.specs.Tokenizer.Actions.{read_byte}
+use Rattle.html_tokenizer.specs.Tokenizer.Actions.{EmitByte, read_byte}
 use Rattle.html_tokenizer.specs.Tokenizer.Names.{content_after, reference_read}
 use Rattle.html_tokenizer.specs.Tokenizer.States as state
-use Rattle.html_tokenizer.specs.Tokenizer.States.{Attribute, at_value}
+use Rattle.html_tokenizer.specs.Tokenizer.States.{Attribute, Ordinary, at_value}
 use Rattle.html_tokenizer.specs.Tokenizer.Tags.{is_space, opened}
-use Rattle.html_tokenizer.specs.Tokenizer.Transitions.{Transition, goes, moves, refuses, keeps}
+use Rattle.html_tokenizer.specs.Tokenizer.Transitions.{Transition, goes, moves, refuses, reconsumes, keeps}
 
 -- at a `&`, which may begin a reference, or a `\`, which begins an escape
 abbrev pub begins_character : SlotPlace → Content → Attribute → Transition
@@ -30,6 +31,16 @@ text_byte content attribute b =
     if b == less_than then goes state.TagOpen content []
     else (if b == ampersand then begins_character Text content attribute
     else keeps Text content attribute b)
+
+-- 13.2.5.9 RCDATA less-than sign state, but for `/`
+abbrev pub rcdata_less_byte : Content → ℕ → Transition
+rcdata_less_byte content b = reconsumes (EmitByte less_than ∷ []) (text_byte content Ordinary b)
+
+-- 13.2.5.10 RCDATA end tag open state
+abbrev pub rcdata_end_tag_open_byte : Content → ℕ → Transition
+rcdata_end_tag_open_byte content b =
+    if is_ascii_alphabetic b then goes (state.ValueEndTag Text (b ∷ [])) content []
+    else reconsumes (EmitByte less_than ∷ EmitByte slash ∷ []) (text_byte content Ordinary b)
 
 -- after a value, if the profile has it
 abbrev pub ended : Option Content → (Content → Transition) → Transition

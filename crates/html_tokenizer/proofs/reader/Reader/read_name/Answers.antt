@@ -12,7 +12,7 @@ returns-in_default-clause-read g c = λ start before.
     let self = c.args.self.now in
     let same : self.phase ≡ c.args.phase = c.is_same.ensures c.if-not-is_same.false in
     reads_longer start (tokenizer_of self) (tokenizer_of c.go.new.self) c.args.bytes.now c.args.done.now (omega arith) before
-    (rw same (sym (c.in_ok-go.ensures ∙ c.first_byte-first.ensures self.kind self.word.items)))
+    (rw same (sym (c.in_ok-go.ensures ∙ rw c.deref.ensures.value at (c.first_byte-first.ensures self.kind))))
 
 pub returns-then-done-bytes-2-clause-read : goal.returns-then-done-bytes-2-clause-read
 unfolding consume
@@ -25,7 +25,7 @@ returns-then-done-bytes-2-clause-read g c = λ start before.
     let begun : Tokenizer = at (state_of c.in-Some.name (c.in-Some.letter ∷ [])) content in
     let first : begun ≡ state_after start (take (done + 1) bytes) =
     reads_longer start (tokenizer_of self) begun bytes done (omega arith) before
-    (rw same (sym (sym (c.in-Some.ensures.begins self.word.items) ∙ c.first_byte-first.ensures self.kind self.word.items))) in
+    (rw same (sym (sym (c.in-Some.ensures.begins self.word.items) ∙ rw c.deref.ensures.value at (c.first_byte-first.ensures self.kind)))) in
     let named : Tokenizer = at (state_of c.in-Some.name (take (1 + c.read_letters-count.result) c.read_letters-count.new.letters)) content in
     let read : named ≡ state_after start (take (done + 1 + c.read_letters-count.result) bytes) =
     reads_more start begun named bytes (done + 1) c.read_letters-count.result first
@@ -43,7 +43,7 @@ returns-clause-read g c = λ start before.
     let begun : Tokenizer = at (state_of c.in-Some.name (c.in-Some.letter ∷ [])) content in
     let first : begun ≡ state_after start (take (done + 1) bytes) =
     reads_longer start (tokenizer_of self) begun bytes done (omega arith) before
-    (rw same (sym (sym (c.in-Some.ensures.begins self.word.items) ∙ c.first_byte-first.ensures self.kind self.word.items))) in
+    (rw same (sym (sym (c.in-Some.ensures.begins self.word.items) ∙ rw c.deref.ensures.value at (c.first_byte-first.ensures self.kind)))) in
     let named : Tokenizer = at (state_of c.in-Some.name (take (1 + c.read_letters-count.result) c.read_letters-count.new.letters)) content in
     let read : named ≡ state_after start (take (done + 1 + c.read_letters-count.result) bytes) =
     reads_more start begun named bytes (done + 1) c.read_letters-count.result first
