@@ -25,6 +25,8 @@ mod pages;
 #[cfg(test)]
 mod pairs;
 #[cfg(test)]
+mod readme;
+#[cfg(test)]
 mod references;
 #[cfg(test)]
 mod sources;
