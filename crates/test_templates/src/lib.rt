@@ -3,12 +3,6 @@
 #![tactic(auto)]
 
 #[cfg(test)]
-mod code;
-#[cfg(test)]
-mod contents;
-#[cfg(test)]
-mod doctypes;
-#[cfg(test)]
 mod examples;
 #[cfg(test)]
 mod hostile;
@@ -19,15 +13,11 @@ mod memory;
 #[cfg(test)]
 mod named;
 #[cfg(test)]
-mod otherwise;
-#[cfg(test)]
 mod pages;
 #[cfg(test)]
 mod pairs;
 #[cfg(test)]
 mod readme;
-#[cfg(test)]
-mod references;
 #[cfg(test)]
 mod sources;
 #[cfg(test)]

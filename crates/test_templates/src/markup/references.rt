@@ -1,6 +1,6 @@
 //! Character references, and a `&` that begins none. What is expected comes from the HTML Standard
 //! (13.2.5.72 to 13.2.5.80 and the names of 13.5), never from the code.
-use crate::otherwise::{Row, hold};
+use crate::markup::otherwise::{Row, hold};
 use html_template::TemplateFault::{Forbidden, Malformed, NoPlace};
 
 static TEXTS: [Row; 43] = [

@@ -1,6 +1,6 @@
 //! Scripts, styles and the text of an `iframe`: where they take a slot, where the rest is opaque, and where
 //! they end. What is expected comes from the HTML Standard, ECMAScript and CSS, never from the code.
-use crate::otherwise::{Row, hold};
+use crate::markup::otherwise::{Row, hold};
 use html_template::TemplateFault::{Forbidden, Malformed, NoPlace, Unfinished};
 
 // After an end of a script a slot stands in text.
