@@ -2,7 +2,7 @@
 use Rattle.std.proofs.Common.{◌≡◌, ℕ, ◌<◌, Bool, true, not, ◌||◌, nat_eq, get_or, bit_and, bit_or, refl}
 use Rattle.std.proofs.lemmas.Bool.{agree_below, agree_below_at}
 use Rattle.html_tokenizer.specs.declared.flags.TheConstants.{FLAGS}
-use Rattle.html_tokenizer.specs.Tokenizer.CodeBytes.{is_name_byte}
+use Rattle.html_tokenizer.specs.Tokenizer.Code.Words.{is_name_byte}
 use Rattle.std.specs.Char.{to_ascii_lowercase}
 use Rattle.html_tokenizer.specs.Tokenizer.Stretches.{begins_word, is_mark, is_name_letter}
 

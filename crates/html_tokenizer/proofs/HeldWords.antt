@@ -2,7 +2,7 @@
 use Rattle.std.proofs.Common.{ℕ, ◌≡◌, List, refl}
 use Rattle.html_tokenizer.specs.declared.states.Kind.{Kind}
 use Rattle.html_tokenizer.specs.declared.states.Kind.TheVariants.{Ordinary, Forbidden, Scheme, AfterScheme, AfterSlash, AfterSlashes, Host, ScriptType, Encoding, Pragma, PageType, Unread, Raw}
-use Rattle.html_tokenizer.specs.Tokenizer.Names.{reference_read}
+use Rattle.html_tokenizer.specs.Tokenizer.Attributes.{reference_read}
 use Rattle.html_tokenizer.specs.Tokenizer.Phases.{attribute_in}
 
 pub reference_read_held : (kind : Kind) (before word : List ℕ) →

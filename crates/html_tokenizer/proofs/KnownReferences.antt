@@ -10,8 +10,8 @@ use Rattle.hesc_specs.specs.Text.Words.{begins}
 use Rattle.hesc_grammars.specs.References.{are_digits, body_character, digits_character, named_character, no_break_space}
 use Rattle.html_entities.proofs.References.{same_value}
 use Rattle.html_tokenizer.specs.declared.slot_place.SlotPlace.{SlotPlace}
-use Rattle.html_tokenizer.specs.declared.states.Content.{Content}
-use Rattle.html_tokenizer.specs.Tokenizer.References.{goes_on, named_characters, reference_end}
+use Rattle.html_tokenizer.specs.declared.elements.Content.{Content}
+use Rattle.html_tokenizer.specs.Tokenizer.Values.References.{goes_on, named_characters, reference_end}
 use Rattle.html_tokenizer.specs.Tokenizer.States.{Attribute}
 use Rattle.html_tokenizer.specs.Tokenizer.Transitions.{Transition}
 use Rattle.html_tokenizer.specs.Tokenizer.Values.{character_read}

@@ -4,9 +4,13 @@ use Rattle.std.proofs.lemmas.Bool.{cases_Bool, eqb-true, or_parts}
 use Rattle.std.proofs.lemmas.Bool.Decides.{nat_tests}
 use Rattle.hesc_specs.specs.Text.Ascii.{number_sign, double_quote, single_quote, slash, less_than, backslash, backtick}
 use Rattle.html_tokenizer.specs.declared.states.Code.TheVariants.{Name, Plain}
-use Rattle.html_tokenizer.specs.declared.states.Content.{Content}
-use Rattle.html_tokenizer.specs.declared.states.OpenElement.TheVariants.{Script}
-use Rattle.html_tokenizer.specs.Tokenizer.CodeBytes.{byte_of_code, is_name_byte, lower_f, lower_i, name_byte, script_byte, script_code_byte, stays}
+use Rattle.html_tokenizer.specs.declared.elements.Content.{Content}
+use Rattle.html_tokenizer.specs.declared.elements.OpenElement.TheVariants.{Script}
+use Rattle.html_tokenizer.specs.Tokenizer.Code.{byte_of_code}
+use Rattle.html_tokenizer.specs.Tokenizer.Code.Characters.{lower_f, lower_i}
+use Rattle.html_tokenizer.specs.Tokenizer.Code.Comments.{stays}
+use Rattle.html_tokenizer.specs.Tokenizer.Code.Scripts.{name_byte, script_byte, script_code_byte}
+use Rattle.html_tokenizer.specs.Tokenizer.Code.Words.{is_name_byte}
 use Rattle.html_tokenizer.specs.Tokenizer.Comments.{dash}
 use Rattle.html_tokenizer.specs.Tokenizer.States.{InCode, at}
 use Rattle.html_tokenizer.specs.Tokenizer.Stretches.{begins_word, is_mark, settled, stays_settled}

@@ -2,9 +2,9 @@
 use Rattle.std.proofs.Common.{ℕ, ◌≡◌, ◌<◌, ◌≤◌, false, List, Some, length, bytes_eq, codes, inl, inr, refl, ap, arith}
 use Rattle.std.proofs.lemmas.Bool.{cases_Bool}
 use Rattle.std.proofs.lemmas.Slice.Eq.{bytes_eq-Decides}
-use Rattle.html_tokenizer.specs.declared.states.Content.{Content}
-use Rattle.html_tokenizer.specs.declared.states.OpenElement.TheVariants.{Normal}
-use Rattle.html_tokenizer.specs.Tokenizer.Names.{content_of, with_element}
+use Rattle.html_tokenizer.specs.declared.elements.Content.{Content}
+use Rattle.html_tokenizer.specs.declared.elements.OpenElement.TheVariants.{Normal}
+use Rattle.html_tokenizer.specs.Tokenizer.Elements.{content_of, with_element}
 
 differs : (name word : List ℕ) → length name < length word → bytes_eq name word ≡ false
 differs name word shorter = elim (cases_Bool (bytes_eq name word)) [

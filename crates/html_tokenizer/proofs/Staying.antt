@@ -9,10 +9,13 @@ use Rattle.html_tokenizer.specs.declared.slot_place.SlotPlace.{SlotPlace}
 use Rattle.html_tokenizer.specs.declared.slot_place.SlotPlace.TheVariants.{Text}
 use Rattle.html_tokenizer.specs.declared.states.Code.TheVariants.{BlockComment, Opaque}
 use Rattle.html_tokenizer.specs.declared.states.Code.{Code}
-use Rattle.html_tokenizer.specs.declared.states.Content.{Content}
-use Rattle.html_tokenizer.specs.Tokenizer.CodeBytes.{asterisk, block_byte, code_byte, escaped_byte, stays}
+use Rattle.html_tokenizer.specs.declared.elements.Content.{Content}
+use Rattle.html_tokenizer.specs.Tokenizer.Code.{code_byte}
+use Rattle.html_tokenizer.specs.Tokenizer.Code.Characters.{asterisk}
+use Rattle.html_tokenizer.specs.Tokenizer.Code.Comments.{block_byte, stays}
+use Rattle.html_tokenizer.specs.Tokenizer.Code.Escapes.{escaped_byte}
 use Rattle.html_tokenizer.specs.Tokenizer.Comments.{dash}
-use Rattle.html_tokenizer.specs.Tokenizer.Names.{value_byte_read}
+use Rattle.html_tokenizer.specs.Tokenizer.Attributes.{value_byte_read}
 use Rattle.html_tokenizer.specs.Tokenizer.States.{Attribute, Comment, In, InCode, Tokenizer, at, at_value}
 use Rattle.html_tokenizer.specs.Tokenizer.Tokenization.{consume, state_after, value_byte}
 use Rattle.html_tokenizer.specs.Tokenizer.Values.{quoted_byte}

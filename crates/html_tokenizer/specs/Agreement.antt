@@ -10,13 +10,15 @@ use Rattle.hesc_grammars.specs.declared.place.Place.TheVariants.{UnquotedAttribu
 use Rattle.html_tokenizer.specs.declared.slot_place.SlotPlace.{SlotPlace}
 use Rattle.html_tokenizer.specs.declared.slot_place.SlotPlace.TheVariants.{Unquoted}
 use Rattle.html_tokenizer.specs.declared.states.Code.TheVariants.{Plain}
-use Rattle.html_tokenizer.specs.declared.states.Content.{Content}
-use Rattle.html_tokenizer.specs.declared.states.OpenElement.TheVariants.{Normal}
+use Rattle.html_tokenizer.specs.declared.elements.Content.{Content}
+use Rattle.html_tokenizer.specs.declared.elements.OpenElement.TheVariants.{Normal}
 use Rattle.html_tokenizer.specs.Tokenizer.Actions.{StringEnd, read_byte}
-use Rattle.html_tokenizer.specs.Tokenizer.CodeBytes.{is_opaque, is_script}
-use Rattle.html_tokenizer.specs.Tokenizer.Names.{with_element}
+use Rattle.html_tokenizer.specs.Tokenizer.Code.{is_script}
+use Rattle.html_tokenizer.specs.Tokenizer.Code.Escapes.{is_opaque}
+use Rattle.html_tokenizer.specs.Tokenizer.Elements.{with_element}
 use Rattle.html_tokenizer.specs.Tokenizer.States.{State, Tokenizer, In, BeforeValue, InCode, CodeLess, at}
-use Rattle.html_tokenizer.specs.Tokenizer.Tags.{end_tag_byte, ends_name, is_appropriate}
+use Rattle.html_tokenizer.specs.Tokenizer.Tags.{end_tag_byte, ends_name}
+use Rattle.html_tokenizer.specs.Tokenizer.Tags.EndTags.{is_appropriate}
 use Rattle.html_tokenizer.specs.Tokenizer.Tokenization.{state_after, actions_of}
 
 -- up to the mark at which a place's reading ends, the tokenizer stays in the value, and its actions

@@ -5,13 +5,13 @@ use Rattle.html_tokenizer.specs.declared.reader.Standing.TheVariants.{Stands, No
 use Rattle.html_tokenizer.specs.declared.slot_place.SlotPlace.{SlotPlace}
 use Rattle.html_tokenizer.specs.declared.slot_place.SlotPlace.TheVariants.{Text, DoubleQuoted, SingleQuoted, Unquoted, ScriptSingle, ScriptDouble, StyleSingle, StyleDouble}
 use Rattle.html_tokenizer.specs.declared.states.Code.{Code}
-use Rattle.html_tokenizer.specs.declared.states.Content.{Content}
-use Rattle.html_tokenizer.specs.declared.states.OpenElement.{OpenElement}
-use Rattle.html_tokenizer.specs.declared.states.OpenElement.TheVariants as element
-use Rattle.html_tokenizer.specs.Tokenizer.CodeBytes.{is_opaque}
+use Rattle.html_tokenizer.specs.declared.elements.Content.{Content}
+use Rattle.html_tokenizer.specs.declared.elements.OpenElement.{OpenElement}
+use Rattle.html_tokenizer.specs.declared.elements.OpenElement.TheVariants as element
+use Rattle.html_tokenizer.specs.Tokenizer.Code.Escapes.{is_opaque}
 use Rattle.html_tokenizer.specs.Tokenizer.States as state
 use Rattle.html_tokenizer.specs.Tokenizer.States.{State, Attribute, Tokenizer, at, refused}
-use Rattle.html_tokenizer.specs.Tokenizer.Names.{is_normal}
+use Rattle.html_tokenizer.specs.Tokenizer.Elements.{is_normal}
 
 -- a slot in the value of an attribute, if its text would mean itself
 abbrev pub unless_forbidden : Attribute → SlotPlace → Standing

@@ -1,13 +1,10 @@
 pub mod Actions
-pub mod CodeBytes
-pub mod CodeStrings
+pub mod Attributes
+pub mod Code
 pub mod Comments
 pub mod Doctypes
-pub mod Encodings
-pub mod LegacyNames
-pub mod Names
+pub mod Elements
 pub mod Phases
-pub mod References
 pub mod States
 pub mod Stretches
 pub mod Tags

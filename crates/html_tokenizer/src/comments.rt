@@ -1,18 +1,12 @@
 //! What a byte does after `<!` and in a comment.
 ghost use Rattle.std.specs.Prelude.{◌≡◌, ℕ, List};
-ghost use Rattle.html_tokenizer.specs.Tokenizer.Comments.{
-  comment_byte,
-  comment_dash_byte,
-  comment_end_byte,
-  comment_start_byte,
-  comment_start_dash_byte,
-  declaration_byte,
-};
+ghost use Rattle.html_tokenizer.specs.Tokenizer.Comments.{comment_byte, comment_dash_byte, comment_end_byte, comment_start_byte, comment_start_dash_byte, declaration_byte};
 ghost use Rattle.html_tokenizer.specs.Tokenizer.Phases.{moved};
 ghost use Rattle.html_tokenizer.specs.declared.states.Phase.TheVariants as phase;
 
+use crate::elements::Content;
 use crate::slot_place::SlotPlace;
-use crate::states::{Content, Move, Phase, Word, goes, refuses, to};
+use crate::states::{Move, Phase, Word, goes, refuses, to};
 use crate::tags::is_space;
 
 /// After `<!`.

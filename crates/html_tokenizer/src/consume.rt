@@ -1,13 +1,17 @@
 //! What the tokenizer does at a byte.
 ghost use Rattle.std.specs.Prelude.{◌≡◌};
-ghost use Rattle.html_tokenizer.specs.Tokenizer.Names.{reference_read};
+ghost use Rattle.html_tokenizer.specs.Tokenizer.Attributes.{reference_read};
 ghost use Rattle.html_tokenizer.specs.Tokenizer.Phases.{IsBeforeName, IsInName, IsNoScriptEscape, IsTextOrValue, attribute_in, moved, state_of};
-ghost use Rattle.html_tokenizer.specs.Tokenizer.Tokenization.{byte_in, value_byte, value_end_tag_byte, within_byte};
+ghost use Rattle.html_tokenizer.specs.Tokenizer.Tokenization.{byte_in, value_byte, within_byte};
 ghost use Rattle.html_tokenizer.specs.declared.states.Kind.{Kind};
 ghost use Rattle.html_tokenizer.specs.declared.states.Phase.TheVariants as phase;
 
 use crate::attributes::reference_read;
-use crate::code::{code_end_tag_byte, code_less_byte, code_word_byte, in_code_byte};
+use crate::code::escapes::code_word_byte;
+use crate::code::strings::{
+    ends_line, is_newline_or_nul, string_byte, string_less_byte, style_escape_byte,
+};
+use crate::code::{code_less_byte, in_code_byte};
 use crate::comments::{
     comment_byte, comment_dash_byte, comment_end_byte, comment_start_byte, declaration_byte,
 };
@@ -16,24 +20,27 @@ use crate::doctypes::{
     before_public_byte, before_system_byte, between_identifiers_byte, doctype_byte,
     doctype_keyword_byte, public_byte, system_byte,
 };
-use crate::references::{goes_on, reference_end};
+use crate::elements::Content;
 use crate::slot_place::SlotPlace;
-use crate::states::{Content, Kind, Move, Phase, Word, in_value, refuses, to};
-use crate::strings::{
-    ends_line, is_newline_or_nul, string_byte, string_less_byte, style_escape_byte,
+use crate::states::{Kind, Move, Phase, Word, in_value, refuses, to};
+use crate::tags::end_tags::{
+    code_end_tag_byte, is_rcdata, rcdata_end_tag_open_byte, rcdata_less_byte, value_end_tag_byte,
 };
 use crate::tags::{
     after_name_byte, after_value_byte, attribute_name_byte, before_name_byte, end_tag_byte,
-    end_tag_name_byte, end_tag_open_byte, held_end_tag_byte, is_rcdata, self_closing_byte,
-    tag_name_byte, tag_open_byte,
+    end_tag_name_byte, end_tag_open_byte, self_closing_byte, tag_name_byte, tag_open_byte,
 };
-use crate::values::{
-    before_value_byte, quoted_byte, rcdata_end_tag_open_byte, rcdata_less_byte, text_byte,
-    unquoted_value_byte,
-};
+use crate::values::references::{goes_on, reference_end};
+use crate::values::{before_value_byte, quoted_byte, text_byte, unquoted_value_byte};
 
 #[inline(always)]
-fn value_byte(place: SlotPlace, content: Content, kind: Kind, word: &[u8], byte: u8) -> Move
+pub(crate) fn value_byte(
+    place: SlotPlace,
+    content: Content,
+    kind: Kind,
+    word: &[u8],
+    byte: u8,
+) -> Move
     ensures { moved result word.now
         ≡ (value_byte place content (attribute_in kind word.now) byte).next }
 {
@@ -73,18 +80,6 @@ fn within_byte(place: SlotPlace, content: Content, kind: Kind, word: &[u8], byte
             reference_end(place, content, kind, word, byte, again)
         }
     }
-}
-
-// After `</` in a text or a string, where the word has the letters so far.
-fn value_end_tag_byte(place: SlotPlace, content: Content, kind: Kind, word: &[u8], byte: u8) -> Move
-    ensures { moved result word.now
-        ≡ (value_end_tag_byte place content (reference_read (attribute_in kind word.now))
-        word.now byte).next }
-{
-    let kind = reference_read(kind);
-    let longer = in_value(Phase::ValueEndTag(place), content, kind, Word::Add(byte));
-    let again = value_byte(place, content, kind, word, byte);
-    held_end_tag_byte(content, word, longer, again, byte)
 }
 
 /// What the tokenizer does in text, in a value in quotes, and right before and after one.

@@ -1,25 +1,11 @@
 //! What a byte does in a DOCTYPE.
 ghost use Rattle.std.specs.Prelude.{◌≡◌, ℕ, List};
-ghost use Rattle.html_tokenizer.specs.Tokenizer.Doctypes.{
-  after_doctype_byte,
-  after_public_byte,
-  after_system_byte,
-  before_doctype_byte,
-  before_public_byte,
-  before_system_byte,
-  between_identifiers_byte,
-  doctype_byte,
-  doctype_end_byte,
-  doctype_keyword_byte,
-  is_identifier_error,
-  is_quote_mark,
-  public_byte,
-  system_byte,
-};
+ghost use Rattle.html_tokenizer.specs.Tokenizer.Doctypes.{after_doctype_byte, after_public_byte, after_system_byte, before_doctype_byte, before_public_byte, before_system_byte, between_identifiers_byte, doctype_byte, doctype_end_byte, doctype_keyword_byte, is_identifier_error, is_quote_mark, public_byte, system_byte};
 ghost use Rattle.html_tokenizer.specs.Tokenizer.Phases.{moved};
 
+use crate::elements::Content;
 use crate::slot_place::SlotPlace;
-use crate::states::{Content, Move, Phase, Word, goes, refuses, to};
+use crate::states::{Move, Phase, Word, goes, refuses, to};
 use crate::tags::is_space;
 
 fn is_quote_mark(byte: u8) -> bool

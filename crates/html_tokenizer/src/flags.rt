@@ -1,6 +1,6 @@
 //! What a byte is in a name and in a word of a script, as a table.
 ghost use Rattle.std.specs.Prelude.{◌≡◌};
-ghost use Rattle.html_tokenizer.specs.Tokenizer.CodeBytes.{is_name_byte};
+ghost use Rattle.html_tokenizer.specs.Tokenizer.Code.Words.{is_name_byte};
 ghost use Rattle.html_tokenizer.specs.Tokenizer.Stretches.{name_letter, stays_settled};
 
 // The bits of a byte: a name of a tag or an attribute goes on with it, it is of a word of a script, it is a

@@ -1,12 +1,6 @@
 //! The law of the tokenizer.
 ghost use Rattle.std.specs.Prelude.{◌≡◌};
-ghost use Rattle.hesc_specs.specs.Text.Ascii.{
-  carriage_return,
-  double_quote,
-  less_than,
-  line_feed,
-  single_quote,
-};
+ghost use Rattle.hesc_specs.specs.Text.Ascii.{carriage_return, double_quote, less_than, line_feed, single_quote};
 ghost use Rattle.hesc_grammars.specs.declared.place.End.{End};
 ghost use Rattle.hesc_grammars.specs.declared.place.Place.TheVariants as place;
 ghost use Rattle.html_tokenizer.specs.Agreement.{AgreesInString, AgreesUnquoted, AgreesWith};
@@ -14,7 +8,7 @@ ghost use Rattle.html_tokenizer.specs.Tokenizer.States.{BeforeValue, In, at};
 ghost use Rattle.html_tokenizer.specs.Tokenizer.Tokenization.{consume};
 ghost use Rattle.html_tokenizer.specs.declared.slot_place.SlotPlace.TheVariants as slot;
 
-use crate::states::Content;
+use crate::elements::Content;
 
 /// The tokenizer agrees with the grammars of the places in `hesc_grammars`: up to the mark at which a
 /// place's reading ends it stays in the value, and it reads the same value.

@@ -1,22 +1,25 @@
 //! The running tokenizer.
-ghost use Rattle.std.specs.Prelude.{◌≡◌, ◌≤◌, ◌<◌, ◌++◌, ◌∷◌, [], ◌↔◌, OnOk, IfOk, IsTrue, length, slice_index, take};
+pub(crate) mod names;
+pub(crate) mod stretches;
+
+ghost use Rattle.std.specs.Prelude.{◌≡◌, ◌≤◌, ◌↔◌, OnOk, IsTrue, length};
 ghost use Rattle.html_tokenizer.specs.Standing.{AfterStanding, is_refused, may_end, standing};
-ghost use Rattle.html_tokenizer.specs.Tokenizer.CodeStrings.{script_escape_byte};
-ghost use Rattle.html_tokenizer.specs.Tokenizer.Names.{reference_read};
+ghost use Rattle.html_tokenizer.specs.Tokenizer.Code.Strings.{script_escape_byte};
+ghost use Rattle.html_tokenizer.specs.Tokenizer.Attributes.{reference_read};
 ghost use Rattle.html_tokenizer.specs.Tokenizer.Phases.{IsBeforeName, IsNoScriptEscape, IsTextOrValue, ReadsOn, attribute_in, moved, tokenizer_of};
 ghost use Rattle.html_tokenizer.specs.Tokenizer.States.{at, data_state};
 ghost use Rattle.html_tokenizer.specs.Tokenizer.Tokenization.{consume, state_after};
-ghost use Rattle.html_tokenizer.specs.declared.states.OpenElement.TheVariants as element;
 ghost use Rattle.html_tokenizer.specs.declared.states.Kind.TheVariants as kind;
 ghost use Rattle.html_tokenizer.specs.declared.states.Phase.TheVariants as phase;
 
-use crate::code::is_opaque;
+use crate::code::escapes::is_opaque;
+use crate::code::strings::script_escape_byte;
 use crate::consume::{byte_in, first_byte, name_byte, text_or_value_byte};
-use crate::names::{MOST_LETTERS, begun_name, read_letters};
+use crate::elements::{Content, OpenElement};
+use crate::reader::names::{MOST_LETTERS, begun_name, read_letters};
+use crate::reader::stretches::{script_words, stretch, text_stretch};
 use crate::slot_place::SlotPlace;
-use crate::states::{Code, Content, Kind, Move, OpenElement, Phase, Word, goes, refuses};
-use crate::stretches::{script_words, stretch, text_stretch};
-use crate::strings::script_escape_byte;
+use crate::states::{Code, Kind, Move, Phase, Word, goes, refuses};
 use std::alloc::{AllocError, Allocator};
 
 /// Where a slot stands.

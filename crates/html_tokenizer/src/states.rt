@@ -3,81 +3,8 @@ ghost use Rattle.std.specs.Prelude.{◌≡◌, ℕ, List, []};
 ghost use Rattle.html_tokenizer.specs.Tokenizer.Phases.{attribute_in, moved, state_of, word_after};
 ghost use Rattle.html_tokenizer.specs.Tokenizer.States.{at, at_value, refused};
 
+use crate::elements::Content;
 use crate::slot_place::SlotPlace;
-
-/// How the content of the element that is open is read, and for a `meta`, an `svg` and a `math` its tag.
-#[derive(Clone, Copy, Debug, PartialEq, Eq)]
-pub enum OpenElement {
-    /// Text and elements.
-    Normal,
-    /// The content of an `svg`: text and elements.
-    Svg,
-    /// The content of a `math`: text and elements.
-    Math,
-    /// The content of a `select`: text and elements.
-    Select,
-    /// The content of a `noscript`: raw text where scripts run, and else text and elements.
-    NoScript,
-    /// Text, up to the end tag of `title`.
-    Title,
-    /// Text, up to the end tag of `textarea`.
-    Textarea,
-    /// A script in JavaScript.
-    Script,
-    /// The tag of a script in another language, which the Standard calls a data block.
-    DataBlock,
-    /// A style.
-    Style,
-    /// The text of an `iframe`.
-    Frame,
-    /// The tag of a `meta`.
-    Meta,
-    /// The same after a `content`.
-    MetaContent,
-    /// The same after an `http-equiv`.
-    MetaPragma,
-    /// The same after the `http-equiv` that says the type of the page.
-    MetaType,
-    /// The tag of an `svg`.
-    SvgTag,
-    /// In an `svg`, text up to the end tag of `title`.
-    SvgTitle,
-    /// In an `svg`, a style.
-    SvgStyle,
-    /// The tag of a `math`.
-    MathTag,
-    /// In a `math`, text up to the end tag of `mi`.
-    MathMi,
-    /// The same up to that of `mo`.
-    MathMo,
-    /// The same up to that of `mn`.
-    MathMn,
-    /// The same up to that of `ms`.
-    MathMs,
-    /// The same up to that of `mtext`.
-    MathMtext,
-    /// In a `noscript`, a style.
-    NoScriptStyle,
-    /// In a `noscript`, text up to the end tag of `iframe`.
-    NoScriptFrame,
-}
-
-/// What is open: an element whose content is read its own way, and templates.
-#[derive(Clone, Copy, Debug, PartialEq, Eq)]
-pub struct Content {
-    /// How the content is read.
-    pub element: OpenElement,
-    /// How many `template` elements are open.
-    pub templates: u8,
-}
-
-impl Content {
-    /// Text and elements, outside of templates.
-    pub const NORMAL: Content = Content {
-        element: OpenElement::Normal,
-        templates: 0,
-    };
-}
 
 /// Where the code of a script or a style is.
 #[derive(Clone, Copy, Debug, PartialEq, Eq)]

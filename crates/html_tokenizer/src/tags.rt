@@ -1,40 +1,19 @@
 //! What a byte does in a tag.
+pub(crate) mod end_tags;
+
 ghost use Rattle.std.specs.Prelude.{◌≡◌, ℕ, List};
-ghost use Rattle.html_tokenizer.specs.Tokenizer.Actions.{Action};
-ghost use Rattle.html_tokenizer.specs.Tokenizer.Names.{beside};
+ghost use Rattle.html_tokenizer.specs.Tokenizer.Elements.{beside};
 ghost use Rattle.html_tokenizer.specs.Tokenizer.Phases.{moved, state_of};
-ghost use Rattle.html_tokenizer.specs.Tokenizer.States.{State, Tokenizer, at};
-ghost use Rattle.html_tokenizer.specs.Tokenizer.Tags.{
-  after_name_byte,
-  after_value_byte,
-  attribute_name_byte,
-  before_name_byte,
-  closed_itself,
-  content_state,
-  end_tag_byte,
-  end_tag_name_byte,
-  end_tag_open_byte,
-  ends_name,
-  first_name_byte,
-  held_end_tag_byte,
-  holds_comments,
-  holds_markup,
-  in_tag,
-  is_name_error,
-  is_rcdata,
-  is_space,
-  opened,
-  self_closing_byte,
-  tag_name_byte,
-  tag_open_byte,
-};
+ghost use Rattle.html_tokenizer.specs.Tokenizer.States.{State, at};
+ghost use Rattle.html_tokenizer.specs.Tokenizer.Tags.{after_name_byte, after_value_byte, attribute_name_byte, before_name_byte, closed_itself, content_state, end_tag_byte, end_tag_name_byte, end_tag_open_byte, ends_name, first_name_byte, holds_comments, holds_markup, in_tag, is_name_error, is_space, opened, self_closing_byte, tag_name_byte, tag_open_byte};
 ghost use Rattle.html_tokenizer.specs.Tokenizer.Transitions.{Transition};
 
-use crate::attributes::{
-    beside, closed, content_of, ends_content, inside, is_appropriate, value_of, with_element,
+use crate::attributes::value_of;
+use crate::elements::{
+    Content, OpenElement, beside, closed, content_of, ends_content, inside, with_element,
 };
 use crate::slot_place::SlotPlace;
-use crate::states::{Code, Content, Move, OpenElement, Phase, Word, goes, refuses, to};
+use crate::states::{Code, Move, Phase, Word, goes, refuses, to};
 
 pub(crate) fn is_space(byte: u8) -> bool
     ensures { result ≡ is_space byte }
@@ -204,37 +183,6 @@ pub(crate) fn end_tag_name_byte(content: Content, name: &[u8], byte: u8) -> Move
             content,
             Word::Add(byte.to_ascii_lowercase()),
         )
-    }
-}
-
-/// Whether the content is text in which a `<` that begins no appropriate end tag is text.
-#[inline(always)]
-pub(crate) fn is_rcdata(element: OpenElement) -> bool
-    ensures { result ≡ is_rcdata element }
-{
-    matches!(element, OpenElement::Title | OpenElement::Textarea)
-}
-
-/// After `</` and letters, where one letter more leads to `longer` and the byte alone would lead on so.
-#[inline(always)]
-pub(crate) fn held_end_tag_byte(
-    content: Content,
-    word: &[u8],
-    longer: Move,
-    again: Move,
-    byte: u8,
-) -> Move
-    ensures { (ended : List Action) (u : Tokenizer) (given : ℕ → Action) (t : Transition)
-        → moved longer word.now ≡ u → moved again word.now ≡ t.next
-        → moved result word.now
-        ≡ (held_end_tag_byte content word.now ended u given t byte).next }
-{
-    if ends_name(byte) && is_appropriate(content.element, word) {
-        end_tag_byte(with_element(content, OpenElement::Normal), byte)
-    } else if byte.is_ascii_alphabetic() {
-        longer
-    } else {
-        again
     }
 }
 

@@ -1,22 +1,16 @@
 //! What a byte does in text and in the value of an attribute.
+pub(crate) mod legacy_names;
+pub(crate) mod references;
+
 ghost use Rattle.std.specs.Prelude.{◌≡◌, ℕ, List, []};
 ghost use Rattle.html_tokenizer.specs.Tokenizer.Phases.{attribute_in, moved, state_of};
 ghost use Rattle.html_tokenizer.specs.Tokenizer.Transitions.{goes, keeps};
-ghost use Rattle.html_tokenizer.specs.Tokenizer.Values.{
-  before_value_byte,
-  begins_character,
-  ended,
-  quoted_byte,
-  rcdata_end_tag_open_byte,
-  rcdata_less_byte,
-  text_byte,
-  unquoted_byte,
-  unquoted_value_byte,
-};
+ghost use Rattle.html_tokenizer.specs.Tokenizer.Values.{before_value_byte, begins_character, ended, quoted_byte, text_byte, unquoted_byte, unquoted_value_byte};
 
 use crate::attributes::{content_after, reference_read, value_byte_read};
+use crate::elements::Content;
 use crate::slot_place::SlotPlace;
-use crate::states::{Content, Kind, Move, Phase, Word, goes, in_value, refuses, to};
+use crate::states::{Kind, Move, Phase, Word, in_value, refuses, to};
 use crate::tags::{is_space, opened};
 
 /// A byte of a value as it stands.
@@ -53,26 +47,6 @@ pub(crate) fn text_byte(content: Content, kind: Kind, word: &[u8], byte: u8) -> 
         b'<' => to(Phase::TagOpen, content),
         b'&' => begins_character(SlotPlace::Text, content, kind),
         _ => keeps(SlotPlace::Text, content, kind, word, byte),
-    }
-}
-
-/// After a `<` of a `title` or `textarea`, but for a `/`.
-#[inline(always)]
-pub(crate) fn rcdata_less_byte(content: Content, word: &[u8], byte: u8) -> Move
-    ensures { moved result word.now ≡ (rcdata_less_byte content byte).next }
-{
-    text_byte(content, Kind::Ordinary, word, byte)
-}
-
-/// After `</` of a `title` or `textarea`.
-pub(crate) fn rcdata_end_tag_open_byte(content: Content, word: &[u8], byte: u8) -> Move
-    ensures { moved result word.now ≡ (rcdata_end_tag_open_byte content byte).next }
-{
-    if byte.is_ascii_alphabetic() {
-        let letter = Word::Begin(byte);
-        goes(Phase::ValueEndTag(SlotPlace::Text), content, letter)
-    } else {
-        text_byte(content, Kind::Ordinary, word, byte)
     }
 }
 

@@ -15,10 +15,10 @@ use Rattle.hesc_grammars.specs.ScriptStrings.{begins_line_end, lower_u, script_e
 use Rattle.hesc_grammars.proofs.Takes.{Takes, takes_character}
 use Rattle.html_tokenizer.specs.declared.slot_place.SlotPlace.{SlotPlace}
 use Rattle.html_tokenizer.specs.declared.slot_place.SlotPlace.TheVariants as slot
-use Rattle.html_tokenizer.specs.declared.states.Content.{Content}
+use Rattle.html_tokenizer.specs.declared.elements.Content.{Content}
 use Rattle.html_tokenizer.specs.Agreement.{AgreesInString}
 use Rattle.html_tokenizer.specs.Tokenizer.Actions.{read_byte}
-use Rattle.html_tokenizer.specs.Tokenizer.CodeBytes.{ends_line}
+use Rattle.html_tokenizer.specs.Tokenizer.Code.Comments.{ends_line}
 use Rattle.html_tokenizer.specs.Tokenizer.States.{In, at}
 use Rattle.html_tokenizer.specs.Tokenizer.Tokenization.{consume}
 use Rattle.html_tokenizer.proofs.Passing.{Passes}

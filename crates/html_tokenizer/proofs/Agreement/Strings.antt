@@ -15,15 +15,16 @@ use Rattle.hesc_grammars.specs.Reading.{reading_after}
 use Rattle.hesc_grammars.proofs.Takes.{Takes}
 use Rattle.html_tokenizer.specs.declared.slot_place.SlotPlace.{SlotPlace}
 use Rattle.html_tokenizer.specs.declared.states.Code.TheVariants as code
-use Rattle.html_tokenizer.specs.declared.states.Content.{Content}
-use Rattle.html_tokenizer.specs.declared.states.OpenElement.TheVariants.{Normal}
+use Rattle.html_tokenizer.specs.declared.elements.Content.{Content}
+use Rattle.html_tokenizer.specs.declared.elements.OpenElement.TheVariants.{Normal}
 use Rattle.html_tokenizer.specs.Agreement.{Ends, LeavesAt, LeavesEarly, LeavesString, is_given_up}
 use Rattle.html_tokenizer.specs.Tokenizer.Actions.{Action, NewEndTag, StringByte, StringEnd, TagNameByte, read_byte}
-use Rattle.html_tokenizer.specs.Tokenizer.CodeBytes.{less_byte, is_script}
-use Rattle.html_tokenizer.specs.Tokenizer.CodeStrings.{begins_comment, string_less_byte}
-use Rattle.html_tokenizer.specs.Tokenizer.Names.{with_element}
+use Rattle.html_tokenizer.specs.Tokenizer.Code.{less_byte, is_script}
+use Rattle.html_tokenizer.specs.Tokenizer.Code.Strings.{begins_comment, string_less_byte}
+use Rattle.html_tokenizer.specs.Tokenizer.Elements.{with_element}
 use Rattle.html_tokenizer.specs.Tokenizer.States.{Tokenizer, In, InCode, Ordinary, StringLess, ValueEndTag, at}
-use Rattle.html_tokenizer.specs.Tokenizer.Tags.{end_tag_byte, ends_name, exclamation_mark, held_end_tag_byte, is_appropriate}
+use Rattle.html_tokenizer.specs.Tokenizer.Tags.{end_tag_byte, ends_name, exclamation_mark}
+use Rattle.html_tokenizer.specs.Tokenizer.Tags.EndTags.{held_end_tag_byte, is_appropriate}
 use Rattle.html_tokenizer.specs.Tokenizer.Tokenization.{actions_of, consume, state_after}
 use Rattle.html_tokenizer.specs.Tokenizer.Transitions.{Transition, goes, reconsumes}
 use Rattle.html_tokenizer.proofs.Passing.{Passes, passes_none, passes_both, passes_byte, passes_one, state_after-append}

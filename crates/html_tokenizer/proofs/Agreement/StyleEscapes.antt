@@ -16,10 +16,10 @@ use Rattle.hesc_grammars.specs.StyleStrings.{begins_white_space, digits_escape, 
 use Rattle.hesc_grammars.proofs.Takes.{Takes, reads_character, takes_two}
 use Rattle.html_tokenizer.specs.declared.slot_place.SlotPlace.{SlotPlace}
 use Rattle.html_tokenizer.specs.declared.slot_place.SlotPlace.TheVariants as slot
-use Rattle.html_tokenizer.specs.declared.states.Content.{Content}
+use Rattle.html_tokenizer.specs.declared.elements.Content.{Content}
 use Rattle.html_tokenizer.specs.Agreement.{AgreesInString, LeavesEarly, is_given_up}
 use Rattle.html_tokenizer.specs.Tokenizer.Actions.{read_byte}
-use Rattle.html_tokenizer.specs.Tokenizer.CodeStrings.{gives_escape_up, is_escape_space}
+use Rattle.html_tokenizer.specs.Tokenizer.Code.Strings.{gives_escape_up, is_escape_space}
 use Rattle.html_tokenizer.specs.Tokenizer.States.{Tokenizer, In, Within, at}
 use Rattle.html_tokenizer.specs.Tokenizer.Tokenization.{consume, state_after}
 use Rattle.html_tokenizer.specs.Tokenizer.Transitions.{Transition, goes}

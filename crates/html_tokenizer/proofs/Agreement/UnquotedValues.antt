@@ -11,7 +11,7 @@ use Rattle.hesc_grammars.specs.Html.{ends_unquoted, is_unquoted_error, unquoted_
 use Rattle.hesc_grammars.specs.Words.{is_white_space}
 use Rattle.hesc_grammars.specs.Places.{end_byte}
 use Rattle.html_tokenizer.specs.declared.slot_place.SlotPlace.TheVariants.{Unquoted}
-use Rattle.html_tokenizer.specs.declared.states.Content.{Content}
+use Rattle.html_tokenizer.specs.declared.elements.Content.{Content}
 use Rattle.html_tokenizer.specs.Agreement.{AgreesUnquoted, Ends, HasReturn, StaysUnquoted}
 use Rattle.html_tokenizer.specs.Tokenizer.Actions.{read_byte}
 use Rattle.html_tokenizer.specs.Tokenizer.States.{State, BeforeValue, In, Ordinary, at}

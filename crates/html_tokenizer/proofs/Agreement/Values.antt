@@ -14,7 +14,7 @@ use Rattle.hesc_grammars.specs.Reading.{reading_after}
 use Rattle.hesc_grammars.specs.References.{body_character, reference}
 use Rattle.hesc_grammars.proofs.ReferenceBodies.{HasNoSemicolon, reference-body}
 use Rattle.hesc_grammars.proofs.Takes.{Takes, takes_character}
-use Rattle.html_tokenizer.specs.declared.states.Content.{Content}
+use Rattle.html_tokenizer.specs.declared.elements.Content.{Content}
 use Rattle.html_tokenizer.specs.declared.slot_place.SlotPlace.{SlotPlace}
 use Rattle.html_tokenizer.specs.Tokenizer.Actions.{read_byte}
 use Rattle.html_tokenizer.specs.Tokenizer.States.{State, In, Ordinary, at}

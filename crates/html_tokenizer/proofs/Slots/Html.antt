@@ -16,12 +16,12 @@ use Rattle.hesc_grammars.proofs.ReadBacks.{read_back-text, read_back-nul}
 use Rattle.hesc_grammars.proofs.ReferenceImages.{IsRead, reference_to_is_read, body_to, character_to}
 use Rattle.html_tokenizer.specs.declared.slot_place.SlotPlace.{SlotPlace}
 use Rattle.html_tokenizer.specs.declared.slot_place.SlotPlace.TheVariants as place
-use Rattle.html_tokenizer.specs.declared.states.Content.{Content}
+use Rattle.html_tokenizer.specs.declared.elements.Content.{Content}
 use Rattle.html_tokenizer.specs.Tokenizer.Actions.{read_byte}
 use Rattle.html_tokenizer.specs.Tokenizer.States.{State, In, Within, BeforeValue, Ordinary, at}
 use Rattle.html_tokenizer.specs.Tokenizer.Tokenization.{consume, value_byte}
 use Rattle.html_tokenizer.specs.Tokenizer.Transitions.{goes, keeps}
-use Rattle.html_tokenizer.specs.Tokenizer.References.{goes_on, reference_byte}
+use Rattle.html_tokenizer.specs.Tokenizer.Values.References.{goes_on, reference_byte}
 use Rattle.html_tokenizer.proofs.KnownReferences.{IsKnown, is_held, known}
 use Rattle.html_tokenizer.proofs.Passing.{Passes, passes_none, passes_both, passes_byte, passes_one}
 

@@ -12,10 +12,10 @@ use Rattle.hesc_specs.specs.declared.quotes.Quotes.TheVariants as quotes
 use Rattle.hesc_grammars.proofs.HexEscapes.{is_digit-hex_digit, digits_value-two_digits, two_digits}
 use Rattle.html_tokenizer.specs.declared.slot_place.SlotPlace.{SlotPlace}
 use Rattle.html_tokenizer.specs.declared.slot_place.SlotPlace.TheVariants as place
-use Rattle.html_tokenizer.specs.declared.states.Content.{Content}
+use Rattle.html_tokenizer.specs.declared.elements.Content.{Content}
 use Rattle.html_tokenizer.specs.Tokenizer.Actions.{Action, read_byte}
-use Rattle.html_tokenizer.specs.Tokenizer.CodeBytes.{ends_line}
-use Rattle.html_tokenizer.specs.Tokenizer.CodeStrings.{script_escape_byte}
+use Rattle.html_tokenizer.specs.Tokenizer.Code.Comments.{ends_line}
+use Rattle.html_tokenizer.specs.Tokenizer.Code.Strings.{script_escape_byte}
 use Rattle.html_tokenizer.specs.Tokenizer.States.{In, Within, Ordinary, at}
 use Rattle.html_tokenizer.specs.Tokenizer.Tokenization.{consume}
 use Rattle.html_tokenizer.specs.Tokenizer.Transitions.{goes}

@@ -5,9 +5,9 @@ use Rattle.std.proofs.lemmas.Str.{encode_ascii}
 use Rattle.hesc_specs.specs.Text.Ascii.{backslash, less_than}
 use Rattle.hesc_specs.proofs.Strings.CharacterBytes.{encode_two, encode_three, encode_four}
 use Rattle.html_tokenizer.specs.declared.slot_place.SlotPlace.{SlotPlace}
-use Rattle.html_tokenizer.specs.declared.states.Content.{Content}
+use Rattle.html_tokenizer.specs.declared.elements.Content.{Content}
 use Rattle.html_tokenizer.specs.Tokenizer.Actions.{Action, read_byte}
-use Rattle.html_tokenizer.specs.Tokenizer.CodeStrings.{string_byte}
+use Rattle.html_tokenizer.specs.Tokenizer.Code.Strings.{string_byte}
 use Rattle.html_tokenizer.specs.Tokenizer.States.{Tokenizer, In, Within, Ordinary, at}
 use Rattle.html_tokenizer.specs.Tokenizer.Tokenization.{consume}
 use Rattle.html_tokenizer.specs.Tokenizer.Transitions.{goes, keeps}

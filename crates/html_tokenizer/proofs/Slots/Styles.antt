@@ -18,9 +18,9 @@ use Rattle.hesc_grammars.specs.StyleStrings.{is_newline_or_nul}
 use Rattle.hesc_grammars.proofs.HexEscapes.{is_digit-hex_digit, digits_value-two_digits, two_digits}
 use Rattle.html_tokenizer.specs.declared.slot_place.SlotPlace.{SlotPlace}
 use Rattle.html_tokenizer.specs.declared.slot_place.SlotPlace.TheVariants as place
-use Rattle.html_tokenizer.specs.declared.states.Content.{Content}
+use Rattle.html_tokenizer.specs.declared.elements.Content.{Content}
 use Rattle.html_tokenizer.specs.Tokenizer.Actions.{read_byte}
-use Rattle.html_tokenizer.specs.Tokenizer.CodeStrings.{style_escape_byte, string_byte}
+use Rattle.html_tokenizer.specs.Tokenizer.Code.Strings.{style_escape_byte, string_byte}
 use Rattle.html_tokenizer.specs.Tokenizer.States.{In, Within, Ordinary, at}
 use Rattle.html_tokenizer.specs.Tokenizer.Tokenization.{consume}
 use Rattle.html_tokenizer.specs.Tokenizer.Transitions.{goes}

@@ -7,7 +7,7 @@ use Rattle.std.specs.Prelude.{ℕ, Bool, ◌||◌, List, [], ◌∷◌, ◌++◌
 use Rattle.std.specs.Char.{is_ascii_alphabetic, to_ascii_lowercase}
 use Rattle.hesc_specs.specs.Text.Ascii.{double_quote, single_quote, greater_than}
 use Rattle.html_tokenizer.specs.declared.slot_place.SlotPlace.TheVariants as place
-use Rattle.html_tokenizer.specs.declared.states.Content.{Content}
+use Rattle.html_tokenizer.specs.declared.elements.Content.{Content}
 use Rattle.html_tokenizer.specs.Tokenizer.Actions.{NewDoctype, SetPublicEmpty, PublicByte, SetSystemEmpty, SystemByte, EmitDoctype}
 use Rattle.html_tokenizer.specs.Tokenizer.States as state
 use Rattle.html_tokenizer.specs.Tokenizer.Tags.{is_space}

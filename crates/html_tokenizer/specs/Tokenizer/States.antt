@@ -5,9 +5,9 @@
 use Rattle.std.specs.Prelude.{ℕ, List}
 use Rattle.html_tokenizer.specs.declared.slot_place.SlotPlace.{SlotPlace}
 use Rattle.html_tokenizer.specs.declared.slot_place.SlotPlace.TheVariants as place
-use Rattle.html_tokenizer.specs.declared.states.Content.{Content}
+use Rattle.html_tokenizer.specs.declared.elements.Content.{Content}
 use Rattle.html_tokenizer.specs.declared.states.Code.{Code}
-use Rattle.html_tokenizer.specs.declared.states.OpenElement.TheVariants.{Normal}
+use Rattle.html_tokenizer.specs.declared.elements.OpenElement.TheVariants.{Normal}
 
 pub data State : Type 0 where
   -- 13.2.5.1 Data state, 13.2.5.2 RCDATA state, 13.2.5.36 to 13.2.5.38 Attribute value states; a string's value

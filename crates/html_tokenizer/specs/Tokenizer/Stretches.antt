@@ -11,9 +11,11 @@ use Rattle.html_tokenizer.specs.declared.states.Code.{Code}
 use Rattle.html_tokenizer.specs.declared.states.Code.TheVariants.{Plain, Name, LetterI, LettersIm, LettersImp, LettersImpo, LettersImpor, LetterF, LettersFr, LettersFro, LineComment, BlockComment, Url, Opaque, Escaped, DoubleEscaped}
 use Rattle.html_tokenizer.specs.declared.states.Kind.{Kind}
 use Rattle.html_tokenizer.specs.declared.states.Kind.TheVariants as kind
-use Rattle.html_tokenizer.specs.declared.states.OpenElement.{OpenElement}
-use Rattle.html_tokenizer.specs.declared.states.OpenElement.TheVariants.{Script, Style, Frame}
-use Rattle.html_tokenizer.specs.Tokenizer.CodeBytes.{asterisk, at_sign, closing_parenthesis, ends_line, is_name_byte, longer, lower_f, lower_i, opening_parenthesis}
+use Rattle.html_tokenizer.specs.declared.elements.OpenElement.{OpenElement}
+use Rattle.html_tokenizer.specs.declared.elements.OpenElement.TheVariants.{Script, Style, Frame}
+use Rattle.html_tokenizer.specs.Tokenizer.Code.Characters.{asterisk, at_sign, closing_parenthesis, lower_f, lower_i, opening_parenthesis}
+use Rattle.html_tokenizer.specs.Tokenizer.Code.Comments.{ends_line}
+use Rattle.html_tokenizer.specs.Tokenizer.Code.Words.{is_name_byte, longer}
 use Rattle.html_tokenizer.specs.Tokenizer.Comments.{dash}
 use Rattle.html_tokenizer.specs.Tokenizer.Tags.{is_space}
 

@@ -2,20 +2,22 @@
 -- HTML Standard, 13.2.5.6 to 13.2.5.8, 13.2.5.32 to 13.2.5.35, 13.2.5.39 and 13.2.5.40, where the bytes
 -- that the standard calls errors have no reading. A carriage return is white space: the standard
 -- makes it a line feed before it tokenizes (13.2.3.5).
-use Rattle.std.specs.Prelude.{ℕ, Bool, true, false, ◌&&◌, ◌||◌, List, [], ◌∷◌, ◌++◌, ◌==◌, Option, Some, None, if◌then◌else◌, bytes_eq, codes, map}
+pub mod EndTags
+use Rattle.std.specs.Prelude.{ℕ, Bool, true, false, ◌&&◌, ◌||◌, List, [], ◌∷◌, ◌++◌, ◌==◌, Option, Some, None, if◌then◌else◌}
 use Rattle.std.specs.Char.{is_ascii_alphabetic, to_ascii_lowercase}
 use Rattle.hesc_specs.specs.Text.Ascii.{carriage_return, double_quote, single_quote, slash, less_than, equals_sign, greater_than}
 use Rattle.hesc_grammars.specs.Words.{is_white_space}
 use Rattle.html_tokenizer.specs.declared.slot_place.SlotPlace.TheVariants as place
 use Rattle.html_tokenizer.specs.declared.states.Code.TheVariants.{Plain, Opaque}
-use Rattle.html_tokenizer.specs.declared.states.Content.{Content}
-use Rattle.html_tokenizer.specs.declared.states.OpenElement.{OpenElement}
-use Rattle.html_tokenizer.specs.declared.states.OpenElement.TheVariants.{Normal, Title, Textarea, Script, DataBlock, Style, Frame, SvgStyle, Svg, Math, Select, NoScript, NoScriptStyle, NoScriptFrame}
-use Rattle.html_tokenizer.specs.Tokenizer.Actions.{Action, NewStartTag, NewEndTag, TagNameByte, NewAttribute, NameByte, SetSelfClosing, EmitTag}
-use Rattle.html_tokenizer.specs.Tokenizer.Names.{beside, closed, content_of, ends_content, inside, value_of, with_element}
+use Rattle.html_tokenizer.specs.declared.elements.Content.{Content}
+use Rattle.html_tokenizer.specs.declared.elements.OpenElement.{OpenElement}
+use Rattle.html_tokenizer.specs.declared.elements.OpenElement.TheVariants.{Normal, Title, Textarea, Script, DataBlock, Style, Frame, SvgStyle, Svg, Math, Select, NoScript, NoScriptStyle, NoScriptFrame}
+use Rattle.html_tokenizer.specs.Tokenizer.Actions.{NewStartTag, NewEndTag, TagNameByte, NewAttribute, NameByte, SetSelfClosing, EmitTag}
+use Rattle.html_tokenizer.specs.Tokenizer.Attributes.{value_of}
+use Rattle.html_tokenizer.specs.Tokenizer.Elements.{beside, closed, content_of, ends_content, inside, with_element}
 use Rattle.html_tokenizer.specs.Tokenizer.States as state
-use Rattle.html_tokenizer.specs.Tokenizer.States.{State, Tokenizer}
-use Rattle.html_tokenizer.specs.Tokenizer.Transitions.{Transition, goes, moves, refuses, reconsumes}
+use Rattle.html_tokenizer.specs.Tokenizer.States.{State}
+use Rattle.html_tokenizer.specs.Tokenizer.Transitions.{Transition, goes, moves, refuses}
 
 -- white space, where a carriage return is a line feed
 abbrev pub is_space : ℕ → Bool
@@ -104,29 +106,6 @@ end_tag_name_byte content name b =
     if ends_name b then (if ends_content content.element name then end_tag_byte (closed content name) b else refuses)
     else (if b == 0 then refuses
     else goes (state.EndTagName (name ++ to_ascii_lowercase b ∷ [])) content (TagNameByte (to_ascii_lowercase b) ∷ []))
-
--- contents of text, in which a `<` that begins no appropriate end tag is text
-abbrev pub is_rcdata : OpenElement → Bool
-is_rcdata Title = true
-is_rcdata Textarea = true
-is_rcdata other = false
-
--- the appropriate end tag (13.2.5) of such text, and of code
-abbrev pub is_appropriate : OpenElement → List ℕ → Bool
-is_appropriate Title name = bytes_eq name (codes "title")
-is_appropriate Textarea name = bytes_eq name (codes "textarea")
-is_appropriate Script name = bytes_eq name (codes "script")
-is_appropriate Style name = bytes_eq name (codes "style")
-is_appropriate Frame name = bytes_eq name (codes "iframe")
-is_appropriate other name = false
-
--- after `</` and letters: the appropriate end tag, or one letter more, or these are given back before the byte
-abbrev pub held_end_tag_byte : Content → List ℕ → List Action → Tokenizer → (ℕ → Action) → Transition → ℕ → Transition
-held_end_tag_byte content word ended longer given again b =
-    if ends_name b && is_appropriate content.element (map to_ascii_lowercase word)
-    then reconsumes (ended ++ NewEndTag ∷ map (λ d. TagNameByte (to_ascii_lowercase d)) word) (end_tag_byte (with_element content Normal) b)
-    else (if is_ascii_alphabetic b then moves longer []
-    else reconsumes (map given (less_than ∷ slash ∷ word)) again)
 
 -- a byte that the standard calls an error in an attribute's name
 abbrev pub is_name_error : ℕ → Bool

@@ -3,17 +3,19 @@ use Rattle.std.specs.Prelude.{ℕ, List, [], ◌∷◌, ◌++◌, ◌==◌, if�
 use Rattle.hesc_specs.specs.Text.Ascii.{double_quote, single_quote, slash}
 use Rattle.html_tokenizer.specs.declared.slot_place.SlotPlace.{SlotPlace}
 use Rattle.html_tokenizer.specs.declared.slot_place.SlotPlace.TheVariants.{Text, DoubleQuoted, SingleQuoted, Unquoted, ScriptSingle, ScriptDouble, StyleSingle, StyleDouble}
-use Rattle.html_tokenizer.specs.declared.states.Content.{Content}
+use Rattle.html_tokenizer.specs.declared.elements.Content.{Content}
 use Rattle.html_tokenizer.specs.Tokenizer.Actions.{Action, read_byte, value_end}
-use Rattle.html_tokenizer.specs.Tokenizer.CodeBytes.{in_code_byte, code_less_byte, code_end_tag_byte, code_word_byte}
-use Rattle.html_tokenizer.specs.Tokenizer.CodeStrings.{script_string_byte, style_string_byte, string_less_byte, script_escape_byte, style_escape_byte}
+use Rattle.html_tokenizer.specs.Tokenizer.Code.{in_code_byte, code_less_byte, code_end_tag_byte, code_word_byte}
+use Rattle.html_tokenizer.specs.Tokenizer.Code.Strings.{script_string_byte, style_string_byte, string_less_byte, script_escape_byte, style_escape_byte}
 use Rattle.html_tokenizer.specs.Tokenizer.Comments.{declaration_byte, comment_start_byte, comment_start_dash_byte, comment_byte, comment_dash_byte, comment_end_byte}
 use Rattle.html_tokenizer.specs.Tokenizer.Doctypes.{before_doctype_byte, doctype_byte, after_doctype_byte, doctype_keyword_byte, before_public_byte, public_byte, after_public_byte, between_identifiers_byte, before_system_byte, system_byte, after_system_byte}
-use Rattle.html_tokenizer.specs.Tokenizer.Names.{reference_read}
-use Rattle.html_tokenizer.specs.Tokenizer.References.{reference_byte}
+use Rattle.html_tokenizer.specs.Tokenizer.Attributes.{reference_read}
+use Rattle.html_tokenizer.specs.Tokenizer.Values.References.{reference_byte}
 use Rattle.html_tokenizer.specs.Tokenizer.States as state
 use Rattle.html_tokenizer.specs.Tokenizer.States.{State, Attribute, Tokenizer, at_value}
-use Rattle.html_tokenizer.specs.Tokenizer.Tags.{tag_open_byte, end_tag_open_byte, tag_name_byte, end_tag_name_byte, end_tag_byte, before_name_byte, attribute_name_byte, after_name_byte, after_value_byte, self_closing_byte, held_end_tag_byte, is_rcdata}
+use Rattle.html_tokenizer.specs.Tokenizer.Tags.{tag_open_byte, end_tag_open_byte, tag_name_byte, end_tag_name_byte, end_tag_byte, before_name_byte, attribute_name_byte, after_name_byte, after_value_byte, self_closing_byte}
+use Rattle.html_tokenizer.specs.Tokenizer.Tags.EndTags.{held_end_tag_byte}
+use Rattle.html_tokenizer.specs.Tokenizer.Tags.EndTags.{is_rcdata}
 use Rattle.html_tokenizer.specs.Tokenizer.Transitions.{Transition, goes, refuses}
 use Rattle.html_tokenizer.specs.Tokenizer.Values.{text_byte, rcdata_less_byte, rcdata_end_tag_open_byte, quoted_byte, unquoted_value_byte, before_value_byte}
 

@@ -1,9 +1,9 @@
 -- What one byte does.
 use Rattle.std.specs.Prelude.{ℕ, List, [], ◌∷◌, ◌++◌}
 use Rattle.html_tokenizer.specs.declared.slot_place.SlotPlace.{SlotPlace}
-use Rattle.html_tokenizer.specs.declared.states.Content.{Content}
+use Rattle.html_tokenizer.specs.declared.elements.Content.{Content}
 use Rattle.html_tokenizer.specs.Tokenizer.Actions.{Action, read_byte}
-use Rattle.html_tokenizer.specs.Tokenizer.Names.{value_byte_read}
+use Rattle.html_tokenizer.specs.Tokenizer.Attributes.{value_byte_read}
 use Rattle.html_tokenizer.specs.Tokenizer.States.{State, In, Attribute, Tokenizer, at, at_value, refused}
 
 -- the tokenizer after a byte, and its actions at it

@@ -1,15 +1,17 @@
 -- What a byte does in text and in the value of an attribute.
 -- HTML Standard, 13.2.5.1 Data state, 13.2.5.2 RCDATA state, 13.2.5.9 to 13.2.5.11 and 13.2.5.35 to 13.2.5.39, where the bytes that
 -- the standard calls errors have no reading.
+pub mod LegacyNames
+pub mod References
 use Rattle.std.specs.Prelude.{ℕ, [], ◌∷◌, ◌==◌, Option, Some, None, if◌then◌else◌, encode_utf8, map}
 use Rattle.std.specs.Char.{is_ascii_alphabetic}
 use Rattle.hesc_specs.specs.Text.Ascii.{double_quote, single_quote, ampersand, slash, less_than, greater_than}
 use Rattle.hesc_grammars.specs.Html.{is_unquoted_error}
 use Rattle.html_tokenizer.specs.declared.slot_place.SlotPlace.{SlotPlace}
 use Rattle.html_tokenizer.specs.declared.slot_place.SlotPlace.TheVariants.{Text, DoubleQuoted, SingleQuoted, Unquoted}
-use Rattle.html_tokenizer.specs.declared.states.Content.{Content}
+use Rattle.html_tokenizer.specs.declared.elements.Content.{Content}
 use Rattle.html_tokenizer.specs.Tokenizer.Actions.{EmitByte, read_byte}
-use Rattle.html_tokenizer.specs.Tokenizer.Names.{content_after, reference_read}
+use Rattle.html_tokenizer.specs.Tokenizer.Attributes.{content_after, reference_read}
 use Rattle.html_tokenizer.specs.Tokenizer.States as state
 use Rattle.html_tokenizer.specs.Tokenizer.States.{Attribute, Ordinary, at_value}
 use Rattle.html_tokenizer.specs.Tokenizer.Tags.{is_space, opened}

@@ -1,6 +1,6 @@
 use Rattle.std.proofs.Common.{sym}
 use Rattle.hesc_grammars.specs.StyleStrings.{is_newline_or_nul}
-use Rattle.html_tokenizer.specs.Tokenizer.CodeBytes.{ends_line}
+use Rattle.html_tokenizer.specs.Tokenizer.Code.Comments.{ends_line}
 use Rattle.html_tokenizer.proofs.consume.value_byte.Goals as goal
 
 pub returns-in-ScriptSingle : goal.returns-in-ScriptSingle

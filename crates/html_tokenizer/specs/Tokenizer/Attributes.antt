@@ -1,0 +1,159 @@
+-- What the names of attributes, and the values of some of them, mean to the tokenizer.
+pub mod Encodings
+use Rattle.std.specs.Prelude.{ℕ, Bool, true, false, ◌||◌, not, List, [], ◌∷◌, ◌++◌, ◌+◌, ◌-◌, ◌==◌, Option, Some, None, if◌then◌else◌, bytes_eq, codes}
+use Rattle.std.specs.Char.{to_ascii_lowercase}
+use Rattle.hesc_specs.specs.Text.Ascii.{less_than, number_sign, slash}
+use Rattle.hesc_specs.specs.Text.Words.{begins}
+use Rattle.html_tokenizer.specs.declared.elements.Content.{Content}
+use Rattle.html_tokenizer.specs.declared.elements.OpenElement.{OpenElement}
+use Rattle.html_tokenizer.specs.declared.elements.OpenElement.TheVariants.{Script, DataBlock, Meta, MetaContent, MetaPragma, MetaType, NoScript, NoScriptStyle, NoScriptFrame}
+use Rattle.html_tokenizer.specs.Tokenizer.Attributes.Encodings.{is_utf_8, names_no_other}
+use Rattle.html_tokenizer.specs.Tokenizer.States.{Tokenizer, Attribute, Ordinary, Forbidden, Scheme, AfterScheme, AfterSlash, AfterSlashes, Host, ScriptType, Encoding, Pragma, PageType, Unread, Raw, BeforeValue, at_value, refused}
+use Rattle.html_tokenizer.specs.Tokenizer.Elements.{with_element}
+
+-- event handlers, styles and pages
+abbrev pub holds_language : List ℕ → Bool
+holds_language name =
+    begins (codes "on") name || bytes_eq name (codes "style") || bytes_eq name (codes "srcdoc")
+
+abbrev pub holds_url : List ℕ → Bool
+holds_url name =
+    bytes_eq name (codes "href") || bytes_eq name (codes "src") || bytes_eq name (codes "action") ||
+    bytes_eq name (codes "formaction") || bytes_eq name (codes "data") ||
+    bytes_eq name (codes "xlink:href") || bytes_eq name (codes "poster") || bytes_eq name (codes "ping")
+
+-- values that switch something on: a tree of code in a `template` (4.12.3), what an `embed` or an `object` runs,
+-- an encoding
+abbrev pub is_switch : List ℕ → Bool
+is_switch name =
+    bytes_eq name (codes "shadowrootmode") || bytes_eq name (codes "shadowroot") || bytes_eq name (codes "code") ||
+    bytes_eq name (codes "charset")
+
+abbrev pub attribute_of : List ℕ → Attribute
+attribute_of name =
+    if holds_language name || is_switch name then Forbidden
+    else (if holds_url name then Scheme []
+    else Ordinary)
+
+-- the attributes that say in which language a script is: 4.12.1.1 Processing model of script
+abbrev pub names_script_type : List ℕ → Bool
+names_script_type name = bytes_eq name (codes "type") || bytes_eq name (codes "language")
+
+-- the type of a script that is in JavaScript
+abbrev pub is_javascript : List ℕ → Bool
+is_javascript type =
+    bytes_eq type [] || bytes_eq type (codes "module") ||
+    bytes_eq type (codes "text/javascript") || bytes_eq type (codes "application/javascript")
+
+-- the attributes of a `meta` by which a page names its encoding, or has a header of its own: 4.2.5 The meta element
+abbrev pub is_charset : List ℕ → Bool
+is_charset name = bytes_eq name (codes "charset")
+
+abbrev pub is_http_equiv : List ℕ → Bool
+is_http_equiv name = bytes_eq name (codes "http-equiv")
+
+abbrev pub is_content : List ℕ → Bool
+is_content name = bytes_eq name (codes "content")
+
+abbrev pub is_script_tag : OpenElement → Bool
+is_script_tag Script = true
+is_script_tag DataBlock = true
+is_script_tag other = false
+
+-- after the `=` of an attribute whose value means the same in each element
+abbrev pub plain_value : Content → List ℕ → Tokenizer
+plain_value content name = at_value BeforeValue content (attribute_of name)
+
+abbrev pub forbidden_value : Content → Tokenizer
+forbidden_value content = at_value BeforeValue content Forbidden
+
+-- of a `meta` of which this is the value of `http-equiv`, of `content`, and else
+abbrev pub meta_value : Tokenizer → Tokenizer → Content → List ℕ → Tokenizer
+meta_value pragma described content name =
+    if is_charset name then at_value BeforeValue content (Encoding [])
+    else (if is_http_equiv name then pragma
+    else (if is_content name then described
+    else plain_value content name))
+
+-- in a `noscript`: a `meta` there would name an encoding, or have a header, where no scripts run alone
+abbrev pub raw_value : Content → List ℕ → Tokenizer
+raw_value content name = if is_charset name || is_http_equiv name then refused else at_value BeforeValue content Raw
+
+-- after the `=` of an attribute: a script is a data block unless its one type is JavaScript's; a `meta` has one
+-- `http-equiv`, and not after a `content`, which might hold a slot
+abbrev pub value_in : OpenElement → Content → List ℕ → Tokenizer
+value_in Script content name =
+    if bytes_eq name (codes "type") then at_value BeforeValue (with_element content DataBlock) (ScriptType [])
+    else (if names_script_type name then forbidden_value (with_element content DataBlock)
+    else plain_value content name)
+value_in DataBlock content name =
+    if names_script_type name then forbidden_value content else plain_value content name
+value_in Meta content name =
+    meta_value (at_value BeforeValue (with_element content MetaPragma) (Pragma [])) (plain_value (with_element content MetaContent) name) content name
+value_in MetaContent content name = meta_value refused (plain_value content name) content name
+value_in MetaPragma content name = meta_value refused (forbidden_value content) content name
+value_in MetaType content name = meta_value refused (at_value BeforeValue content (PageType [])) content name
+value_in NoScript content name = raw_value content name
+value_in NoScriptStyle content name = raw_value content name
+value_in NoScriptFrame content name = raw_value content name
+value_in other content name = plain_value content name
+
+abbrev pub value_of : Content → List ℕ → Tokenizer
+value_of content name = value_in content.element content name
+
+-- after the value of an attribute, if the profile has it
+abbrev pub content_after : Content → Attribute → Option Content
+content_after content (ScriptType type) = Some (if is_javascript type then with_element content Script else content)
+content_after content (Encoding label) = if is_utf_8 label then Some content else None
+content_after content (Pragma name) = Some (if bytes_eq name (codes "content-type") then with_element content MetaType else content)
+content_after content (PageType value) = if names_no_other value then Some content else None
+content_after content Unread = None
+content_after content other = Some content
+
+abbrev pub colon : ℕ
+colon = 58
+
+abbrev pub question_mark : ℕ
+question_mark = 63
+
+-- the bytes that end a host, and before which no scheme has ended
+abbrev pub begins_path : ℕ → Bool
+begins_path b = b == slash || b == question_mark || b == number_sign
+
+-- a URL of this scheme is what its host names, or no page
+abbrev pub scheme_end : List ℕ → Attribute
+scheme_end scheme =
+    if bytes_eq scheme (codes "https") || bytes_eq scheme (codes "http") then AfterScheme
+    else (if bytes_eq scheme (codes "mailto") || bytes_eq scheme (codes "tel") then Ordinary
+    else Forbidden)
+
+-- after one byte more of an attribute's value
+-- URL Standard, 4.4: before the first `:` the bytes are a scheme, unless `/`, `?` or `#` stands before
+-- it; after `http:` and `https:` come `//`, a host, and `/`, `?` or `#`
+abbrev pub value_byte_read : Attribute → ℕ → Attribute
+value_byte_read Ordinary b = Ordinary
+value_byte_read Forbidden b = Forbidden
+value_byte_read (Scheme scheme) b =
+    if begins_path b then Ordinary
+    else (if b == colon then scheme_end scheme
+    else Scheme (scheme ++ to_ascii_lowercase b ∷ []))
+value_byte_read AfterScheme b = if b == slash then AfterSlash else Forbidden
+value_byte_read AfterSlash b = if b == slash then AfterSlashes else Forbidden
+value_byte_read AfterSlashes b = if begins_path b then Forbidden else Host
+value_byte_read Host b = if begins_path b then Ordinary else Host
+value_byte_read (ScriptType type) b = ScriptType (type ++ to_ascii_lowercase b ∷ [])
+value_byte_read (Encoding label) b = Encoding (label ++ to_ascii_lowercase b ∷ [])
+value_byte_read (Pragma name) b = Pragma (name ++ to_ascii_lowercase b ∷ [])
+value_byte_read (PageType value) b = PageType (value ++ to_ascii_lowercase b ∷ [])
+value_byte_read Unread b = Unread
+value_byte_read Raw b = if b == less_than then Unread else Raw
+
+-- in a reference or an escape, whose character the profile does not add to what it holds of the value
+abbrev pub reference_read : Attribute → Attribute
+reference_read Ordinary = Ordinary
+reference_read (Encoding label) = Unread
+reference_read (Pragma name) = Unread
+reference_read (PageType value) = Unread
+reference_read Unread = Unread
+reference_read Raw = Raw
+reference_read other = Forbidden

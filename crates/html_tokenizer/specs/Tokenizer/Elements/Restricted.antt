@@ -1,0 +1,66 @@
+-- Which elements are taken in the contents of `svg`, `math`, `select` and `noscript`.
+use Rattle.std.specs.Prelude.{ℕ, Bool, ◌||◌, not, List, ◌-◌, Option, Some, None, if◌then◌else◌, bytes_eq, codes}
+use Rattle.html_tokenizer.specs.declared.elements.OpenElement.{OpenElement}
+use Rattle.html_tokenizer.specs.declared.elements.OpenElement.TheVariants.{Svg, SvgTitle, SvgStyle, Math, MathMi, MathMo, MathMn, MathMs, MathMtext, Select, NoScript, NoScriptStyle, NoScriptFrame}
+
+-- elements whose content the tree construction reads in ways of its own (13.2.6), which this profile leaves out
+abbrev pub is_left_out : List ℕ → Bool
+is_left_out name =
+    bytes_eq name (codes "xmp") || bytes_eq name (codes "plaintext") || bytes_eq name (codes "noembed") ||
+    bytes_eq name (codes "noframes") || bytes_eq name (codes "frameset")
+
+-- elements whose content is read in a way of its own in HTML, and not in the content of an `svg`, a `math` or a
+-- `select`
+abbrev pub is_read_apart : List ℕ → Bool
+is_read_apart name =
+    bytes_eq name (codes "script") || bytes_eq name (codes "style") || bytes_eq name (codes "title") ||
+    bytes_eq name (codes "textarea") || bytes_eq name (codes "svg") || bytes_eq name (codes "math") ||
+    bytes_eq name (codes "select") || bytes_eq name (codes "noscript") || bytes_eq name (codes "iframe") ||
+    is_left_out name
+
+-- a `meta` there is none or one that counts, and the content of `annotation-xml` may be HTML
+abbrev pub is_not_foreign : List ℕ → Bool
+is_not_foreign name = is_read_apart name || bytes_eq name (codes "meta") || bytes_eq name (codes "annotation-xml")
+
+-- elements of an `svg` with content in HTML, and those that set an attribute of another element or run
+abbrev pub is_left_out_of_svg : List ℕ → Bool
+is_left_out_of_svg name =
+    bytes_eq name (codes "foreignobject") || bytes_eq name (codes "desc") || bytes_eq name (codes "animate") ||
+    bytes_eq name (codes "animatemotion") || bytes_eq name (codes "animatetransform") ||
+    bytes_eq name (codes "set") || bytes_eq name (codes "handler")
+
+-- 13.2.6.5 The rules for parsing tokens in foreign content: an element of HTML, as `p`, makes a browser leave the
+-- `svg`, and so does the end of an element around it. No matter, since what is taken here is read alike in both:
+-- the text of a `title` and a `style` is the same there and in HTML
+abbrev pub in_svg : List ℕ → Option OpenElement
+in_svg name =
+    if bytes_eq name (codes "title") then Some SvgTitle
+    else (if bytes_eq name (codes "style") then Some SvgStyle
+    else (if is_not_foreign name || is_left_out_of_svg name then None
+    else Some Svg))
+
+-- the same of a `math`. The MathML text integration points (13.2.6) have text alone, since behind an element in
+-- them a browser passes over the end tag `math`
+abbrev pub in_math : List ℕ → Option OpenElement
+in_math name =
+    if bytes_eq name (codes "mi") then Some MathMi
+    else (if bytes_eq name (codes "mo") then Some MathMo
+    else (if bytes_eq name (codes "mn") then Some MathMn
+    else (if bytes_eq name (codes "ms") then Some MathMs
+    else (if bytes_eq name (codes "mtext") then Some MathMtext
+    else (if is_not_foreign name then None
+    else Some Math)))))
+
+-- the content of a `select`: browsers before 2025 drop most start tags in it, and others read them (13.2.6.4.7).
+-- No matter, since none of those is taken that would switch the tokenizer
+abbrev pub in_select : List ℕ → Option OpenElement
+in_select name = if is_read_apart name || bytes_eq name (codes "meta") then None else Some Select
+
+-- the content of a `noscript`, 13.2.6.4.4 and 13.2.6.4.7: raw text (13.2.5.3) where scripts run, and else markup.
+-- Taken is what ends at the same end tag in both
+abbrev pub in_noscript : List ℕ → Option OpenElement
+in_noscript name =
+    if bytes_eq name (codes "style") then Some NoScriptStyle
+    else (if bytes_eq name (codes "iframe") then Some NoScriptFrame
+    else (if is_read_apart name then None
+    else Some NoScript))

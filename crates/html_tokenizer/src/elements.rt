@@ -1,0 +1,277 @@
+//! How the content of each element is read, by the names of its tags.
+pub(crate) mod restricted;
+
+ghost use Rattle.std.specs.Prelude.{◌≡◌};
+ghost use Rattle.html_tokenizer.specs.Tokenizer.Elements.{around, beside, closed, content_of, element_of, ends_content, in_normal, inside, inside_element, is_meta, is_template, with_element};
+
+use crate::elements::restricted::{in_math, in_noscript, in_select, in_svg, is_left_out};
+
+/// How the content of the element that is open is read, and for a `meta`, an `svg` and a `math` its tag.
+#[derive(Clone, Copy, Debug, PartialEq, Eq)]
+pub enum OpenElement {
+    /// Text and elements.
+    Normal,
+    /// The content of an `svg`: text and elements.
+    Svg,
+    /// The content of a `math`: text and elements.
+    Math,
+    /// The content of a `select`: text and elements.
+    Select,
+    /// The content of a `noscript`: raw text where scripts run, and else text and elements.
+    NoScript,
+    /// Text, up to the end tag of `title`.
+    Title,
+    /// Text, up to the end tag of `textarea`.
+    Textarea,
+    /// A script in JavaScript.
+    Script,
+    /// The tag of a script in another language, which the Standard calls a data block.
+    DataBlock,
+    /// A style.
+    Style,
+    /// The text of an `iframe`.
+    Frame,
+    /// The tag of a `meta`.
+    Meta,
+    /// The same after a `content`.
+    MetaContent,
+    /// The same after an `http-equiv`.
+    MetaPragma,
+    /// The same after the `http-equiv` that says the type of the page.
+    MetaType,
+    /// The tag of an `svg`.
+    SvgTag,
+    /// In an `svg`, text up to the end tag of `title`.
+    SvgTitle,
+    /// In an `svg`, a style.
+    SvgStyle,
+    /// The tag of a `math`.
+    MathTag,
+    /// In a `math`, text up to the end tag of `mi`.
+    MathMi,
+    /// The same up to that of `mo`.
+    MathMo,
+    /// The same up to that of `mn`.
+    MathMn,
+    /// The same up to that of `ms`.
+    MathMs,
+    /// The same up to that of `mtext`.
+    MathMtext,
+    /// In a `noscript`, a style.
+    NoScriptStyle,
+    /// In a `noscript`, text up to the end tag of `iframe`.
+    NoScriptFrame,
+}
+
+/// What is open: an element whose content is read its own way, and templates.
+#[derive(Clone, Copy, Debug, PartialEq, Eq)]
+pub struct Content {
+    /// How the content is read.
+    pub element: OpenElement,
+    /// How many `template` elements are open.
+    pub templates: u8,
+}
+
+impl Content {
+    /// Text and elements, outside of templates.
+    pub const NORMAL: Content = Content {
+        element: OpenElement::Normal,
+        templates: 0,
+    };
+}
+
+fn in_normal(name: &[u8]) -> Option<OpenElement>
+    ensures { result ≡ in_normal name.now }
+{
+    if name == b"script".as_slice() {
+        Some(OpenElement::Script)
+    } else if name == b"style".as_slice() {
+        Some(OpenElement::Style)
+    } else if name == b"title".as_slice() {
+        Some(OpenElement::Title)
+    } else if name == b"textarea".as_slice() {
+        Some(OpenElement::Textarea)
+    } else if name == b"meta".as_slice() {
+        Some(OpenElement::Meta)
+    } else if name == b"svg".as_slice() {
+        Some(OpenElement::SvgTag)
+    } else if name == b"math".as_slice() {
+        Some(OpenElement::MathTag)
+    } else if name == b"select".as_slice() {
+        Some(OpenElement::Select)
+    } else if name == b"noscript".as_slice() {
+        Some(OpenElement::NoScript)
+    } else if name == b"iframe".as_slice() {
+        Some(OpenElement::Frame)
+    } else if is_left_out(name) {
+        None
+    } else {
+        Some(OpenElement::Normal)
+    }
+}
+
+fn element_of(element: OpenElement, name: &[u8]) -> Option<OpenElement>
+    ensures { result ≡ element_of element name.now }
+{
+    match element {
+        OpenElement::Svg => in_svg(name),
+        OpenElement::Math => in_math(name),
+        OpenElement::Select => in_select(name),
+        OpenElement::NoScript => in_noscript(name),
+        _ => in_normal(name),
+    }
+}
+
+fn is_template(name: &[u8]) -> bool
+    ensures { result ≡ is_template name.now }
+{
+    name == b"template".as_slice()
+}
+
+/// The same with another element.
+pub(crate) fn with_element(content: Content, element: OpenElement) -> Content
+    ensures { result ≡ with_element content element }
+{
+    Content { element, ..content }
+}
+
+/// What is open after the name of a start tag, if the profile has the element there.
+#[inline(always)]
+pub(crate) fn content_of(content: Content, name: &[u8]) -> Option<Content>
+    ensures { result ≡ content_of content name.now }
+{
+    match content.element {
+        // Most names, and none of those that are asked for in a normal content.
+        OpenElement::Normal if name.len() < 3 => Some(with_element(content, OpenElement::Normal)),
+        _ => content_of_long(content, name),
+    }
+}
+
+fn content_of_long(content: Content, name: &[u8]) -> Option<Content>
+    ensures { result ≡ content_of content name.now }
+{
+    if is_template(name) {
+        if content.element != OpenElement::Normal || content.templates == u8::MAX {
+            return None;
+        }
+        let templates = content.templates + 1;
+        Some(Content {
+            templates,
+            ..content
+        })
+    } else if content.templates != 0 && name == b"col".as_slice() {
+        None
+    } else {
+        match element_of(content.element, name) {
+            Some(element) => Some(with_element(content, element)),
+            None => None,
+        }
+    }
+}
+
+pub(crate) fn is_meta(element: OpenElement) -> bool
+    ensures { result ≡ is_meta element }
+{
+    matches!(
+        element,
+        OpenElement::Meta
+            | OpenElement::MetaContent
+            | OpenElement::MetaPragma
+            | OpenElement::MetaType
+    )
+}
+
+fn inside_element(element: OpenElement) -> OpenElement
+    ensures { result ≡ inside_element element }
+{
+    match element {
+        OpenElement::Meta
+        | OpenElement::MetaContent
+        | OpenElement::MetaPragma
+        | OpenElement::MetaType => OpenElement::Normal,
+        OpenElement::DataBlock => OpenElement::Script,
+        OpenElement::SvgTag => OpenElement::Svg,
+        OpenElement::MathTag => OpenElement::Math,
+        _ => element,
+    }
+}
+
+/// What is open after the `>` of a start tag.
+#[inline(always)]
+pub(crate) fn inside(content: Content) -> Content
+    ensures { result ≡ inside content }
+{
+    with_element(content, inside_element(content.element))
+}
+
+/// How it is read after the `/>` of a start tag, if the profile has it there.
+pub(crate) fn beside(element: OpenElement) -> Option<OpenElement>
+    ensures { result ≡ beside element }
+{
+    match element {
+        OpenElement::SvgTag | OpenElement::MathTag => Some(OpenElement::Normal),
+        OpenElement::SvgTitle | OpenElement::SvgStyle => None,
+        OpenElement::MathMi
+        | OpenElement::MathMo
+        | OpenElement::MathMn
+        | OpenElement::MathMs
+        | OpenElement::MathMtext => Some(OpenElement::Math),
+        _ => Some(inside_element(element)),
+    }
+}
+
+/// Whether an end tag of this name ends the content.
+#[inline(always)]
+pub(crate) fn ends_content(element: OpenElement, name: &[u8]) -> bool
+    ensures { result ≡ ends_content element name.now }
+{
+    match element {
+        OpenElement::Title | OpenElement::SvgTitle => name == b"title".as_slice(),
+        OpenElement::Textarea => name == b"textarea".as_slice(),
+        OpenElement::Script => name == b"script".as_slice(),
+        OpenElement::Style | OpenElement::SvgStyle => name == b"style".as_slice(),
+        OpenElement::Frame => name == b"iframe".as_slice(),
+        OpenElement::MathMi => name == b"mi".as_slice(),
+        OpenElement::MathMo => name == b"mo".as_slice(),
+        OpenElement::MathMn => name == b"mn".as_slice(),
+        OpenElement::MathMs => name == b"ms".as_slice(),
+        OpenElement::MathMtext => name == b"mtext".as_slice(),
+        OpenElement::NoScript => !is_template(name),
+        OpenElement::NoScriptStyle => name == b"style".as_slice(),
+        OpenElement::NoScriptFrame => name == b"iframe".as_slice(),
+        _ => true,
+    }
+}
+
+fn around(element: OpenElement, name: &[u8]) -> OpenElement
+    ensures { result ≡ around element name.now }
+{
+    match element {
+        OpenElement::Svg if name != b"svg".as_slice() => OpenElement::Svg,
+        OpenElement::SvgTitle | OpenElement::SvgStyle => OpenElement::Svg,
+        OpenElement::Math if name != b"math".as_slice() => OpenElement::Math,
+        OpenElement::Select if name != b"select".as_slice() => OpenElement::Select,
+        OpenElement::NoScript if name != b"noscript".as_slice() => OpenElement::NoScript,
+        OpenElement::NoScriptStyle | OpenElement::NoScriptFrame => OpenElement::NoScript,
+        OpenElement::MathMi
+        | OpenElement::MathMo
+        | OpenElement::MathMn
+        | OpenElement::MathMs
+        | OpenElement::MathMtext => OpenElement::Math,
+        _ => OpenElement::Normal,
+    }
+}
+
+/// What is open after the name of an end tag.
+#[inline(always)]
+pub(crate) fn closed(content: Content, name: &[u8]) -> Content
+    ensures { result ≡ closed content name.now }
+{
+    let templates = if content.templates != 0 && is_template(name) {
+        content.templates - 1
+    } else {
+        content.templates
+    };
+    let element = around(content.element, name);
+    Content { element, templates }
+}

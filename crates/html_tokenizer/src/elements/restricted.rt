@@ -1,0 +1,106 @@
+//! Which elements are taken in the contents of `svg`, `math`, `select` and `noscript`.
+ghost use Rattle.std.specs.Prelude.{◌≡◌};
+ghost use Rattle.html_tokenizer.specs.Tokenizer.Elements.Restricted.{in_math, in_noscript, in_select, in_svg, is_left_out, is_left_out_of_svg, is_not_foreign, is_read_apart};
+
+use crate::elements::OpenElement;
+
+pub(crate) fn is_left_out(name: &[u8]) -> bool
+    ensures { result ≡ is_left_out name.now }
+{
+    name == b"xmp".as_slice()
+        || name == b"plaintext".as_slice()
+        || name == b"noembed".as_slice()
+        || name == b"noframes".as_slice()
+        || name == b"frameset".as_slice()
+}
+
+fn is_read_apart(name: &[u8]) -> bool
+    ensures { result ≡ is_read_apart name.now }
+{
+    name == b"script".as_slice()
+        || name == b"style".as_slice()
+        || name == b"title".as_slice()
+        || name == b"textarea".as_slice()
+        || name == b"svg".as_slice()
+        || name == b"math".as_slice()
+        || name == b"select".as_slice()
+        || name == b"noscript".as_slice()
+        || name == b"iframe".as_slice()
+        || is_left_out(name)
+}
+
+fn is_not_foreign(name: &[u8]) -> bool
+    ensures { result ≡ is_not_foreign name.now }
+{
+    is_read_apart(name) || name == b"meta".as_slice() || name == b"annotation-xml".as_slice()
+}
+
+fn is_left_out_of_svg(name: &[u8]) -> bool
+    ensures { result ≡ is_left_out_of_svg name.now }
+{
+    name == b"foreignobject".as_slice()
+        || name == b"desc".as_slice()
+        || name == b"animate".as_slice()
+        || name == b"animatemotion".as_slice()
+        || name == b"animatetransform".as_slice()
+        || name == b"set".as_slice()
+        || name == b"handler".as_slice()
+}
+
+pub(crate) fn in_svg(name: &[u8]) -> Option<OpenElement>
+    ensures { result ≡ in_svg name.now }
+{
+    if name == b"title".as_slice() {
+        Some(OpenElement::SvgTitle)
+    } else if name == b"style".as_slice() {
+        Some(OpenElement::SvgStyle)
+    } else if is_not_foreign(name) || is_left_out_of_svg(name) {
+        None
+    } else {
+        Some(OpenElement::Svg)
+    }
+}
+
+pub(crate) fn in_math(name: &[u8]) -> Option<OpenElement>
+    ensures { result ≡ in_math name.now }
+{
+    if name == b"mi".as_slice() {
+        Some(OpenElement::MathMi)
+    } else if name == b"mo".as_slice() {
+        Some(OpenElement::MathMo)
+    } else if name == b"mn".as_slice() {
+        Some(OpenElement::MathMn)
+    } else if name == b"ms".as_slice() {
+        Some(OpenElement::MathMs)
+    } else if name == b"mtext".as_slice() {
+        Some(OpenElement::MathMtext)
+    } else if is_not_foreign(name) {
+        None
+    } else {
+        Some(OpenElement::Math)
+    }
+}
+
+pub(crate) fn in_select(name: &[u8]) -> Option<OpenElement>
+    ensures { result ≡ in_select name.now }
+{
+    if is_read_apart(name) || name == b"meta".as_slice() {
+        None
+    } else {
+        Some(OpenElement::Select)
+    }
+}
+
+pub(crate) fn in_noscript(name: &[u8]) -> Option<OpenElement>
+    ensures { result ≡ in_noscript name.now }
+{
+    if name == b"style".as_slice() {
+        Some(OpenElement::NoScriptStyle)
+    } else if name == b"iframe".as_slice() {
+        Some(OpenElement::NoScriptFrame)
+    } else if is_read_apart(name) {
+        None
+    } else {
+        Some(OpenElement::NoScript)
+    }
+}

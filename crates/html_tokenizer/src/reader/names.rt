@@ -1,0 +1,76 @@
+//! Names and references: the bytes with which they go on, held on the stack.
+ghost use Rattle.std.specs.Prelude.{◌≡◌, ◌≤◌, ◌+◌, ◌++◌, ◌∷◌, [], ℕ, List, length, take, IfSome};
+ghost use Rattle.html_tokenizer.specs.Tokenizer.Phases.{IsInName, moved, state_of};
+ghost use Rattle.html_tokenizer.specs.Tokenizer.States.{at};
+ghost use Rattle.html_tokenizer.specs.Tokenizer.Tokenization.{consume, state_after};
+ghost use Rattle.html_tokenizer.specs.declared.elements.Content.{Content};
+
+use crate::flags::name_letter;
+use crate::slot_place::SlotPlace;
+use crate::states::{Kind, Move, Phase, Word};
+
+/// How many letters of a name or of a reference are read at once.
+pub(crate) const MOST_LETTERS: usize = 32;
+
+/// Where a move begins a name, the state of the name and its first letter.
+#[inline(always)]
+pub(crate) fn begun_name(next: Move) -> Option<(Phase, u8)>
+    ensures begins { IfSome result (λ begun. (held : List ℕ) → moved next held
+        ≡ at (state_of begun.0 (begun.1 ∷ [])) next.content) }
+    ensures name { IfSome result (λ begun. IsInName begun.0) }
+{
+    match (next.word, next.kind, next.phase) {
+        (Word::Begin(letter), Kind::Ordinary, Phase::TagName | Phase::EndTagName | Phase::Name) => {
+            Some((next.phase, letter))
+        }
+        _ => None,
+    }
+}
+
+// The byte as a name or a reference holds it, if it goes on with the byte.
+#[inline(always)]
+#[tactic(auto, unfolding(crate::specs::Tokenizer::Tokenization::consume))]
+fn held_letter(phase: Phase, byte: u8) -> Option<u8>
+    ensures { IfSome result (λ letter. (content : Content) (word : List ℕ)
+        → (consume (at (state_of phase word) content) byte).next
+        ≡ at (state_of phase (word ++ letter ∷ [])) content) }
+{
+    match phase {
+        Phase::TagName | Phase::EndTagName | Phase::Name => name_letter(byte),
+        Phase::Within(
+            SlotPlace::Text
+            | SlotPlace::DoubleQuoted
+            | SlotPlace::SingleQuoted
+            | SlotPlace::Unquoted,
+        ) if byte.is_ascii_alphanumeric() => Some(byte),
+        _ => None,
+    }
+}
+
+/// Reads on in a name or a reference, in a state that holds one, over these bytes, and answers over how
+/// many: to its end, or as many as there is room for behind those letters that are read already.
+#[inline(always)]
+pub(crate) fn read_letters(
+    phase: Phase,
+    bytes: &[u8],
+    letters: &mut [u8; MOST_LETTERS],
+    already: usize,
+) -> usize
+    requires { already ≤ 32 }
+    ensures within { result ≤ length bytes.now }
+    ensures room { already + result ≤ 32 }
+    ensures read { (content : Content) (word : List ℕ)
+        → state_after (at (state_of phase (word ++ take already letters.old)) content)
+        (take result bytes.now)
+        ≡ at (state_of phase (word ++ take (already + result) letters.new)) content }
+{
+    let mut count = 0;
+    'letters: while count < bytes.len() && count < MOST_LETTERS - already {
+        let Some(letter) = held_letter(phase, bytes[count]) else {
+            return count;
+        };
+        letters[already + count] = letter;
+        count += 1;
+    }
+    count
+}

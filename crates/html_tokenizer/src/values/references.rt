@@ -1,0 +1,103 @@
+//! What a byte does in a character reference, and after a `&` that begins none.
+ghost use Rattle.std.specs.Prelude.{◌≡◌, bytes_eq};
+ghost use Rattle.std.specs.List.{list_any};
+ghost use Rattle.std.specs.Option.{is_some};
+ghost use Rattle.hesc_specs.specs.Text.Words.{begins};
+ghost use Rattle.html_tokenizer.specs.Tokenizer.Attributes.{reference_read};
+ghost use Rattle.html_tokenizer.specs.Tokenizer.Phases.{attribute_in, moved};
+ghost use Rattle.html_tokenizer.specs.Tokenizer.Values.References.{begins_with_legacy, goes_on, is_legacy, named_characters, reference_end, unnamed_end};
+ghost use Rattle.html_tokenizer.specs.Tokenizer.Transitions.{Transition};
+
+use crate::attributes::reference_read;
+use crate::elements::Content;
+use crate::slot_place::SlotPlace;
+use crate::states::{Kind, Move, Phase, Word, in_value, refuses};
+use crate::values::legacy_names::LEGACY_NAMES;
+use hesc_grammars::references::body_character;
+use html_entities::html_entities;
+
+/// Whether a reference may go on with the byte after the word.
+#[inline(always)]
+pub(crate) fn goes_on(word: &[u8], byte: u8) -> bool
+    ensures { result ≡ goes_on word.now byte }
+{
+    byte.is_ascii_alphanumeric() || (byte == b'#' && word.is_empty())
+}
+
+// Whether it is a name of HTML's that a `;` ends.
+fn is_named(name: &[u8]) -> bool
+    ensures { result ≡ is_some (named_characters name.now) }
+{
+    html_entities().get(name).is_some()
+}
+
+// Whether the word begins with the name.
+fn begins(word: &[u8], name: &[u8]) -> bool
+    ensures { result ≡ begins name.now word.now }
+{
+    word.starts_with(name)
+}
+
+fn begins_with_one(names: &[&[u8]], word: &[u8]) -> bool
+    ensures { result ≡ list_any (λ name. begins name.now word.now) names.now }
+{
+    names.iter().any(|name| begins(word, name))
+}
+
+fn is_one(names: &[&[u8]], word: &[u8]) -> bool
+    ensures { result ≡ list_any (λ name. bytes_eq name.now word.now) names.now }
+{
+    names.iter().any(|name| *name == word)
+}
+
+fn begins_with_legacy(word: &[u8]) -> bool
+    ensures { result ≡ begins_with_legacy word.now }
+{
+    begins_with_one(&LEGACY_NAMES, word)
+}
+
+fn is_legacy(word: &[u8]) -> bool
+    ensures { result ≡ is_legacy word.now }
+{
+    is_one(&LEGACY_NAMES, word)
+}
+
+// After a word that is no name with its `;`: what the Standard calls an error is refused.
+fn unnamed_end(place: SlotPlace, word: &[u8], byte: u8, again: Move) -> Move
+    ensures { (t : Transition) → moved again word.now ≡ t.next
+        → moved result word.now ≡ (unnamed_end place word.now byte t).next }
+{
+    let is_error = if begins_with_legacy(word) {
+        place == SlotPlace::Text || (is_legacy(word) && byte != b'=')
+    } else {
+        byte == b';'
+    };
+    if is_error { refuses() } else { again }
+}
+
+/// Where a reference ends, and the byte alone would lead on so.
+pub(crate) fn reference_end(
+    place: SlotPlace,
+    content: Content,
+    kind: Kind,
+    word: &[u8],
+    byte: u8,
+    again: Move,
+) -> Move
+    ensures { (t : Transition) → moved again word.now ≡ t.next
+        → moved result word.now
+        ≡ (reference_end place content (reference_read (attribute_in kind word.now))
+        word.now byte t).next }
+{
+    let is_read = match word {
+        [] => return again,
+        [b'#', ..] => byte == b';' && body_character(word).is_some(),
+        _ if byte == b';' && is_named(word) => true,
+        _ => return unnamed_end(place, word, byte, again),
+    };
+    if is_read {
+        in_value(Phase::In(place), content, reference_read(kind), Word::New)
+    } else {
+        refuses()
+    }
+}
