@@ -5,5 +5,6 @@ pub mod Passing
 pub mod SettledWords
 pub mod ShortNames
 pub mod Staying
+pub mod Stretches
 pub mod Slots
 pub mod Agreement

@@ -11,6 +11,8 @@ use Rattle.html_tokenizer.specs.declared.states.Code.{Code}
 use Rattle.html_tokenizer.specs.declared.states.Code.TheVariants.{Plain, Name, LetterI, LettersIm, LettersImp, LettersImpo, LettersImpor, LetterF, LettersFr, LettersFro, LineComment, BlockComment, Url, Opaque, Escaped, DoubleEscaped}
 use Rattle.html_tokenizer.specs.declared.states.Kind.{Kind}
 use Rattle.html_tokenizer.specs.declared.states.Kind.TheVariants as kind
+use Rattle.html_tokenizer.specs.declared.states.Phase.{Phase}
+use Rattle.html_tokenizer.specs.declared.states.Phase.TheVariants as phase
 use Rattle.html_tokenizer.specs.declared.elements.OpenElement.{OpenElement}
 use Rattle.html_tokenizer.specs.declared.elements.OpenElement.TheVariants.{Script, Style, Frame}
 use Rattle.html_tokenizer.specs.Tokenizer.Code.Characters.{asterisk, at_sign, closing_parenthesis, lower_f, lower_i, opening_parenthesis}
@@ -34,7 +36,7 @@ leaves_value ScriptDouble b = ends_string ends_line double_quote b
 leaves_value StyleSingle b = ends_string is_newline_or_nul single_quote b
 leaves_value StyleDouble b = ends_string is_newline_or_nul double_quote b
 
--- in code that is gone over byte by byte
+-- in code
 abbrev pub leaves_code : OpenElement → Code → ℕ → Bool
 leaves_code Script LineComment b = ends_line b || b == 0xE2 || b == less_than
 leaves_code Style Plain b =
@@ -50,18 +52,30 @@ leaves_code Style Opaque b = b == less_than
 leaves_code Frame Opaque b = b == less_than
 leaves_code other code b = true
 
--- code and values for which a loop asks of each byte, and those through which a search goes
-abbrev pub is_gone_over : OpenElement → Code → Bool
-is_gone_over Script LineComment = true
-is_gone_over Style Plain = true
-is_gone_over Style Url = true
-is_gone_over other code = false
+-- the bytes that end a stretch in a state
+abbrev pub leaves : OpenElement → Phase → ℕ → Bool
+leaves element (phase.In p) b = leaves_value p b
+leaves element (phase.InCode code) b = leaves_code element code b
+leaves element other b = true
+
+-- code that is scanned byte by byte, and values through which a search goes
+abbrev pub is_scanned_code : OpenElement → Code → Bool
+is_scanned_code Script LineComment = true
+is_scanned_code Style Plain = true
+is_scanned_code Style Url = true
+is_scanned_code other code = false
 
 abbrev pub is_searched : SlotPlace → Bool
 is_searched Text = true
 is_searched DoubleQuoted = true
 is_searched SingleQuoted = true
 is_searched other = false
+
+-- states that are scanned byte by byte
+abbrev pub is_scanned : OpenElement → Phase → Bool
+is_scanned element (phase.In p) = not (is_searched p)
+is_scanned element (phase.InCode code) = is_scanned_code element code
+is_scanned element other = false
 
 -- a value whose bytes do not tell what it means
 abbrev pub IsSettled : Kind → Type 0

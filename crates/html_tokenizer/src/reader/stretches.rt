@@ -1,20 +1,17 @@
-//! Stretches of bytes at which the tokenizer stays where it is.
-//!
-//! Of values and code a stretch goes up to the first byte that leads elsewhere.
-ghost use Rattle.std.specs.Prelude.{◌≡◌, ◌≤◌, ◌<◌, ◌==◌, ℕ, List, None, length, slice_index, take, IsTrue, false, not, true};
+//! Stretches of bytes at which the tokenizer stays where it is, up to the first byte that leads elsewhere.
+ghost use Rattle.std.specs.Prelude.{◌≡◌, ◌≤◌, ◌<◌, ◌==◌, ◌||◌, ℕ, List, None, length, slice_index, take, true};
 ghost use Rattle.hesc_specs.specs.Text.FirstPlace.{IsFirstPlace};
 ghost use Rattle.html_tokenizer.specs.Tokenizer.Comments.{dash};
-ghost use Rattle.html_tokenizer.specs.Tokenizer.Attributes.{value_byte_read};
 ghost use Rattle.html_tokenizer.specs.Tokenizer.Phases.{attribute_in, state_of};
-ghost use Rattle.html_tokenizer.specs.Tokenizer.States.{Attribute, In, InCode, at, at_value};
-ghost use Rattle.html_tokenizer.specs.Tokenizer.Stretches.{IsSettled, is_gone_over, is_searched, leaves_code, leaves_value, settled, word_after};
-ghost use Rattle.html_tokenizer.specs.Tokenizer.Tokenization.{consume, state_after};
+ghost use Rattle.html_tokenizer.specs.Tokenizer.States.{InCode, at, at_value};
+ghost use Rattle.html_tokenizer.specs.Tokenizer.Stretches.{IsSettled, is_scanned, leaves, leaves_code, leaves_value, settled, word_after};
+ghost use Rattle.html_tokenizer.specs.Tokenizer.Tokenization.{state_after};
+ghost use Rattle.html_tokenizer.specs.declared.elements.Content.{Content};
+ghost use Rattle.html_tokenizer.specs.declared.elements.OpenElement.TheVariants.{Script};
 ghost use Rattle.html_tokenizer.specs.declared.slot_place.SlotPlace.{SlotPlace};
 ghost use Rattle.html_tokenizer.specs.declared.states.Code.{Code};
 ghost use Rattle.html_tokenizer.specs.declared.states.Kind.TheVariants as kinds;
 ghost use Rattle.html_tokenizer.specs.declared.states.Phase.TheVariants as phases;
-ghost use Rattle.html_tokenizer.specs.declared.elements.Content.{Content};
-ghost use Rattle.html_tokenizer.specs.declared.elements.OpenElement.TheVariants.{Script};
 
 use crate::code::words::{next_word, settled, settled_byte};
 use crate::elements::{Content, OpenElement};
@@ -23,64 +20,158 @@ use crate::slot_place::SlotPlace;
 use crate::states::{Code, Kind, Phase};
 use hesc_scan::find::{first_byte, first_of_two};
 
-// Whether the tokenizer stays in the code at the byte.
+// Whether the byte ends a stretch in a state that is scanned byte by byte.
 #[inline(always)]
-#[tactic(auto, unfolding(crate::specs::Tokenizer::Tokenization::consume))]
-fn stays_in_code(code: Code, element: OpenElement, byte: u8) -> bool
-    requires { is_gone_over element code ≡ true }
-    ensures stays { IsTrue result → (content : Content) → content.element ≡ element
-        → (consume (at (InCode code) content) byte).next ≡ at (InCode code) content }
-    ensures leaves { result ≡ not (leaves_code element code byte) }
+fn leaves(phase: Phase, element: OpenElement, byte: u8) -> bool
+    requires { is_scanned element phase ≡ true }
+    ensures { result ≡ leaves element phase byte }
 {
-    match (element, code) {
-        (OpenElement::Script, Code::LineComment) => !matches!(byte, b'\n' | b'\r' | 0xE2 | b'<'),
-        (OpenElement::Style, Code::Plain) => !matches!(
+    match (phase, element) {
+        (Phase::In(SlotPlace::Unquoted), _) => matches!(
             byte,
-            b'"' | b'\'' | b'\\' | b'/' | b'@' | b'u' | b'U' | b'<'
+            b'\t' | b'\n' | b'\x0c' | b'\r' | b' ' | b'>' | b'&' | b'"' | b'\'' | b'<' | b'=' | b'`'
         ),
-        (OpenElement::Style, Code::Url) => {
-            !matches!(byte, b'"' | b'\'' | b'(' | b')' | b'\\' | b'<' | b'/')
+        (Phase::In(SlotPlace::ScriptSingle), _) => {
+            matches!(byte, b'\'' | b'\\' | b'<' | b'\n' | b'\r')
         }
-        _ => false,
+        (Phase::In(SlotPlace::ScriptDouble), _) => {
+            matches!(byte, b'"' | b'\\' | b'<' | b'\n' | b'\r')
+        }
+        (Phase::In(SlotPlace::StyleSingle), _) => {
+            matches!(byte, b'\'' | b'\\' | b'<' | b'\n' | b'\r' | b'\x0c' | 0)
+        }
+        (Phase::In(SlotPlace::StyleDouble), _) => {
+            matches!(byte, b'"' | b'\\' | b'<' | b'\n' | b'\r' | b'\x0c' | 0)
+        }
+        (Phase::InCode(Code::LineComment), OpenElement::Script) => {
+            matches!(byte, b'\n' | b'\r' | 0xE2 | b'<')
+        }
+        (Phase::InCode(Code::Plain), OpenElement::Style) => {
+            matches!(
+                byte,
+                b'"' | b'\'' | b'\\' | b'/' | b'@' | b'u' | b'U' | b'<'
+            )
+        }
+        (Phase::InCode(Code::Url), OpenElement::Style) => {
+            matches!(byte, b'"' | b'\'' | b'(' | b')' | b'\\' | b'<' | b'/')
+        }
+        _ => true,
     }
 }
 
-// Where the code is given by its name, a loop of its own.
+// Scans the bytes of a stretch. Where the state is a constant, this is a loop of its own.
 #[inline(always)]
-#[tactic(auto, using(crate::proofs::Staying::stays_longer))]
-fn code_bytes(code: Code, element: OpenElement, bytes: &[u8]) -> usize
-    requires { is_gone_over element code ≡ true }
-    ensures whole { IsFirstPlace (leaves_code element code) bytes.now 0 result }
-    ensures stays { (content : Content) → content.element ≡ element
-        → state_after (at (InCode code) content) (take result bytes.now)
-        ≡ at (InCode code) content }
+fn scan(phase: Phase, element: OpenElement, bytes: &[u8]) -> usize
+    requires { is_scanned element phase ≡ true }
+    ensures { IsFirstPlace (leaves element phase) bytes.now 0 result }
 {
     let mut count = 0;
-    'code: while count < bytes.len() && stays_in_code(code, element, bytes[count]) {
+    'stretch: while count < bytes.len() && !leaves(phase, element, bytes[count]) {
         count += 1;
     }
     count
 }
 
+// The place of the first of two bytes. Among few bytes the search costs more than one look at the first
+// of them, which often ends the stretch: after a slot the quote mark comes at once.
 #[inline(always)]
-fn code_stretch(code: Code, content: Content, bytes: &[u8]) -> usize
-    ensures whole { IsFirstPlace (leaves_code content.element code) bytes.now 0 result }
-    ensures stays { state_after (at (InCode code) content) (take result bytes.now)
-        ≡ at (InCode code) content }
+fn first_near(one: u8, other: u8, bytes: &[u8]) -> usize
+    ensures { IsFirstPlace (λ b. b == one || b == other) bytes.now 0 result }
 {
-    match (code, content.element) {
-        (Code::Opaque, OpenElement::Script) => first_byte(b'<', bytes, 0),
-        (Code::Opaque, OpenElement::Style) => first_byte(b'<', bytes, 0),
-        (Code::Opaque, OpenElement::Frame) => first_byte(b'<', bytes, 0),
-        (Code::LineComment, OpenElement::Script) => {
-            code_bytes(Code::LineComment, OpenElement::Script, bytes)
+    match bytes {
+        [byte, ..] if *byte == one || *byte == other => 0,
+        _ => first_of_two(one, other, bytes, 0),
+    }
+}
+
+#[inline(always)]
+fn value_stretch(place: SlotPlace, bytes: &[u8]) -> usize
+    ensures { IsFirstPlace (leaves_value place) bytes.now 0 result }
+{
+    let element = OpenElement::Normal;
+    match place {
+        SlotPlace::Text => first_near(b'<', b'&', bytes),
+        SlotPlace::DoubleQuoted => first_near(b'"', b'&', bytes),
+        SlotPlace::SingleQuoted => first_near(b'\'', b'&', bytes),
+        SlotPlace::Unquoted => scan(Phase::In(SlotPlace::Unquoted), element, bytes),
+        SlotPlace::ScriptSingle => scan(Phase::In(SlotPlace::ScriptSingle), element, bytes),
+        SlotPlace::ScriptDouble => scan(Phase::In(SlotPlace::ScriptDouble), element, bytes),
+        SlotPlace::StyleSingle => scan(Phase::In(SlotPlace::StyleSingle), element, bytes),
+        SlotPlace::StyleDouble => scan(Phase::In(SlotPlace::StyleDouble), element, bytes),
+    }
+}
+
+#[inline(always)]
+fn code_stretch(code: Code, element: OpenElement, bytes: &[u8]) -> usize
+    ensures { IsFirstPlace (leaves_code element code) bytes.now 0 result }
+{
+    match (code, element) {
+        (Code::Opaque, OpenElement::Script | OpenElement::Style | OpenElement::Frame) => {
+            first_byte(b'<', bytes, 0)
         }
-        (Code::BlockComment, OpenElement::Script) => first_of_two(b'*', b'<', bytes, 0),
-        (Code::Plain, OpenElement::Style) => code_bytes(Code::Plain, OpenElement::Style, bytes),
-        (Code::Url, OpenElement::Style) => code_bytes(Code::Url, OpenElement::Style, bytes),
-        (Code::BlockComment, OpenElement::Style) => first_of_two(b'*', b'<', bytes, 0),
-        (Code::Escaped, OpenElement::Script) => first_of_two(b'-', b'<', bytes, 0),
-        (Code::DoubleEscaped, OpenElement::Script) => first_of_two(b'-', b'<', bytes, 0),
+        (Code::BlockComment, OpenElement::Script | OpenElement::Style) => {
+            first_of_two(b'*', b'<', bytes, 0)
+        }
+        (Code::Escaped | Code::DoubleEscaped, OpenElement::Script) => {
+            first_of_two(b'-', b'<', bytes, 0)
+        }
+        (Code::LineComment, OpenElement::Script) => {
+            scan(Phase::InCode(Code::LineComment), OpenElement::Script, bytes)
+        }
+        (Code::Plain, OpenElement::Style) => {
+            scan(Phase::InCode(Code::Plain), OpenElement::Style, bytes)
+        }
+        (Code::Url, OpenElement::Style) => {
+            scan(Phase::InCode(Code::Url), OpenElement::Style, bytes)
+        }
+        _ => 0,
+    }
+}
+
+/// How many of the first bytes leave the tokenizer where it is: all up to one that does not, or fewer.
+#[inline(always)]
+#[tactic(auto, using(crate::proofs::Stretches::value_stretch_stays, crate::proofs::Stretches::code_stretch_stays, crate::proofs::Stretches::comment_stretch_stays))]
+pub(crate) fn stretch(phase: Phase, content: Content, kind: Kind, bytes: &[u8]) -> usize
+    ensures within { result ≤ length bytes.now }
+    ensures value { (place : SlotPlace) → phase ≡ phases.In place → IsSettled kind
+        → IsFirstPlace (leaves_value place) bytes.now 0 result }
+    ensures code { (code : Code) → phase ≡ phases.InCode code → kind ≡ kinds.Ordinary
+        → IsFirstPlace (leaves_code content.element code) bytes.now 0 result }
+    ensures comment { phase ≡ phases.Comment → kind ≡ kinds.Ordinary
+        → IsFirstPlace (λ b. b == dash) bytes.now 0 result }
+    ensures stays { (word : List ℕ)
+        → state_after (at_value (state_of phase word) content (attribute_in kind word))
+        (take result bytes.now)
+        ≡ at_value (state_of phase word) content (attribute_in kind word) }
+{
+    match (phase, kind) {
+        (Phase::In(place), Kind::Ordinary | Kind::Forbidden) => value_stretch(place, bytes),
+        (Phase::InCode(code), Kind::Ordinary) => code_stretch(code, content.element, bytes),
+        (Phase::Comment, Kind::Ordinary) => first_byte(b'-', bytes, 0),
+        _ => 0,
+    }
+}
+
+/// The same of text and of values in quotes; in other states no byte is gone over.
+#[inline(always)]
+#[tactic(auto, using(crate::proofs::Stretches::value_stretch_stays))]
+pub(crate) fn text_stretch(phase: Phase, kind: Kind, bytes: &[u8]) -> usize
+    ensures within { result ≤ length bytes.now }
+    ensures stays { (content : Content) (word : List ℕ)
+        → state_after (at_value (state_of phase word) content (attribute_in kind word))
+        (take result bytes.now)
+        ≡ at_value (state_of phase word) content (attribute_in kind word) }
+{
+    match (phase, kind) {
+        (Phase::In(SlotPlace::Text), Kind::Ordinary | Kind::Forbidden) => first_near(
+            b'<', b'&', bytes,
+        ),
+        (Phase::In(SlotPlace::DoubleQuoted), Kind::Ordinary | Kind::Forbidden) => first_near(
+            b'"', b'&', bytes,
+        ),
+        (Phase::In(SlotPlace::SingleQuoted), Kind::Ordinary | Kind::Forbidden) => first_near(
+            b'\'', b'&', bytes,
+        ),
         _ => 0,
     }
 }
@@ -145,136 +236,4 @@ pub(crate) fn script_words(code: Code, bytes: &[u8]) -> (usize, Code)
         count += 1;
     }
     (count, reached)
-}
-
-// Whether the tokenizer stays in the value at the byte, unless the byte tells what the value means.
-// The values that a search goes through are not asked for.
-#[inline(always)]
-#[tactic(auto, unfolding(crate::specs::Tokenizer::Tokenization::consume))]
-fn stays_in_value(place: SlotPlace, byte: u8) -> bool
-    requires { is_searched place ≡ false }
-    ensures leaves { result ≡ not (leaves_value place byte) }
-    ensures stays { IsTrue result → (content : Content) (attribute : Attribute)
-        → value_byte_read attribute byte ≡ attribute
-        → (consume (at_value (In place) content attribute) byte).next
-        ≡ at_value (In place) content attribute }
-{
-    match place {
-        SlotPlace::Text | SlotPlace::DoubleQuoted | SlotPlace::SingleQuoted => false,
-        SlotPlace::Unquoted => !matches!(
-            byte,
-            b'\t' | b'\n' | b'\x0c' | b'\r' | b' ' | b'>' | b'&' | b'"' | b'\'' | b'<' | b'=' | b'`'
-        ),
-        SlotPlace::ScriptSingle => !matches!(byte, b'\'' | b'\\' | b'<' | b'\n' | b'\r'),
-        SlotPlace::ScriptDouble => !matches!(byte, b'"' | b'\\' | b'<' | b'\n' | b'\r'),
-        SlotPlace::StyleSingle => {
-            !matches!(byte, b'\'' | b'\\' | b'<' | b'\n' | b'\r' | b'\x0c' | 0)
-        }
-        SlotPlace::StyleDouble => {
-            !matches!(byte, b'"' | b'\\' | b'<' | b'\n' | b'\r' | b'\x0c' | 0)
-        }
-    }
-}
-
-#[inline(always)]
-#[tactic(auto, using(crate::proofs::Staying::stays_longer))]
-fn value_bytes(place: SlotPlace, bytes: &[u8]) -> usize
-    requires { is_searched place ≡ false }
-    ensures whole { IsFirstPlace (leaves_value place) bytes.now 0 result }
-    ensures stays { (content : Content) (attribute : Attribute)
-        → ((b : ℕ) → value_byte_read attribute b ≡ attribute)
-        → state_after (at_value (In place) content attribute) (take result bytes.now)
-        ≡ at_value (In place) content attribute }
-{
-    let mut count = 0;
-    'value: while count < bytes.len() && stays_in_value(place, bytes[count]) {
-        count += 1;
-    }
-    count
-}
-
-#[inline(always)]
-fn searched_stretch(place: SlotPlace, bytes: &[u8]) -> usize
-    requires { is_searched place ≡ true }
-    ensures whole { IsFirstPlace (leaves_value place) bytes.now 0 result }
-    ensures stays { (content : Content) (attribute : Attribute)
-        → ((b : ℕ) → value_byte_read attribute b ≡ attribute)
-        → state_after (at_value (In place) content attribute) (take result bytes.now)
-        ≡ at_value (In place) content attribute }
-{
-    // Among few bytes the search costs more than one look at the first of them, which often ends
-    // the stretch: after a slot the quote mark comes at once.
-    match place {
-        SlotPlace::Text if matches!(bytes, [b'<' | b'&', ..]) => 0,
-        SlotPlace::Text => first_of_two(b'<', b'&', bytes, 0),
-        SlotPlace::DoubleQuoted if matches!(bytes, [b'"' | b'&', ..]) => 0,
-        SlotPlace::DoubleQuoted => first_of_two(b'"', b'&', bytes, 0),
-        SlotPlace::SingleQuoted if matches!(bytes, [b'\'' | b'&', ..]) => 0,
-        SlotPlace::SingleQuoted => first_of_two(b'\'', b'&', bytes, 0),
-        _ => 0,
-    }
-}
-
-#[inline(always)]
-fn value_stretch(place: SlotPlace, bytes: &[u8]) -> usize
-    ensures whole { IsFirstPlace (leaves_value place) bytes.now 0 result }
-    ensures stays { (content : Content) (attribute : Attribute)
-        → ((b : ℕ) → value_byte_read attribute b ≡ attribute)
-        → state_after (at_value (In place) content attribute) (take result bytes.now)
-        ≡ at_value (In place) content attribute }
-{
-    match place {
-        SlotPlace::Text | SlotPlace::DoubleQuoted | SlotPlace::SingleQuoted => {
-            searched_stretch(place, bytes)
-        }
-        SlotPlace::Unquoted => value_bytes(SlotPlace::Unquoted, bytes),
-        SlotPlace::ScriptSingle => value_bytes(SlotPlace::ScriptSingle, bytes),
-        SlotPlace::ScriptDouble => value_bytes(SlotPlace::ScriptDouble, bytes),
-        SlotPlace::StyleSingle => value_bytes(SlotPlace::StyleSingle, bytes),
-        SlotPlace::StyleDouble => value_bytes(SlotPlace::StyleDouble, bytes),
-    }
-}
-
-/// How many of the first bytes leave the tokenizer where it is, in text and in a value in quotes. In
-/// other states none are gone over.
-#[inline(always)]
-pub(crate) fn text_stretch(phase: Phase, kind: Kind, bytes: &[u8]) -> usize
-    ensures within { result ≤ length bytes.now }
-    ensures stays { (content : Content) (word : List ℕ)
-        → state_after (at_value (state_of phase word) content (attribute_in kind word))
-        (take result bytes.now)
-        ≡ at_value (state_of phase word) content (attribute_in kind word) }
-{
-    match (phase, kind) {
-        (
-            Phase::In(
-                place @ (SlotPlace::Text | SlotPlace::DoubleQuoted | SlotPlace::SingleQuoted),
-            ),
-            Kind::Ordinary | Kind::Forbidden,
-        ) => searched_stretch(place, bytes),
-        _ => 0,
-    }
-}
-
-/// How many of the first bytes leave the tokenizer where it is: all up to one that does not, or fewer.
-#[inline(always)]
-pub(crate) fn stretch(phase: Phase, content: Content, kind: Kind, bytes: &[u8]) -> usize
-    ensures within { result ≤ length bytes.now }
-    ensures value { (place : SlotPlace) → phase ≡ phases.In place → IsSettled kind
-        → IsFirstPlace (leaves_value place) bytes.now 0 result }
-    ensures code { (code : Code) → phase ≡ phases.InCode code → kind ≡ kinds.Ordinary
-        → IsFirstPlace (leaves_code content.element code) bytes.now 0 result }
-    ensures comment { phase ≡ phases.Comment → kind ≡ kinds.Ordinary
-        → IsFirstPlace (λ b. b == dash) bytes.now 0 result }
-    ensures stays { (word : List ℕ)
-        → state_after (at_value (state_of phase word) content (attribute_in kind word))
-        (take result bytes.now)
-        ≡ at_value (state_of phase word) content (attribute_in kind word) }
-{
-    match (phase, content, kind) {
-        (Phase::In(place), _, Kind::Ordinary | Kind::Forbidden) => value_stretch(place, bytes),
-        (Phase::InCode(code), _, Kind::Ordinary) => code_stretch(code, content, bytes),
-        (Phase::Comment, _, Kind::Ordinary) => first_byte(b'-', bytes, 0),
-        _ => 0,
-    }
 }
