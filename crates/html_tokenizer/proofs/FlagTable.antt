@@ -23,8 +23,8 @@ in_small = refl
 in_word : agree_below (λ b. not (lacks 2 b)) is_name_byte 256 ≡ true
 in_word = refl
 
-no_mark : agree_below (lacks 4) (λ b. not (is_mark b)) 256 ≡ true
-no_mark = refl
+in_mark : agree_below (λ b. not (lacks 4 b)) is_mark 256 ≡ true
+in_mark = refl
 
 no_stop : agree_below (lacks 12) (λ b. not (is_mark b || begins_word b)) 256 ≡ true
 no_stop = refl
@@ -38,8 +38,8 @@ small_tells b lt = agree_below_at (λ x. lacks 1 x || nat_eq (small x) (to_ascii
 pub word_tells : (b : ℕ) → b < 256 → not (lacks 2 b) ≡ is_name_byte b
 word_tells b lt = agree_below_at (λ x. not (lacks 2 x)) is_name_byte 256 b in_word lt
 
-pub mark_tells : (b : ℕ) → b < 256 → lacks 4 b ≡ not (is_mark b)
-mark_tells b lt = agree_below_at (lacks 4) (λ x. not (is_mark x)) 256 b no_mark lt
+pub mark_tells : (b : ℕ) → b < 256 → not (lacks 4 b) ≡ is_mark b
+mark_tells b lt = agree_below_at (λ x. not (lacks 4 x)) is_mark 256 b in_mark lt
 
 pub stop_tells : (b : ℕ) → b < 256 → lacks 12 b ≡ not (is_mark b || begins_word b)
 stop_tells b lt = agree_below_at (lacks 12) (λ x. not (is_mark x || begins_word x)) 256 b no_stop lt

@@ -1,7 +1,7 @@
 //! What a byte is in a name and in a word of a script, as a table.
 ghost use Rattle.std.specs.Prelude.{◌≡◌};
 ghost use Rattle.html_tokenizer.specs.Tokenizer.Code.Words.{is_name_byte};
-ghost use Rattle.html_tokenizer.specs.Tokenizer.Stretches.{name_letter, stays_settled};
+ghost use Rattle.html_tokenizer.specs.Tokenizer.Stretches.{is_mark, name_letter, stays_settled};
 
 // The bits of a byte: a name of a tag or an attribute goes on with it, it is of a word of a script, it is a
 // mark there, `import` or `from` begins with it, and it is a capital, whose bit makes it a small letter.
@@ -55,13 +55,21 @@ pub(crate) fn is_name_byte(byte: u8) -> bool
     FLAGS[byte as usize] & IN_WORD != 0
 }
 
+/// Whether the byte begins or ends more than a word of a script, or has no reading.
+#[inline(always)]
+pub(crate) fn is_mark(byte: u8) -> bool
+    ensures { result ≡ is_mark byte }
+{
+    FLAGS[byte as usize] & MARK != 0
+}
+
 /// Whether the byte, after this one, is no mark of a script and begins neither `import` nor `from`.
 #[inline(always)]
 pub(crate) fn stays_settled(last: u8, byte: u8) -> bool
     ensures { result ≡ stays_settled last byte }
 {
     if is_name_byte(last) {
-        FLAGS[byte as usize] & MARK == 0
+        !is_mark(byte)
     } else {
         FLAGS[byte as usize] & (MARK | BEGINS_WORD) == 0
     }

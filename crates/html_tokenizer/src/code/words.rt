@@ -2,12 +2,12 @@
 ghost use Rattle.std.specs.Prelude.{◌≡◌, IfSome};
 ghost use Rattle.html_tokenizer.specs.Tokenizer.Code.Words.{is_blank, longer};
 ghost use Rattle.html_tokenizer.specs.Tokenizer.States.{InCode, at};
-ghost use Rattle.html_tokenizer.specs.Tokenizer.Stretches.{is_mark, settled, word_after};
+ghost use Rattle.html_tokenizer.specs.Tokenizer.Stretches.{settled, word_after};
 ghost use Rattle.html_tokenizer.specs.Tokenizer.Tokenization.{consume};
 ghost use Rattle.html_tokenizer.specs.declared.elements.Content.{Content};
 ghost use Rattle.html_tokenizer.specs.declared.elements.OpenElement.TheVariants.{Script};
 
-use crate::flags::is_name_byte;
+use crate::flags::{is_mark, is_name_byte};
 use crate::states::Code;
 use crate::tags::is_space;
 
@@ -34,17 +34,6 @@ pub(crate) fn longer(code: Code, byte: u8) -> Option<Code>
         (Code::LettersFro, b'm') => Some(Code::From),
         _ => None,
     }
-}
-
-/// Whether the byte begins or ends more than a word of a script, or has no reading.
-#[inline(always)]
-fn is_mark(byte: u8) -> bool
-    ensures { result ≡ is_mark byte }
-{
-    matches!(
-        byte,
-        b'"' | b'\'' | b'\\' | b'`' | b'#' | b'/' | b'-' | b'<'
-    )
 }
 
 /// The word state after a byte that is no mark and begins neither word.
