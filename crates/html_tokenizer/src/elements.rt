@@ -226,18 +226,14 @@ pub(crate) fn ends_content(element: OpenElement, name: &[u8]) -> bool
     ensures { result ≡ ends_content element name.now }
 {
     match element {
-        OpenElement::Title | OpenElement::SvgTitle => name == b"title".as_slice(),
-        OpenElement::Textarea => name == b"textarea".as_slice(),
-        OpenElement::Script => name == b"script".as_slice(),
-        OpenElement::Style | OpenElement::SvgStyle => name == b"style".as_slice(),
-        OpenElement::Frame => name == b"iframe".as_slice(),
+        OpenElement::SvgTitle => name == b"title".as_slice(),
+        OpenElement::SvgStyle | OpenElement::NoScriptStyle => name == b"style".as_slice(),
         OpenElement::MathMi => name == b"mi".as_slice(),
         OpenElement::MathMo => name == b"mo".as_slice(),
         OpenElement::MathMn => name == b"mn".as_slice(),
         OpenElement::MathMs => name == b"ms".as_slice(),
         OpenElement::MathMtext => name == b"mtext".as_slice(),
         OpenElement::NoScript => !is_template(name),
-        OpenElement::NoScriptStyle => name == b"style".as_slice(),
         OpenElement::NoScriptFrame => name == b"iframe".as_slice(),
         _ => true,
     }

@@ -90,14 +90,9 @@ beside MathMs = Some Math
 beside MathMtext = Some Math
 beside other = Some (inside_element other)
 
--- the appropriate end tag (13.2.5) of the content, and in a content of elements any; where scripts run, none in a
--- `noscript` closes a template
+-- in a content of elements any end tag ends it or an element in it; where scripts run, none in a `noscript` closes a
+-- template. The content of one element ends at the end tag of that element alone
 abbrev pub ends_content : OpenElement → List ℕ → Bool
-ends_content Title name = bytes_eq name (codes "title")
-ends_content Textarea name = bytes_eq name (codes "textarea")
-ends_content Script name = bytes_eq name (codes "script")
-ends_content Style name = bytes_eq name (codes "style")
-ends_content Frame name = bytes_eq name (codes "iframe")
 ends_content SvgTitle name = bytes_eq name (codes "title")
 ends_content SvgStyle name = bytes_eq name (codes "style")
 ends_content MathMi name = bytes_eq name (codes "mi")
