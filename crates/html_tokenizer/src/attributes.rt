@@ -81,12 +81,8 @@ fn script_value(content: Content, name: &[u8]) -> Move
     } else {
         Kind::Forbidden
     };
-    in_value(
-        Phase::BeforeValue,
-        with_element(content, OpenElement::DataBlock),
-        kind,
-        Word::New,
-    )
+    let content = with_element(content, OpenElement::DataBlock);
+    in_value(Phase::BeforeValue, content, kind, Word::New)
 }
 
 // After the `=` of an attribute of a `meta`.
@@ -107,12 +103,8 @@ fn meta_value(content: Content, name: &[u8]) -> Move
         OpenElement::MetaType => (OpenElement::MetaType, Kind::PageType),
         element => (element, Kind::Forbidden),
     };
-    in_value(
-        Phase::BeforeValue,
-        with_element(content, element),
-        kind,
-        Word::New,
-    )
+    let content = with_element(content, element);
+    in_value(Phase::BeforeValue, content, kind, Word::New)
 }
 
 // After the `=` of an attribute in a `noscript`.

@@ -105,10 +105,8 @@ pub(crate) fn in_code_byte(code: Code, content: Content, byte: u8) -> Move
     ensures { (word : List ℕ) → moved result word ≡ (in_code_byte code content byte).next }
 {
     if byte == b'<' {
-        to(
-            Phase::CodeLess(code_at_less(content.element, code)),
-            content,
-        )
+        let code = code_at_less(content.element, code);
+        to(Phase::CodeLess(code), content)
     } else {
         code_byte(code, content, byte)
     }
@@ -129,11 +127,8 @@ pub(crate) fn less_byte(code: Code, content: Content, byte: u8) -> Move
     ensures { (word : List ℕ) → moved result word ≡ (less_byte code content byte).next }
 {
     if byte == b'/' {
-        goes(
-            Phase::CodeEndTag(code_after_solidus(code)),
-            content,
-            Word::New,
-        )
+        let code = code_after_solidus(code);
+        goes(Phase::CodeEndTag(code), content, Word::New)
     } else if (byte == b'!') & is_script(content.element) {
         to(Phase::InCode(Code::EscapeStart), content)
     } else {

@@ -29,11 +29,8 @@ pub(crate) fn declaration_byte(content: Content, word: &[u8], byte: u8) -> Move
     } else if byte == b'>' {
         refuses()
     } else {
-        goes(
-            Phase::Declaration,
-            content,
-            Word::Add(byte.to_ascii_lowercase()),
-        )
+        let letter = byte.to_ascii_lowercase();
+        goes(Phase::Declaration, content, Word::Add(letter))
     }
 }
 

@@ -40,11 +40,8 @@ pub(crate) fn before_doctype_byte(content: Content, byte: u8) -> Move
     if is_space(byte) {
         to(Phase::BeforeDoctype, content)
     } else if byte.is_ascii_alphabetic() {
-        goes(
-            Phase::Doctype,
-            content,
-            Word::Begin(byte.to_ascii_lowercase()),
-        )
+        let letter = byte.to_ascii_lowercase();
+        goes(Phase::Doctype, content, Word::Begin(letter))
     } else {
         refuses()
     }
@@ -58,11 +55,8 @@ pub(crate) fn after_doctype_byte(content: Content, byte: u8) -> Move
     if is_space(byte) {
         to(Phase::AfterDoctype, content)
     } else if byte.is_ascii_alphabetic() {
-        goes(
-            Phase::DoctypeKeyword,
-            content,
-            Word::Begin(byte.to_ascii_lowercase()),
-        )
+        let letter = byte.to_ascii_lowercase();
+        goes(Phase::DoctypeKeyword, content, Word::Begin(letter))
     } else {
         doctype_end_byte(content, byte)
     }
@@ -74,11 +68,8 @@ pub(crate) fn doctype_byte(content: Content, name: &[u8], byte: u8) -> Move
     ensures { moved result name.now ≡ (doctype_byte content name.now byte).next }
 {
     if byte.is_ascii_alphabetic() {
-        goes(
-            Phase::Doctype,
-            content,
-            Word::Add(byte.to_ascii_lowercase()),
-        )
+        let letter = byte.to_ascii_lowercase();
+        goes(Phase::Doctype, content, Word::Add(letter))
     } else if name == b"html".as_slice() {
         after_doctype_byte(content, byte)
     } else {
@@ -104,11 +95,8 @@ pub(crate) fn doctype_keyword_byte(content: Content, word: &[u8], byte: u8) -> M
             refuses()
         }
     } else if byte.is_ascii_alphabetic() {
-        goes(
-            Phase::DoctypeKeyword,
-            content,
-            Word::Add(byte.to_ascii_lowercase()),
-        )
+        let letter = byte.to_ascii_lowercase();
+        goes(Phase::DoctypeKeyword, content, Word::Add(letter))
     } else {
         refuses()
     }

@@ -94,11 +94,8 @@ pub(crate) fn tag_open_byte(content: Content, byte: u8) -> Move
     ensures { (word : List ℕ) → moved result word ≡ (tag_open_byte content byte).next }
 {
     if holds_markup(content.element) && byte.is_ascii_alphabetic() {
-        goes(
-            Phase::TagName,
-            content,
-            Word::Begin(byte.to_ascii_lowercase()),
-        )
+        let letter = byte.to_ascii_lowercase();
+        goes(Phase::TagName, content, Word::Begin(letter))
     } else if holds_comments(content.element) && byte == b'!' {
         to(Phase::Declaration, content)
     } else {
@@ -112,11 +109,8 @@ pub(crate) fn end_tag_open_byte(content: Content, byte: u8) -> Move
     ensures { (word : List ℕ) → moved result word ≡ (end_tag_open_byte content byte).next }
 {
     if byte.is_ascii_alphabetic() {
-        goes(
-            Phase::EndTagName,
-            content,
-            Word::Begin(byte.to_ascii_lowercase()),
-        )
+        let letter = byte.to_ascii_lowercase();
+        goes(Phase::EndTagName, content, Word::Begin(letter))
     } else {
         refuses()
     }
@@ -142,11 +136,8 @@ pub(crate) fn tag_name_byte(content: Content, name: &[u8], byte: u8) -> Move
     } else if byte == 0 {
         refuses()
     } else {
-        goes(
-            Phase::TagName,
-            content,
-            Word::Add(byte.to_ascii_lowercase()),
-        )
+        let letter = byte.to_ascii_lowercase();
+        goes(Phase::TagName, content, Word::Add(letter))
     }
 }
 
@@ -178,11 +169,8 @@ pub(crate) fn end_tag_name_byte(content: Content, name: &[u8], byte: u8) -> Move
     } else if byte == 0 {
         refuses()
     } else {
-        goes(
-            Phase::EndTagName,
-            content,
-            Word::Add(byte.to_ascii_lowercase()),
-        )
+        let letter = byte.to_ascii_lowercase();
+        goes(Phase::EndTagName, content, Word::Add(letter))
     }
 }
 
@@ -240,11 +228,9 @@ fn closed_itself(content: Content) -> Move
     ensures { (word : List ℕ) → moved result word
         ≡ (closed_itself (beside content.element) content).next }
 {
+    let phase = content_phase(content.element);
     match beside(content.element) {
-        Some(element) => to(
-            content_phase(content.element),
-            with_element(content, element),
-        ),
+        Some(element) => to(phase, with_element(content, element)),
         None => refuses(),
     }
 }

@@ -29,12 +29,8 @@ pub(crate) fn begins_character(place: SlotPlace, content: Content, kind: Kind) -
     ensures { (word : List ℕ) → moved result word
         ≡ (begins_character place content (attribute_in kind word)).next }
 {
-    in_value(
-        Phase::Within(place),
-        content,
-        reference_read(kind),
-        Word::New,
-    )
+    let kind = reference_read(kind);
+    in_value(Phase::Within(place), content, kind, Word::New)
 }
 
 /// In text.

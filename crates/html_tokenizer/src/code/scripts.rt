@@ -6,7 +6,7 @@ ghost use Rattle.html_tokenizer.specs.Tokenizer.Code.Words.{longer};
 ghost use Rattle.html_tokenizer.specs.Tokenizer.Phases.{moved};
 ghost use Rattle.html_tokenizer.specs.Tokenizer.States.{Forbidden, In, at_value};
 
-use crate::code::escapes::opaque_byte;
+use crate::code::escapes::{is_opaque, opaque_byte};
 use crate::code::words::{is_blank, longer};
 use crate::code::{block_byte, block_star_byte, gives_up, stays};
 use crate::elements::Content;
@@ -125,14 +125,7 @@ pub(crate) fn script_code_byte(code: Code, content: Content, byte: u8) -> Move
         Code::LineSecond => line_byte(content, byte),
         Code::BlockComment => block_byte(content, byte),
         Code::BlockStar => block_star_byte(content, byte),
-        Code::EscapeStart
-        | Code::EscapeStartDash
-        | Code::Escaped
-        | Code::EscapedDash
-        | Code::EscapedDashDash
-        | Code::DoubleEscaped
-        | Code::DoubleEscapedDash
-        | Code::DoubleEscapedDashDash => opaque_byte(code, content, byte),
+        _ if is_opaque(code) => opaque_byte(code, content, byte),
         _ => gives_up(content, byte),
     }
 }
