@@ -6,13 +6,14 @@ pub(crate) mod styles;
 pub(crate) mod words;
 
 ghost use Rattle.std.specs.Prelude.{◌≡◌, ℕ, List};
-ghost use Rattle.html_tokenizer.specs.Tokenizer.Code.{code_after_solidus, code_at_less, code_byte, code_less_byte, in_code_byte, is_script, is_text_alone, less_byte};
+ghost use Rattle.html_tokenizer.specs.Tokenizer.Code.{code_after_solidus, code_at_less, code_byte, code_less_byte, in_code_byte, is_script, less_byte};
 ghost use Rattle.html_tokenizer.specs.Tokenizer.Code.Comments.{block_byte, block_star_byte, gives_up, stays};
 ghost use Rattle.html_tokenizer.specs.Tokenizer.Phases.{moved};
 
 use crate::code::escapes::{double_escaped_less_byte, escaped_less_byte};
 use crate::code::scripts::script_code_byte;
 use crate::code::styles::style_code_byte;
+use crate::elements::restricted::is_text_alone;
 use crate::elements::{Content, OpenElement};
 use crate::states::{Code, Move, Phase, Word, goes, refuses, to};
 
@@ -88,15 +89,6 @@ fn code_at_less(element: OpenElement, code: Code) -> Code
         }
         _ => Code::Plain,
     }
-}
-
-fn is_text_alone(element: OpenElement) -> bool
-    ensures { result ≡ is_text_alone element }
-{
-    matches!(
-        element,
-        OpenElement::SvgStyle | OpenElement::NoScriptStyle | OpenElement::NoScriptFrame
-    )
 }
 
 /// In code.

@@ -1,10 +1,13 @@
 //! How the content of each element is read, by the names of its tags.
 pub(crate) mod restricted;
 
-ghost use Rattle.std.specs.Prelude.{◌≡◌};
-ghost use Rattle.html_tokenizer.specs.Tokenizer.Elements.{around, beside, closed, content_of, element_of, ends_content, in_normal, inside, inside_element, is_meta, is_template, with_element};
+ghost use Rattle.std.specs.Prelude.{◌≡◌, ℕ, List};
+ghost use Rattle.html_tokenizer.specs.Tokenizer.Elements.{around, beside, closed, content_of, content_state, element_of, ends_content, holds_comments, holds_markup, in_normal, inside, inside_element, is_meta, is_template, with_element};
+ghost use Rattle.html_tokenizer.specs.Tokenizer.Phases.{state_of};
 
 use crate::elements::restricted::{in_math, in_noscript, in_select, in_svg, is_left_out};
+use crate::slot_place::SlotPlace;
+use crate::states::{Code, Phase};
 
 /// How the content of the element that is open is read, and for a `meta`, an `svg` and a `math` its tag.
 #[derive(Clone, Copy, Debug, PartialEq, Eq)]
@@ -202,6 +205,47 @@ pub(crate) fn inside(content: Content) -> Content
     ensures { result ≡ inside content }
 {
     with_element(content, inside_element(content.element))
+}
+
+/// Where the content of an element begins.
+pub(crate) fn content_phase(element: OpenElement) -> Phase
+    ensures { (word : List ℕ) → state_of result word ≡ content_state element }
+{
+    match element {
+        OpenElement::Script | OpenElement::Style => Phase::InCode(Code::Plain),
+        OpenElement::Frame
+        | OpenElement::DataBlock
+        | OpenElement::SvgStyle
+        | OpenElement::NoScriptStyle
+        | OpenElement::NoScriptFrame => Phase::InCode(Code::Opaque),
+        _ => Phase::In(SlotPlace::Text),
+    }
+}
+
+/// Whether tags begin in the content.
+#[inline(always)]
+pub(crate) fn holds_markup(element: OpenElement) -> bool
+    ensures { result ≡ holds_markup element }
+{
+    matches!(
+        element,
+        OpenElement::Normal
+            | OpenElement::Svg
+            | OpenElement::Math
+            | OpenElement::Select
+            | OpenElement::NoScript
+    )
+}
+
+/// Whether comments begin in the content.
+#[inline(always)]
+pub(crate) fn holds_comments(element: OpenElement) -> bool
+    ensures { result ≡ holds_comments element }
+{
+    matches!(
+        element,
+        OpenElement::Normal | OpenElement::Svg | OpenElement::Math | OpenElement::Select
+    )
 }
 
 /// How it is read after the `/>` of a start tag, if the profile has it there.

@@ -3,63 +3,23 @@ pub(crate) mod end_tags;
 
 ghost use Rattle.std.specs.Prelude.{◌≡◌, ℕ, List};
 ghost use Rattle.html_tokenizer.specs.Tokenizer.Elements.{beside};
-ghost use Rattle.html_tokenizer.specs.Tokenizer.Phases.{moved, state_of};
+ghost use Rattle.html_tokenizer.specs.Tokenizer.Phases.{moved};
 ghost use Rattle.html_tokenizer.specs.Tokenizer.States.{State, at};
-ghost use Rattle.html_tokenizer.specs.Tokenizer.Tags.{after_name_byte, after_value_byte, attribute_name_byte, before_name_byte, closed_itself, content_state, end_tag_byte, end_tag_name_byte, end_tag_open_byte, ends_name, first_name_byte, holds_comments, holds_markup, in_tag, is_name_error, is_space, opened, self_closing_byte, tag_name_byte, tag_open_byte};
+ghost use Rattle.html_tokenizer.specs.Tokenizer.Tags.{after_name_byte, after_value_byte, attribute_name_byte, before_name_byte, closed_itself, end_tag_byte, end_tag_name_byte, end_tag_open_byte, ends_name, first_name_byte, in_tag, is_name_error, is_space, opened, self_closing_byte, tag_name_byte, tag_open_byte};
 ghost use Rattle.html_tokenizer.specs.Tokenizer.Transitions.{Transition};
 
 use crate::attributes::value_of;
 use crate::elements::{
-    Content, OpenElement, beside, closed, content_of, ends_content, inside, with_element,
+    Content, beside, closed, content_of, content_phase, ends_content, holds_comments, holds_markup,
+    inside, with_element,
 };
 use crate::slot_place::SlotPlace;
-use crate::states::{Code, Move, Phase, Word, goes, refuses, to};
+use crate::states::{Move, Phase, Word, goes, refuses, to};
 
 pub(crate) fn is_space(byte: u8) -> bool
     ensures { result ≡ is_space byte }
 {
     matches!(byte, b'\t' | b'\n' | b'\x0c' | b' ' | b'\r')
-}
-
-/// Where the content of an element begins.
-pub(crate) fn content_phase(element: OpenElement) -> Phase
-    ensures { (word : List ℕ) → state_of result word ≡ content_state element }
-{
-    match element {
-        OpenElement::Script | OpenElement::Style => Phase::InCode(Code::Plain),
-        OpenElement::DataBlock
-        | OpenElement::Frame
-        | OpenElement::SvgStyle
-        | OpenElement::NoScriptStyle
-        | OpenElement::NoScriptFrame => Phase::InCode(Code::Opaque),
-        _ => Phase::In(SlotPlace::Text),
-    }
-}
-
-/// Whether tags begin in the content.
-#[inline(always)]
-pub(crate) fn holds_markup(element: OpenElement) -> bool
-    ensures { result ≡ holds_markup element }
-{
-    matches!(
-        element,
-        OpenElement::Normal
-            | OpenElement::Svg
-            | OpenElement::Math
-            | OpenElement::Select
-            | OpenElement::NoScript
-    )
-}
-
-// Whether comments begin in the content.
-#[inline(always)]
-fn holds_comments(element: OpenElement) -> bool
-    ensures { result ≡ holds_comments element }
-{
-    matches!(
-        element,
-        OpenElement::Normal | OpenElement::Svg | OpenElement::Math | OpenElement::Select
-    )
 }
 
 /// At the `>` of a start tag.

@@ -17,10 +17,11 @@ use Rattle.html_tokenizer.specs.declared.states.Code.{Code}
 use Rattle.html_tokenizer.specs.declared.states.Code.TheVariants as code
 use Rattle.html_tokenizer.specs.declared.elements.Content.{Content}
 use Rattle.html_tokenizer.specs.declared.elements.OpenElement.{OpenElement}
-use Rattle.html_tokenizer.specs.declared.elements.OpenElement.TheVariants.{Script, Style, SvgStyle, NoScriptStyle, NoScriptFrame}
+use Rattle.html_tokenizer.specs.declared.elements.OpenElement.TheVariants.{Script, Style, SvgStyle}
 use Rattle.html_tokenizer.specs.Tokenizer.Actions.{CodeByte}
 use Rattle.html_tokenizer.specs.Tokenizer.States as state
 use Rattle.html_tokenizer.specs.Tokenizer.States.{at}
+use Rattle.html_tokenizer.specs.Tokenizer.Elements.Restricted.{is_text_alone}
 use Rattle.html_tokenizer.specs.Tokenizer.Tags.{ends_name, exclamation_mark}
 use Rattle.html_tokenizer.specs.Tokenizer.Tags.EndTags.{held_end_tag_byte}
 use Rattle.html_tokenizer.specs.Tokenizer.Transitions.{Transition, goes, refuses, reconsumes}
@@ -98,13 +99,6 @@ abbrev pub double_escaped_less_byte : Content → ℕ → Transition
 double_escaped_less_byte content b =
     if b == slash then goes (state.CodeWord code.DoubleEscaped []) content (CodeByte less_than ∷ CodeByte b ∷ [])
     else reconsumes (CodeByte less_than ∷ []) (in_code_byte code.DoubleEscaped content b)
-
--- raw text that is markup in another reading: no `<` stands in it but that of its end tag
-abbrev pub is_text_alone : OpenElement → Bool
-is_text_alone SvgStyle = true
-is_text_alone NoScriptStyle = true
-is_text_alone NoScriptFrame = true
-is_text_alone other = false
 
 abbrev pub text_less_byte : Code → Content → ℕ → Transition
 text_less_byte kind content b =

@@ -2,10 +2,14 @@
 pub mod Restricted
 use Rattle.std.specs.Prelude.{ℕ, Bool, true, false, ◌&&◌, ◌||◌, not, List, ◌+◌, ◌-◌, ◌==◌, Option, Some, None, if◌then◌else◌, bytes_eq, codes}
 use Rattle.std.specs.Option.{option_map}
+use Rattle.html_tokenizer.specs.declared.slot_place.SlotPlace.TheVariants as place
+use Rattle.html_tokenizer.specs.declared.states.Code.TheVariants.{Plain, Opaque}
 use Rattle.html_tokenizer.specs.declared.elements.Content.{Content}
 use Rattle.html_tokenizer.specs.declared.elements.OpenElement.{OpenElement}
 use Rattle.html_tokenizer.specs.declared.elements.OpenElement.TheVariants.{Normal, Title, Textarea, Script, DataBlock, Style, Frame, Meta, MetaContent, MetaPragma, MetaType, SvgTag, Svg, SvgTitle, SvgStyle, MathTag, Math, MathMi, MathMo, MathMn, MathMs, MathMtext, Select, NoScript, NoScriptStyle, NoScriptFrame}
 use Rattle.html_tokenizer.specs.Tokenizer.Elements.Restricted.{is_left_out, in_svg, in_math, in_select, in_noscript}
+use Rattle.html_tokenizer.specs.Tokenizer.States as state
+use Rattle.html_tokenizer.specs.Tokenizer.States.{State}
 
 -- in a normal content, how the content of an element is read, and for a `meta`, an `svg` and a `math` its tag
 -- 13.2.6.4.4 The "in head" insertion mode, 13.2.6.4.7 The "in body" insertion mode
@@ -75,6 +79,30 @@ inside_element other = other
 
 abbrev pub inside : Content → Content
 inside content = with_element content (inside_element content.element)
+
+-- where the content of an element begins
+abbrev pub content_state : OpenElement → State
+content_state Script = state.InCode Plain
+content_state DataBlock = state.InCode Opaque
+content_state Style = state.InCode Plain
+content_state Frame = state.InCode Opaque
+content_state SvgStyle = state.InCode Opaque
+content_state NoScriptStyle = state.InCode Opaque
+content_state NoScriptFrame = state.InCode Opaque
+content_state other = state.In place.Text
+
+-- contents of elements, in which tags and comments begin
+abbrev pub holds_comments : OpenElement → Bool
+holds_comments Normal = true
+holds_comments Svg = true
+holds_comments Math = true
+holds_comments Select = true
+holds_comments other = false
+
+-- those and a `noscript`, in which tags alone begin, since a comment might hold its end tag
+abbrev pub holds_markup : OpenElement → Bool
+holds_markup NoScript = true
+holds_markup other = holds_comments other
 
 -- after the `/>` of a start tag, if it is read there: 13.2.6.5; a `title` or `style` that closes itself in an `svg`
 -- would be open in HTML

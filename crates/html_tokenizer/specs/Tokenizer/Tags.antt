@@ -3,18 +3,16 @@
 -- that the standard calls errors have no reading. A carriage return is white space: the standard
 -- makes it a line feed before it tokenizes (13.2.3.5).
 pub mod EndTags
-use Rattle.std.specs.Prelude.{ℕ, Bool, true, false, ◌&&◌, ◌||◌, List, [], ◌∷◌, ◌++◌, ◌==◌, Option, Some, None, if◌then◌else◌}
+use Rattle.std.specs.Prelude.{ℕ, Bool, ◌&&◌, ◌||◌, List, [], ◌∷◌, ◌++◌, ◌==◌, Option, Some, None, if◌then◌else◌}
 use Rattle.std.specs.Char.{is_ascii_alphabetic, to_ascii_lowercase}
 use Rattle.hesc_specs.specs.Text.Ascii.{carriage_return, double_quote, single_quote, slash, less_than, equals_sign, greater_than}
 use Rattle.hesc_grammars.specs.Words.{is_white_space}
 use Rattle.html_tokenizer.specs.declared.slot_place.SlotPlace.TheVariants as place
-use Rattle.html_tokenizer.specs.declared.states.Code.TheVariants.{Plain, Opaque}
 use Rattle.html_tokenizer.specs.declared.elements.Content.{Content}
 use Rattle.html_tokenizer.specs.declared.elements.OpenElement.{OpenElement}
-use Rattle.html_tokenizer.specs.declared.elements.OpenElement.TheVariants.{Normal, Title, Textarea, Script, DataBlock, Style, Frame, SvgStyle, Svg, Math, Select, NoScript, NoScriptStyle, NoScriptFrame}
 use Rattle.html_tokenizer.specs.Tokenizer.Actions.{NewStartTag, NewEndTag, TagNameByte, NewAttribute, NameByte, SetSelfClosing, EmitTag}
 use Rattle.html_tokenizer.specs.Tokenizer.Attributes.{value_of}
-use Rattle.html_tokenizer.specs.Tokenizer.Elements.{beside, closed, content_of, ends_content, inside, with_element}
+use Rattle.html_tokenizer.specs.Tokenizer.Elements.{beside, closed, content_of, content_state, ends_content, holds_comments, holds_markup, inside, with_element}
 use Rattle.html_tokenizer.specs.Tokenizer.States as state
 use Rattle.html_tokenizer.specs.Tokenizer.States.{State}
 use Rattle.html_tokenizer.specs.Tokenizer.Transitions.{Transition, goes, moves, refuses}
@@ -25,30 +23,6 @@ is_space b = is_white_space b || b == carriage_return
 
 abbrev pub exclamation_mark : ℕ
 exclamation_mark = 33
-
--- where the content of an element begins
-abbrev pub content_state : OpenElement → State
-content_state Script = state.InCode Plain
-content_state DataBlock = state.InCode Opaque
-content_state Style = state.InCode Plain
-content_state Frame = state.InCode Opaque
-content_state SvgStyle = state.InCode Opaque
-content_state NoScriptStyle = state.InCode Opaque
-content_state NoScriptFrame = state.InCode Opaque
-content_state other = state.In place.Text
-
--- contents of elements, in which tags and comments begin
-abbrev pub holds_comments : OpenElement → Bool
-holds_comments Normal = true
-holds_comments Svg = true
-holds_comments Math = true
-holds_comments Select = true
-holds_comments other = false
-
--- those and a `noscript`, in which tags alone begin, since a comment might hold its end tag
-abbrev pub holds_markup : OpenElement → Bool
-holds_markup NoScript = true
-holds_markup other = holds_comments other
 
 -- at the `>` of a start tag
 abbrev pub opened : Content → Transition

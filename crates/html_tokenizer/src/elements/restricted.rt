@@ -1,6 +1,6 @@
 //! Which elements are taken in the contents of `svg`, `math`, `select` and `noscript`.
 ghost use Rattle.std.specs.Prelude.{◌≡◌};
-ghost use Rattle.html_tokenizer.specs.Tokenizer.Elements.Restricted.{in_math, in_noscript, in_select, in_svg, is_left_out, is_left_out_of_svg, is_not_foreign, is_read_apart};
+ghost use Rattle.html_tokenizer.specs.Tokenizer.Elements.Restricted.{in_math, in_noscript, in_select, in_svg, is_left_out, is_left_out_of_svg, is_not_foreign, is_read_apart, is_text_alone};
 
 use crate::elements::OpenElement;
 
@@ -103,4 +103,14 @@ pub(crate) fn in_noscript(name: &[u8]) -> Option<OpenElement>
     } else {
         Some(OpenElement::NoScript)
     }
+}
+
+/// Whether it is raw text that is markup in another reading.
+pub(crate) fn is_text_alone(element: OpenElement) -> bool
+    ensures { result ≡ is_text_alone element }
+{
+    matches!(
+        element,
+        OpenElement::SvgStyle | OpenElement::NoScriptStyle | OpenElement::NoScriptFrame
+    )
 }

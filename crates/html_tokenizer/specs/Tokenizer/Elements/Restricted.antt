@@ -1,5 +1,5 @@
 -- Which elements are taken in the contents of `svg`, `math`, `select` and `noscript`.
-use Rattle.std.specs.Prelude.{ℕ, Bool, ◌||◌, not, List, ◌-◌, Option, Some, None, if◌then◌else◌, bytes_eq, codes}
+use Rattle.std.specs.Prelude.{ℕ, Bool, true, false, ◌||◌, List, Option, Some, None, if◌then◌else◌, bytes_eq, codes}
 use Rattle.html_tokenizer.specs.declared.elements.OpenElement.{OpenElement}
 use Rattle.html_tokenizer.specs.declared.elements.OpenElement.TheVariants.{Svg, SvgTitle, SvgStyle, Math, MathMi, MathMo, MathMn, MathMs, MathMtext, Select, NoScript, NoScriptStyle, NoScriptFrame}
 
@@ -64,3 +64,10 @@ in_noscript name =
     else (if bytes_eq name (codes "iframe") then Some NoScriptFrame
     else (if is_read_apart name then None
     else Some NoScript))
+
+-- raw text that is markup in another reading: no `<` stands in it but that of its end tag
+abbrev pub is_text_alone : OpenElement → Bool
+is_text_alone SvgStyle = true
+is_text_alone NoScriptStyle = true
+is_text_alone NoScriptFrame = true
+is_text_alone other = false
