@@ -14,19 +14,7 @@ pub(crate) fn is_utf_8(label: &[u8]) -> bool
 fn past<'b>(bytes: &'b [u8], word: &[u8]) -> Option<&'b [u8]>
     ensures { option_map (λ rest. rest.now) result ≡ past word.now bytes.now }
 {
-    let mut letters = word;
-    let mut rest = bytes;
-    'letters: while let [letter, others @ ..] = letters {
-        let [byte, after @ ..] = rest else {
-            return None;
-        };
-        if *byte != *letter {
-            return None;
-        }
-        letters = others;
-        rest = after;
-    }
-    Some(rest)
+    bytes.strip_prefix(word)
 }
 
 // The bytes after the first `charset`.

@@ -1,18 +1,17 @@
 -- The encoding that the `content` of a `meta` names.
 -- HTML Standard, 2.5.3 Extracting character encodings from meta elements, where `charset=` and a label of
 -- UTF-8 stand as they mostly do; Encoding Standard, 4.2 Names and labels.
-use Rattle.std.specs.Prelude.{ℕ, Bool, true, false, ◌||◌, List, [], ◌∷◌, ◌==◌, Option, Some, None, if◌then◌else◌, bytes_eq, codes}
+use Rattle.std.specs.Prelude.{ℕ, Bool, true, false, ◌||◌, List, [], ◌∷◌, ◌==◌, Option, Some, None, if◌then◌else◌, bytes_eq, codes, drop, length}
 use Rattle.std.specs.Option.{option_or}
 use Rattle.hesc_specs.specs.Text.Ascii.{semicolon, space}
+use Rattle.hesc_specs.specs.Text.Words.{begins}
 
 abbrev pub is_utf_8 : List ℕ → Bool
 is_utf_8 label = bytes_eq label (codes "utf-8") || bytes_eq label (codes "utf8")
 
 -- the bytes after the word, if it stands first
 abbrev pub past : List ℕ → List ℕ → Option (List ℕ)
-past [] bytes = Some bytes
-past (w ∷ word) [] = None
-past (w ∷ word) (b ∷ bytes) = if b == w then past word bytes else None
+past word bytes = if begins word bytes then Some (drop (length word) bytes) else None
 
 -- the bytes after the first `charset`
 abbrev pub after_charset : List ℕ → Option (List ℕ)
