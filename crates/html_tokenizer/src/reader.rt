@@ -158,9 +158,7 @@ impl<A: Allocator> Reader<A> {
         requires phase { self.old.phase ≡ phase }
         requires no_escape { IsNoScriptEscape phase }
         requires within { done.old ≤ length bytes.now }
-        ensures forth { OnOk result (done.old ≤ done.new) }
-        ensures within { OnOk result (done.new ≤ length bytes.now) }
-        ensures read { OnOk result (ReadsOn (tokenizer_of self.old) (tokenizer_of self.new)
+        ensures { OnOk result (ReadsOn (tokenizer_of self.old) (tokenizer_of self.new)
             bytes.now done.old done.new) }
     {
         *done += stretch(phase, self.content, self.kind, &bytes[*done..]);
@@ -177,9 +175,7 @@ impl<A: Allocator> Reader<A> {
     fn read_in(&mut self, phase: Phase, bytes: &[u8], done: &mut usize) -> Result<(), AllocError>
         requires phase { IsTextOrValue phase }
         requires within { done.old ≤ length bytes.now }
-        ensures forth { OnOk result (done.old ≤ done.new) }
-        ensures within { OnOk result (done.new ≤ length bytes.now) }
-        ensures read { OnOk result (ReadsOn (tokenizer_of self.old) (tokenizer_of self.new)
+        ensures { OnOk result (ReadsOn (tokenizer_of self.old) (tokenizer_of self.new)
             bytes.now done.old done.new) }
     {
         if !is_same(self.phase, phase) {
@@ -201,9 +197,7 @@ impl<A: Allocator> Reader<A> {
     fn read_name(&mut self, phase: Phase, bytes: &[u8], done: &mut usize) -> Result<(), AllocError>
         requires phase { IsBeforeName phase }
         requires within { done.old ≤ length bytes.now }
-        ensures forth { OnOk result (done.old ≤ done.new) }
-        ensures within { OnOk result (done.new ≤ length bytes.now) }
-        ensures read { OnOk result (ReadsOn (tokenizer_of self.old) (tokenizer_of self.new)
+        ensures { OnOk result (ReadsOn (tokenizer_of self.old) (tokenizer_of self.new)
             bytes.now done.old done.new) }
     {
         if !is_same(self.phase, phase) || *done == bytes.len() {
@@ -234,9 +228,7 @@ impl<A: Allocator> Reader<A> {
     #[inline(always)]
     fn read_markup(&mut self, bytes: &[u8], done: &mut usize) -> Result<(), AllocError>
         requires { done.old ≤ length bytes.now }
-        ensures forth { OnOk result (done.old ≤ done.new) }
-        ensures within { OnOk result (done.new ≤ length bytes.now) }
-        ensures read { OnOk result (ReadsOn (tokenizer_of self.old) (tokenizer_of self.new)
+        ensures { OnOk result (ReadsOn (tokenizer_of self.old) (tokenizer_of self.new)
             bytes.now done.old done.new) }
     {
         self.read_in(Phase::In(SlotPlace::DoubleQuoted), bytes, done)?;
@@ -254,9 +246,7 @@ impl<A: Allocator> Reader<A> {
     fn read_held(&mut self, bytes: &[u8], done: &mut usize) -> Result<(), AllocError>
         requires kind { self.old.kind ≡ kind.Ordinary }
         requires within { done.old ≤ length bytes.now }
-        ensures forth { OnOk result (done.old ≤ done.new) }
-        ensures within { OnOk result (done.new ≤ length bytes.now) }
-        ensures read { OnOk result (ReadsOn (tokenizer_of self.old) (tokenizer_of self.new)
+        ensures { OnOk result (ReadsOn (tokenizer_of self.old) (tokenizer_of self.new)
             bytes.now done.old done.new) }
     {
         let mut letters = [0; MOST_LETTERS];
@@ -272,9 +262,7 @@ impl<A: Allocator> Reader<A> {
         requires phase { self.old.phase ≡ phase.InCode code }
         requires kind { self.old.kind ≡ kind.Ordinary }
         requires within { done.old ≤ length bytes.now }
-        ensures forth { OnOk result (done.old ≤ done.new) }
-        ensures within { OnOk result (done.new ≤ length bytes.now) }
-        ensures read { OnOk result (ReadsOn (tokenizer_of self.old) (tokenizer_of self.new)
+        ensures { OnOk result (ReadsOn (tokenizer_of self.old) (tokenizer_of self.new)
             bytes.now done.old done.new) }
     {
         if self.content.element == OpenElement::Script {
@@ -291,9 +279,7 @@ impl<A: Allocator> Reader<A> {
     #[inline(always)]
     fn read_more(&mut self, bytes: &[u8], done: &mut usize) -> Result<(), AllocError>
         requires { done.old ≤ length bytes.now }
-        ensures forth { OnOk result (done.old ≤ done.new) }
-        ensures within { OnOk result (done.new ≤ length bytes.now) }
-        ensures read { OnOk result (ReadsOn (tokenizer_of self.old) (tokenizer_of self.new)
+        ensures { OnOk result (ReadsOn (tokenizer_of self.old) (tokenizer_of self.new)
             bytes.now done.old done.new) }
     {
         match (self.phase, self.kind) {

@@ -1,5 +1,5 @@
 -- The states of the running tokenizer, as those of the definitions.
-use Rattle.std.specs.Prelude.{⊤, ℕ, ◌≡◌, List, [], ◌∷◌, ◌++◌, take}
+use Rattle.std.specs.Prelude.{⊤, ℕ, ◌≡◌, ◌≤◌, List, [], ◌∷◌, ◌++◌, length, take}
 use Rattle.html_tokenizer.specs.declared.slot_place.SlotPlace.TheVariants as place
 use Rattle.html_tokenizer.specs.declared.reader.Reader.{Reader}
 use Rattle.html_tokenizer.specs.declared.states.Kind.{Kind}
@@ -82,9 +82,11 @@ moved m word =
 abbrev pub tokenizer_of : {A : Type 0} → Reader A → Tokenizer
 tokenizer_of reader = at_value (state_of reader.phase reader.word.items) reader.content (attribute_in reader.kind reader.word.items)
 
--- what is after so many of the bytes leads to what is after so many
-abbrev pub ReadsOn : Tokenizer → Tokenizer → List ℕ → ℕ → ℕ → Type 0
-ReadsOn t u bytes before after = (start : Tokenizer) → t ≡ state_after start (take before bytes) → u ≡ state_after start (take after bytes)
+-- from where so many of the bytes led to where so many of them lead, which are no fewer
+pub record ReadsOn (t u : Tokenizer) (bytes : List ℕ) (before after : ℕ) : Type 0 where
+  pub forth : before ≤ after
+  pub within : after ≤ length bytes
+  pub read : (start : Tokenizer) → t ≡ state_after start (take before bytes) → u ≡ state_after start (take after bytes)
 
 -- the tokenizer is not within an escape of a script's string
 abbrev pub IsNoScriptEscape : Phase → Type 0
