@@ -241,8 +241,8 @@ impl<A: Allocator> Reader<A> {
         self.read_in(Phase::BeforeValue, bytes, done)
     }
 
-    // Reads on in a name or a reference.
-    #[inline(always)]
+    // Reads on in a name, a reference or an end tag of text or code.
+    #[inline]
     fn read_held(&mut self, bytes: &[u8], done: &mut usize) -> Result<(), AllocError>
         requires kind { self.old.kind ≡ kind.Ordinary }
         requires within { done.old ≤ length bytes.now }
@@ -284,8 +284,15 @@ impl<A: Allocator> Reader<A> {
     {
         match (self.phase, self.kind) {
             (Phase::InCode(code), Kind::Ordinary) => self.read_code(code, bytes, done),
-            (Phase::TagName | Phase::EndTagName | Phase::Name | Phase::Within(_), Kind::Ordinary) =>
-                self.read_held(bytes, done),
+            (
+                Phase::TagName
+                | Phase::EndTagName
+                | Phase::Name
+                | Phase::Within(_)
+                | Phase::ValueEndTag(_)
+                | Phase::CodeEndTag(_),
+                Kind::Ordinary,
+            ) => self.read_held(bytes, done),
             (
                 Phase::In(SlotPlace::Text | SlotPlace::DoubleQuoted | SlotPlace::SingleQuoted)
                 | Phase::TagOpen

@@ -1,4 +1,4 @@
-//! Names and references: the bytes with which they go on, held on the stack.
+//! Names, references and end tags of text and code: the letters with which they go on, held on the stack.
 ghost use Rattle.std.specs.Prelude.{◌≡◌, ◌≤◌, ◌+◌, ◌++◌, ◌∷◌, [], ℕ, List, length, take, IfSome};
 ghost use Rattle.html_tokenizer.specs.Tokenizer.Phases.{IsInName, moved, state_of};
 ghost use Rattle.html_tokenizer.specs.Tokenizer.States.{at};
@@ -9,7 +9,7 @@ use crate::flags::name_letter;
 use crate::slot_place::SlotPlace;
 use crate::states::{Kind, Move, Phase, Word};
 
-/// How many letters of a name or of a reference are read at once.
+/// How many letters are read at once.
 pub(crate) const MOST_LETTERS: usize = 32;
 
 /// Where a move begins a name, the state of the name and its first letter.
@@ -27,7 +27,7 @@ pub(crate) fn begun_name(next: Move) -> Option<(Phase, u8)>
     }
 }
 
-// The byte as a name or a reference holds it, if it goes on with the byte.
+// The byte as the state holds it, if what it holds goes on with the byte.
 #[inline(always)]
 #[tactic(auto, unfolding(crate::specs::Tokenizer::Tokenization::consume))]
 fn held_letter(phase: Phase, byte: u8) -> Option<u8>
@@ -43,12 +43,13 @@ fn held_letter(phase: Phase, byte: u8) -> Option<u8>
             | SlotPlace::SingleQuoted
             | SlotPlace::Unquoted,
         ) if byte.is_ascii_alphanumeric() => Some(byte),
+        Phase::ValueEndTag(_) | Phase::CodeEndTag(_) if byte.is_ascii_alphabetic() => Some(byte),
         _ => None,
     }
 }
 
-/// Reads on in a name or a reference, in a state that holds one, over these bytes, and answers over how
-/// many: to its end, or as many as there is room for behind those letters that are read already.
+/// Reads on over these bytes, in a state that holds letters, and answers over how many: to the first
+/// other byte, or as many as there is room for behind those letters that are read already.
 #[inline(always)]
 pub(crate) fn read_letters(
     phase: Phase,
