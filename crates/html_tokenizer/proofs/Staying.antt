@@ -1,24 +1,10 @@
 -- Stretches of bytes at which the tokenizer stays where it is.
-use Rattle.std.proofs.Common.{ℕ, zero, suc, ◌≡◌, ◌<◌, ◌≤◌, ◌+◌, ◌-◌, Bool, true, false, not, List, [], ◌∷◌, ◌==◌, ◌||◌, length, take, drop, slice_index, refl, ap, sym, ◌∙◌, arith}
-use Rattle.std.proofs.lemmas.Bool.{or_parts}
+use Rattle.std.proofs.Common.{ℕ, zero, suc, ◌≡◌, ◌<◌, ◌≤◌, ◌+◌, ◌-◌, Bool, false, List, [], ◌∷◌, length, take, drop, slice_index, refl, ap, ◌∙◌, arith}
 use Rattle.std.proofs.Math.Seq.{take-add}
 use Rattle.std.proofs.lemmas.List.{take_more, take_rest}
-use Rattle.hesc_specs.specs.Text.Ascii.{ampersand, less_than}
 use Rattle.hesc_specs.specs.Text.FirstPlace.{IsFirstPlace}
-use Rattle.html_tokenizer.specs.declared.slot_place.SlotPlace.{SlotPlace}
-use Rattle.html_tokenizer.specs.declared.slot_place.SlotPlace.TheVariants.{Text}
-use Rattle.html_tokenizer.specs.declared.states.Code.TheVariants.{BlockComment, Opaque}
-use Rattle.html_tokenizer.specs.declared.states.Code.{Code}
-use Rattle.html_tokenizer.specs.declared.elements.Content.{Content}
-use Rattle.html_tokenizer.specs.Tokenizer.Code.{code_byte}
-use Rattle.html_tokenizer.specs.Tokenizer.Code.Characters.{asterisk}
-use Rattle.html_tokenizer.specs.Tokenizer.Code.Comments.{block_byte, stays}
-use Rattle.html_tokenizer.specs.Tokenizer.Code.Escapes.{escaped_byte}
-use Rattle.html_tokenizer.specs.Tokenizer.Comments.{dash}
-use Rattle.html_tokenizer.specs.Tokenizer.Attributes.{value_byte_read}
-use Rattle.html_tokenizer.specs.Tokenizer.States.{Attribute, Comment, In, InCode, Tokenizer, at, at_value}
-use Rattle.html_tokenizer.specs.Tokenizer.Tokenization.{consume, state_after, value_byte}
-use Rattle.html_tokenizer.specs.Tokenizer.Values.{quoted_byte}
+use Rattle.html_tokenizer.specs.Tokenizer.States.{Tokenizer}
+use Rattle.html_tokenizer.specs.Tokenizer.Tokenization.{consume, state_after}
 use Rattle.html_tokenizer.proofs.Passing.{state_after-append}
 
 -- one byte more

@@ -1,4 +1,4 @@
--- What a byte does in a comment of a script or a style.
+-- A byte of code that leads on in the code, and what a byte does in a comment of a script or a style.
 -- ECMAScript, 12.4 Comments; CSS Syntax Module Level 3, 4.3.2 Consume comments.
 use Rattle.std.specs.Prelude.{ℕ, Bool, ◌||◌, [], ◌∷◌, ◌==◌, if◌then◌else◌}
 use Rattle.hesc_specs.specs.Text.Ascii.{line_feed, carriage_return, slash}

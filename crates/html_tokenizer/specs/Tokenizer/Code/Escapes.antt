@@ -4,7 +4,6 @@ use Rattle.hesc_specs.specs.Text.Ascii.{greater_than}
 use Rattle.html_tokenizer.specs.declared.states.Code.{Code}
 use Rattle.html_tokenizer.specs.declared.states.Code.TheVariants as code
 use Rattle.html_tokenizer.specs.declared.elements.Content.{Content}
-use Rattle.html_tokenizer.specs.declared.elements.OpenElement.TheVariants.{Script}
 use Rattle.html_tokenizer.specs.Tokenizer.Comments.{dash}
 use Rattle.html_tokenizer.specs.Tokenizer.Transitions.{Transition}
 use Rattle.html_tokenizer.specs.Tokenizer.Code.Comments.{stays, gives_up}
