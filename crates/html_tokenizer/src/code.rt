@@ -6,8 +6,8 @@ pub(crate) mod styles;
 pub(crate) mod words;
 
 ghost use Rattle.std.specs.Prelude.{◌≡◌, ℕ, List};
-ghost use Rattle.html_tokenizer.specs.Tokenizer.Code.{code_after_solidus, code_at_less, code_byte, code_less_byte, in_code_byte, is_script, less_byte};
 ghost use Rattle.html_tokenizer.specs.Tokenizer.Code.Comments.{block_byte, block_star_byte, gives_up, stays};
+ghost use Rattle.html_tokenizer.specs.Tokenizer.Code.{code_after_solidus, code_at_less, code_byte, code_less_byte, in_code_byte, is_script, less_byte};
 ghost use Rattle.html_tokenizer.specs.Tokenizer.Phases.{moved};
 
 use crate::code::escapes::{double_escaped_less_byte, escaped_less_byte};

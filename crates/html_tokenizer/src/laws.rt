@@ -1,8 +1,8 @@
 //! The law of the tokenizer.
 ghost use Rattle.std.specs.Prelude.{◌≡◌};
-ghost use Rattle.hesc_specs.specs.Text.Ascii.{carriage_return, double_quote, less_than, line_feed, single_quote};
 ghost use Rattle.hesc_grammars.specs.declared.place.End.{End};
 ghost use Rattle.hesc_grammars.specs.declared.place.Place.TheVariants as place;
+ghost use Rattle.hesc_specs.specs.Text.Ascii.{carriage_return, double_quote, less_than, line_feed, single_quote};
 ghost use Rattle.html_tokenizer.specs.Agreement.{AgreesInString, AgreesUnquoted, AgreesWith};
 ghost use Rattle.html_tokenizer.specs.Tokenizer.States.{BeforeValue, In, at};
 ghost use Rattle.html_tokenizer.specs.Tokenizer.Tokenization.{consume};

@@ -4,8 +4,8 @@ pub(crate) mod stretches;
 
 ghost use Rattle.std.specs.Prelude.{◌≡◌, ◌≤◌, ◌↔◌, OnOk, IsTrue, length};
 ghost use Rattle.html_tokenizer.specs.Standing.{AfterStanding, is_refused, may_end, standing};
-ghost use Rattle.html_tokenizer.specs.Tokenizer.Code.Strings.{script_escape_byte};
 ghost use Rattle.html_tokenizer.specs.Tokenizer.Attributes.{reference_read};
+ghost use Rattle.html_tokenizer.specs.Tokenizer.Code.Strings.{script_escape_byte};
 ghost use Rattle.html_tokenizer.specs.Tokenizer.Phases.{IsBeforeName, IsNoScriptEscape, IsTextOrValue, ReadsOn, attribute_in, moved, tokenizer_of};
 ghost use Rattle.html_tokenizer.specs.Tokenizer.States.{at, data_state};
 ghost use Rattle.html_tokenizer.specs.Tokenizer.Tokenization.{consume, state_after};

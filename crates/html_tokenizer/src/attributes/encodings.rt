@@ -1,6 +1,6 @@
 //! The encoding that the `content` of a `meta` names.
-ghost use Rattle.std.specs.Prelude.{◌≡◌};
 ghost use Rattle.std.specs.Option.{option_map};
+ghost use Rattle.std.specs.Prelude.{◌≡◌};
 ghost use Rattle.html_tokenizer.specs.Tokenizer.Attributes.Encodings.{after_charset, ends_label, has_first, is_utf_8, names_no_other, past};
 
 /// Whether the label is one of UTF-8.

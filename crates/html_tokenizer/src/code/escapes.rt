@@ -1,8 +1,8 @@
 //! What `<!--` begins in a script, and other code that takes no slot.
 ghost use Rattle.std.specs.Prelude.{◌≡◌, ℕ, List, true};
-ghost use Rattle.html_tokenizer.specs.Tokenizer.Code.{code_word_byte, double_escaped_less_byte, escaped_less_byte};
 ghost use Rattle.html_tokenizer.specs.Tokenizer.Code.Escapes.{is_opaque};
 ghost use Rattle.html_tokenizer.specs.Tokenizer.Code.Scripts.{script_code_byte};
+ghost use Rattle.html_tokenizer.specs.Tokenizer.Code.{code_word_byte, double_escaped_less_byte, escaped_less_byte};
 ghost use Rattle.html_tokenizer.specs.Tokenizer.Phases.{moved};
 
 use crate::code::{in_code_byte, stays};

@@ -1,10 +1,10 @@
 //! What a byte does in a string of a script or a style.
-ghost use Rattle.std.specs.Prelude.{◌≡◌, ◌++◌, ◌∷◌, [], ℕ, Bool, List};
 ghost use Rattle.std.specs.Char.{is_digit};
+ghost use Rattle.std.specs.Prelude.{◌≡◌, ◌++◌, ◌∷◌, [], ℕ, Bool, List};
 ghost use Rattle.hesc_grammars.specs.StyleStrings.{is_newline_or_nul};
+ghost use Rattle.html_tokenizer.specs.Tokenizer.Attributes.{reference_read};
 ghost use Rattle.html_tokenizer.specs.Tokenizer.Code.Comments.{ends_line};
 ghost use Rattle.html_tokenizer.specs.Tokenizer.Code.Strings.{begins_hex_escape, character_of_escape, script_escape_byte, string_byte, string_less_byte, style_escape_byte};
-ghost use Rattle.html_tokenizer.specs.Tokenizer.Attributes.{reference_read};
 ghost use Rattle.html_tokenizer.specs.Tokenizer.Phases.{attribute_in, moved};
 ghost use Rattle.html_tokenizer.specs.Tokenizer.Transitions.{Transition};
 

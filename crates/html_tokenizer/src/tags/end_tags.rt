@@ -1,15 +1,15 @@
 //! The end tags that end a text, a string or code.
+ghost use Rattle.std.specs.Char.{to_ascii_lowercase};
 ghost use Rattle.std.specs.Prelude.{◌≡◌, ℕ, List, map};
 ghost use Rattle.html_tokenizer.specs.Tokenizer.Actions.{Action};
-ghost use Rattle.html_tokenizer.specs.Tokenizer.Phases.{moved, attribute_in};
+ghost use Rattle.html_tokenizer.specs.Tokenizer.Attributes.{reference_read};
+ghost use Rattle.html_tokenizer.specs.Tokenizer.Code.{code_end_tag_byte};
+ghost use Rattle.html_tokenizer.specs.Tokenizer.Phases.{attribute_in, moved};
 ghost use Rattle.html_tokenizer.specs.Tokenizer.States.{Tokenizer};
 ghost use Rattle.html_tokenizer.specs.Tokenizer.Tags.EndTags.{held_end_tag_byte, is_appropriate, is_rcdata};
-ghost use Rattle.html_tokenizer.specs.Tokenizer.Transitions.{Transition};
-ghost use Rattle.std.specs.Char.{to_ascii_lowercase};
-ghost use Rattle.html_tokenizer.specs.Tokenizer.Values.{rcdata_end_tag_open_byte, rcdata_less_byte};
-ghost use Rattle.html_tokenizer.specs.Tokenizer.Attributes.{reference_read};
 ghost use Rattle.html_tokenizer.specs.Tokenizer.Tokenization.{value_end_tag_byte};
-ghost use Rattle.html_tokenizer.specs.Tokenizer.Code.{code_end_tag_byte};
+ghost use Rattle.html_tokenizer.specs.Tokenizer.Transitions.{Transition};
+ghost use Rattle.html_tokenizer.specs.Tokenizer.Values.{rcdata_end_tag_open_byte, rcdata_less_byte};
 
 use crate::attributes::reference_read;
 use crate::code::in_code_byte;

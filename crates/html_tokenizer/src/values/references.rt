@@ -1,12 +1,12 @@
 //! What a byte does in a character reference, and after a `&` that begins none.
-ghost use Rattle.std.specs.Prelude.{◌≡◌, bytes_eq};
 ghost use Rattle.std.specs.List.{list_any};
 ghost use Rattle.std.specs.Option.{is_some};
+ghost use Rattle.std.specs.Prelude.{◌≡◌, bytes_eq};
 ghost use Rattle.hesc_specs.specs.Text.Words.{begins};
 ghost use Rattle.html_tokenizer.specs.Tokenizer.Attributes.{reference_read};
 ghost use Rattle.html_tokenizer.specs.Tokenizer.Phases.{attribute_in, moved};
-ghost use Rattle.html_tokenizer.specs.Tokenizer.Values.References.{begins_with_legacy, goes_on, is_legacy, named_characters, reference_end, unnamed_end};
 ghost use Rattle.html_tokenizer.specs.Tokenizer.Transitions.{Transition};
+ghost use Rattle.html_tokenizer.specs.Tokenizer.Values.References.{begins_with_legacy, goes_on, is_legacy, named_characters, reference_end, unnamed_end};
 
 use crate::attributes::reference_read;
 use crate::elements::Content;
