@@ -1,0 +1,42 @@
+-- What a component's bytes are, and that it decodes to its text.
+use Rattle.std.proofs.Common.{◌≡◌, ℕ, true, false, not, List, ◌++◌, All, refl, ap, ◌∙◌, arith}
+use Rattle.std.proofs.lemmas.Bool.Decides.{nat_tests}
+use Rattle.std.proofs.lemmas.List.Elements.{All-weaker}
+use Rattle.percent_encoding.specs.declared.ascii_set.AsciiSet.{AsciiSet}
+use Rattle.percent_encoding.specs.Percent.{percent_encode, percent_decode}
+use Rattle.percent_encoding.specs.AsciiSet.{contains}
+use Rattle.percent_encoding.proofs.PercentLemmas.{IsByte, IsEscapeByte, All-percent_encode, percent_encode-append, percent_encode_unchanged, round_trip}
+use Rattle.url.proofs.InputLemmas.{IsNot, Passes}
+use Rattle.url.proofs.SetLemmas.{outside_pass, passing_outside, is_escape_byte, passes_from_kept, encoded_is_kept}
+use Rattle.html_urls.specs.declared.component.TheConstants.{COMPONENT}
+use Rattle.html_urls.specs.Components.{component, is_component_byte}
+use Rattle.html_urls.specs.Inputs.{IsVisible}
+
+escape_is_component : (b : ℕ) → IsEscapeByte b → Passes is_component_byte b
+escape_is_component b escape = grind (arith, nat_tests)
+
+-- letters, digits, `-._~` and `%`
+pub component_bytes : (text : List ℕ) → All (Passes is_component_byte) (component text)
+component_bytes text =
+    All-percent_encode (Passes is_component_byte) COMPONENT text (passes_from_kept COMPONENT is_component_byte refl) escape_is_component
+
+pub component_visible : (text : List ℕ) → All IsVisible (component text)
+component_visible text =
+    All-weaker (Passes is_component_byte) IsVisible (λ b passes. grind (arith, nat_tests)) (component text) (component_bytes text)
+
+-- no byte that the test refuses is in a component
+pub component_without : (mark : ℕ) → is_component_byte mark ≡ false → (text : List ℕ) → All (IsNot mark) (component text)
+component_without mark other text =
+    All-weaker (Passes is_component_byte) (IsNot mark) (λ b passes same. let clash = rw (same, other) at passes in cc) (component text) (component_bytes text)
+
+-- decoding gives the text back
+pub decode-component : (text : List ℕ) → All IsByte text → percent_decode (component text) ≡ text
+decode-component text small = round_trip COMPONENT text refl small
+
+-- a set that escapes no byte of a component leaves it as it is between others
+pub encode_around : (set : AsciiSet) → outside_pass COMPONENT (λ b. not (contains set b)) ≡ true → passing_outside is_escape_byte set ≡ true → (before text after : List ℕ) →
+    percent_encode set (before ++ component text ++ after) ≡ percent_encode set before ++ component text ++ percent_encode set after
+encode_around set within escapes before text after =
+    let kept = percent_encode_unchanged set (component text) (encoded_is_kept COMPONENT set within escapes text) in
+    percent_encode-append set (before ++ component text) after
+    ∙ ap (λ x. x ++ percent_encode set after) (percent_encode-append set before (component text) ∙ ap (λ x. percent_encode set before ++ x) kept)

@@ -1,0 +1,2 @@
+pub mod LinkLaw
+pub mod SchemeOf

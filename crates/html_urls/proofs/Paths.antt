@@ -1,0 +1,5 @@
+pub mod OneSegment
+pub mod Opening
+pub mod PathLaw
+pub mod PathSegments
+pub mod SegmentFits

@@ -1,0 +1,128 @@
+-- A text in the path.
+use Rattle.std.proofs.Common.{◌≡◌, ℕ, ◌<◌, true, false, List, [], ◌∷◌, ◌++◌, length, Option, None, Ok, Err, codes, All, sym, refl, ap, ◌∙◌, subst, append_assoc, arith}
+use Rattle.std.proofs.lemmas.List.Elements.{All-nil, All-head, All-tail, All-append, All-weaker}
+use Rattle.percent_encoding.specs.Percent.{percent_encode}
+use Rattle.percent_encoding.proofs.PercentLemmas.{percent_encode_nonempty}
+use Rattle.url.specs.declared.sets.TheConstants.{PATH}
+use Rattle.url.specs.declared.scheme.SchemeType.TheVariants.{SpecialNotFile}
+use Rattle.url.specs.Input.{split_once}
+use Rattle.url.specs.Path.{dot_count, parse_path}
+use Rattle.url.specs.Parts.{Parts}
+use Rattle.url.specs.Parser.{Parsed, and_then, parse_authority, with_path, with_tail, split_scheme, parse_by_scheme, parse_url}
+use Rattle.url.proofs.InputLemmas.{split_once_none}
+use Rattle.html_urls.specs.declared.component.TheConstants.{COMPONENT}
+use Rattle.html_urls.specs.Components.{component}
+use Rattle.html_urls.specs.Heads.{on_ok}
+use Rattle.html_urls.specs.Hosts.{FixesHost, absolute, rooted, relative, IsWebBase}
+use Rattle.html_urls.specs.Inputs.{IsNot, kept, kept_rest}
+use Rattle.html_urls.specs.Paths.{is_path_byte, IsPathText, EndsInPath, FitsSegment, path_goes_on}
+use Rattle.html_urls.specs.Rests.{path_of, query_of, fragment_of}
+use Rattle.html_urls.specs.Segments.{last_segment, HasNoDotSegments}
+use Rattle.html_urls.proofs.Components.{component_without, encode_around}
+use Rattle.html_urls.proofs.Splits.{kept_around, split_clear}
+use Rattle.html_urls.proofs.Paths.PathSegments.{last_after, path_grows}
+use Rattle.html_urls.proofs.Paths.Opening.{Reads, from_base, folder_of, all_left, all_right, rooted_reads, root_reads, folder_reads, absolute_reads}
+
+-- ---- bytes
+
+path_without : (mark : ℕ) → is_path_byte mark ≡ false → (bytes : List ℕ) → IsPathText bytes → All (IsNot mark) bytes
+path_without mark other = All-weaker (λ b. is_path_byte b ≡ true) (IsNot mark) (λ b passes same. let clash = rw (same, other) at passes in cc)
+
+-- ---- what the parser has read at the end of the front
+
+record Opened (base : Option Parts) (front text : List ℕ) : Type 0 where
+  start : Parsed Parts
+  path : List ℕ
+  body : List ℕ
+  plain : All (IsNot 92) body
+  last : last_segment body ≡ last_segment front
+  alone : Reads base front start path body
+  goes_on : (rest : List ℕ) → Reads base (front ++ (component text ++ rest)) start path (body ++ (component text ++ rest))
+
+root_goes_on : (base : Option Parts) (c rest : List ℕ) → IsWebBase base → 0 < length c → All (IsNot 47) c → All (IsNot 92) c → Reads base (47 ∷ (c ++ rest)) (from_base base) [] (c ++ rest)
+root_goes_on base [] rest web some other plain = absurd (omega arith)
+root_goes_on base (b ∷ c) rest web some other plain = rooted_reads base b (c ++ rest) web (All-head (IsNot 47) b c other) (All-head (IsNot 92) b c plain)
+
+opened : (base : Option Parts) (front text : List ℕ) → IsWebBase base → All (IsNot 92) front → FixesHost front → (front ≡ 47 ∷ [] → 0 < length text) → Opened base front text
+opened base _ text web plain (absolute scheme host rest is_web some other) text_some =
+    let head = scheme ++ codes "://" ++ host in
+    let before = all_left (IsNot 92) head (47 ∷ rest) plain in
+    let host_plain = all_right (IsNot 92) (scheme ++ codes "://") host before in
+    let after = All-tail (IsNot 92) 47 rest (all_right (IsNot 92) head (47 ∷ rest) plain) in
+    record {
+      start = parse_authority scheme host;
+      path = [];
+      body = rest;
+      plain = after;
+      last = sym (last_after head rest);
+      alone = absolute_reads base scheme host rest is_web some other host_plain;
+      goes_on = λ more. subst (λ x. Reads base x (parse_authority scheme host) [] (rest ++ (component text ++ more))) (sym (append_assoc head (47 ∷ rest) (component text ++ more))) (absolute_reads base scheme host (rest ++ (component text ++ more)) is_web some other host_plain);
+    }
+opened base _ text web plain (rooted [] other) text_some = record {
+  start = from_base base;
+  path = [];
+  body = [];
+  plain = All-nil (IsNot 92);
+  last = sym (last_after [] []);
+  alone = root_reads base web;
+  goes_on = λ more. root_goes_on base (component text) more web (percent_encode_nonempty COMPONENT text (text_some refl)) (component_without 47 refl text) (component_without 92 refl text);
+}
+opened base _ text web plain (rooted (b ∷ rest) other) text_some =
+    let after = All-tail (IsNot 92) 47 (b ∷ rest) plain in
+    record {
+      start = from_base base;
+      path = [];
+      body = b ∷ rest;
+      plain = after;
+      last = sym (last_after [] (b ∷ rest));
+      alone = rooted_reads base b rest web other (All-head (IsNot 92) b rest after);
+      goes_on = λ more. rooted_reads base b (rest ++ (component text ++ more)) web other (All-head (IsNot 92) b rest after);
+    }
+opened base _ text web plain (relative rest) text_some = record {
+  start = from_base base;
+  path = folder_of base;
+  body = 46 ∷ 47 ∷ rest;
+  plain = plain;
+  last = refl;
+  alone = folder_reads base rest web;
+  goes_on = λ more. folder_reads base (rest ++ (component text ++ more)) web;
+}
+
+-- ---- the law
+
+grow : (start : Parsed Parts) (text rest path longer : List ℕ) → longer ≡ path ++ component text ++ percent_encode PATH (path_of rest) →
+    and_then start (λ url. Ok (with_tail (with_path url longer) (query_of rest) (fragment_of rest))) ≡ on_ok (path_goes_on text rest) (and_then start (λ url. Ok (with_tail (with_path url path) None None)))
+grow (Ok url) text rest path longer grown = ap (λ p. Ok (with_tail (with_path url p) (query_of rest) (fragment_of rest))) grown
+grow (Err e) text rest path longer grown = refl
+
+-- THE PATH LAW: the URL is that of the front, with a path that goes on, and the query and the fragment of the rest
+pub path_law : (base : Option Parts) (front text rest : List ℕ) → IsWebBase base → EndsInPath front → FitsSegment front text rest →
+    parse_url base (front ++ component text ++ rest) ≡ on_ok (path_goes_on text rest) (parse_url base front)
+unfolding parse_url percent_encode
+path_law base front text rest web place fits =
+    let c = component text in
+    let before = kept front in
+    let hash = split_once 35 (kept_rest rest) in
+    let body = path_of rest in
+    let at = opened base before text web (path_without 92 refl before place.plain) place.fixed fits.some in
+    let none = λ (mark : ℕ) (other : is_path_byte mark ≡ false). path_without mark other before place.plain in
+    let whole_hash =
+    ap (split_once 35) (kept_around front text rest place.ends)
+    ∙ split_clear 35 before (c ++ kept_rest rest) (none 35 refl)
+    ∙ ap (λ r. (before ++ r.0, r.1)) (split_clear 35 c (kept_rest rest) (component_without 35 refl text)) in
+    let whole_question =
+    split_clear 63 before (c ++ hash.0) (none 63 refl)
+    ∙ ap (λ r. (before ++ r.0, r.1)) (split_clear 63 c hash.0 (component_without 63 refl text)) in
+    let front_hash = split_once_none 35 before (none 35 refl) in
+    let front_question = split_once_none 63 before (none 63 refl) in
+    let read = λ (r : List ℕ × Option (List ℕ)) (fragment : Option (List ℕ)). parse_by_scheme (split_scheme r.0) base r.0 r.1 fragment in
+    let read_hash = λ (r : List ℕ × Option (List ℕ)). read (split_once 63 r.0) r.1 in
+    let after_plain = All-append (IsNot 92) c body (component_without 92 refl text) (path_without 92 refl body fits.plain) in
+    let resolved : dot_count (last_segment at.body) ≡ 0 = ap dot_count at.last ∙ place.resolved in
+    let dots : HasNoDotSegments (last_segment at.body ++ (c ++ body)) =
+    subst HasNoDotSegments (append_assoc (last_segment before) c body ∙ ap (λ x. x ++ (c ++ body)) (sym at.last)) fits.resolved in
+    let encoded = encode_around PATH refl refl [] text body in
+    let grown = path_grows at.path at.body (c ++ body) at.plain after_plain resolved dots ∙ ap (λ x. parse_path SpecialNotFile at.path at.body ++ x) encoded ∙ sym (append_assoc (parse_path SpecialNotFile at.path at.body) c (percent_encode PATH body)) in
+    ap read_hash whole_hash ∙ ap (λ r. read r hash.1) whole_question ∙ at.goes_on body (query_of rest) (fragment_of rest)
+    ∙ grow at.start text rest (parse_path SpecialNotFile at.path at.body) (parse_path SpecialNotFile at.path (at.body ++ (c ++ body))) grown
+    ∙ sym (ap (on_ok (path_goes_on text rest)) (ap read_hash front_hash ∙ ap (λ r. read r None) front_question ∙ at.alone None None))

@@ -1,0 +1,3 @@
+pub mod PlaceSound
+pub mod PlaceStays
+pub mod UrlLaw

@@ -1,0 +1,107 @@
+-- The test of a front tells what the laws ask.
+use Rattle.std.proofs.Common.{◌≡◌, ◌≢◌, ℕ, ◌-◌, ◌<◌, true, false, ◌&&◌, ◌==◌, nat_lt, List, [], ◌∷◌, ◌++◌, length, get_or, codes, bytes_eq, Option, Some, None, IfSome, is_some, All, sym, ap, ◌∙◌, subst, inl, inr, ⊎_elim, append_assoc, arith}
+use Rattle.std.specs.List.{list_all}
+use Rattle.std.proofs.lemmas.Bool.{cond_both, cases_Bool, cases_eq, and_parts, eq-eqb, ne_eqb}
+use Rattle.std.proofs.lemmas.Bool.Decides.{nat_tests}
+use Rattle.std.proofs.lemmas.List.Elements.{All-nil, All-cons}
+use Rattle.std.proofs.lemmas.Slice.Eq.{bytes_eq-Decides}
+use Rattle.url.specs.Input.{split_once}
+use Rattle.url.specs.Path.{dot_count}
+use Rattle.url.specs.Parser.{split_scheme}
+use Rattle.url.proofs.InputLemmas.{All_from_list_all}
+use Rattle.html_urls.specs.Hosts.{IsWebScheme, FixesHost, absolute, rooted, relative}
+use Rattle.html_urls.specs.Inputs.{IsNot, EndsVisibly, kept}
+use Rattle.html_urls.specs.Paths.{is_path_byte, EndsInPath}
+use Rattle.html_urls.specs.Places.{is_web_scheme, has_whole_host, is_absolute, fixes_host, place_of_kept, place_of, EndsIn}
+use Rattle.html_urls.specs.Segments.{last_segment}
+use Rattle.html_urls.specs.declared.place.UrlPlace.{UrlPlace}
+use Rattle.html_urls.specs.declared.place.UrlPlace.TheVariants.{Path, Query, Fragment}
+use Rattle.html_urls.proofs.Splits.{some_value}
+use Rattle.html_urls.proofs.Links.LinkLaw.{IsSchemeOf, own_scheme}
+
+web_scheme : (scheme : List ℕ) → is_web_scheme scheme ≡ true → IsWebScheme scheme
+web_scheme scheme known =
+    ⊎_elim
+    (λ (http : bytes_eq scheme (codes "http") ≡ true). inl ((bytes_eq-Decides scheme (codes "http")).0 http))
+    (λ (other : bytes_eq scheme (codes "http") ≡ false). let https : bytes_eq scheme (codes "https") ≡ true = rw other at known in inr ((bytes_eq-Decides scheme (codes "https")).0 https))
+    (cases_Bool (bytes_eq scheme (codes "http")))
+
+-- what stands before a mark has none of it, and is followed by it
+split_parts : (s : ℕ) (xs after : List ℕ) → (split_once s xs).1 ≡ Some after → All (IsNot s) (split_once s xs).0 × (xs ≡ (split_once s xs).0 ++ s ∷ after)
+unfolding split_once
+split_parts s [] after found = cc
+split_parts s (x ∷ xs) after found =
+    ⊎_elim
+    (λ (here : x ≡ s).
+    let same : Some xs ≡ Some after = rw (eq-eqb x s here) at found in
+    let rest : xs ≡ after = cc in
+    (rw (eq-eqb x s here) (All-nil (IsNot s)), rw (eq-eqb x s here) (λ i. here i ∷ rest i)))
+    (λ (other : x ≢ s).
+    let later = split_parts s xs after (rw (ne_eqb x s other) at found) in
+    (rw (ne_eqb x s other) (All-cons (IsNot s) x (split_once s xs).0 other later.0), rw (ne_eqb x s other) (ap (λ l. x ∷ l) later.1)))
+    (cases_eq x s)
+
+whole_host : (front scheme body : List ℕ) → front ≡ scheme ++ 58 ∷ body → is_web_scheme scheme ≡ true → has_whole_host body ≡ true → FixesHost front
+whole_host front scheme (a ∷ b ∷ more) is web host =
+    let found : is_some (split_once 47 more).1 ≡ true = (and_parts (a == 47 && b == 47 && nat_lt 0 (length (split_once 47 more).0)) (is_some (split_once 47 more).1) host).1 in
+    let first : a ≡ 47 = grind (arith, nat_tests) in
+    let second : b ≡ 47 = grind (arith, nat_tests) in
+    let (rest, after) = some_value (split_once 47 more).1 found in
+    let (none, joined) = split_parts 47 more rest after in
+    let name = (split_once 47 more).0 in
+    let nonempty : 0 < length name = grind (arith, nat_tests) in
+    let spelled : front ≡ scheme ++ codes "://" ++ name ++ 47 ∷ rest =
+    is ∙ (λ i. scheme ++ 58 ∷ first i ∷ second i ∷ joined i) ∙ simp append_assoc in
+    subst FixesHost (sym spelled) (absolute scheme name rest (web_scheme scheme web) nonempty none)
+whole_host front scheme (a ∷ []) is web host = cc
+whole_host front scheme [] is web host = cc
+
+fixed : (front : List ℕ) → fixes_host front ≡ true → FixesHost front
+fixed [] fixes = cc
+fixed (b ∷ rest) fixes =
+    ⊎_elim
+    (λ (root : (b == 47) ≡ true).
+    let same : b ≡ 47 = grind (arith, nat_tests) in
+    let other : get_or rest 0 0 ≢ 47 = λ e. let clash = rw root at fixes in absurd (grind (arith, nat_tests)) in
+    subst (λ x. FixesHost (x ∷ rest)) (sym same) (rooted rest other))
+    (λ (no_root : (b == 47) ≡ false).
+    ⊎_elim
+    (λ (folder : (b == 46) ≡ true).
+    let same : b ≡ 46 = grind (arith, nat_tests) in
+    let next : (get_or rest 0 0 == 47) ≡ true = rw (no_root, folder) at fixes in
+    dotted b rest same (grind (arith, nat_tests)))
+    (λ (no_folder : (b == 46) ≡ false).
+    let absolute_is : is_absolute (split_scheme (b ∷ rest)) ≡ true = rw (no_root, no_folder) at fixes in
+    of_scheme (b ∷ rest) (split_scheme (b ∷ rest)) (own_scheme (b ∷ rest)) absolute_is)
+    (cases_Bool (b == 46)))
+    (cases_Bool (b == 47))
+  where
+    dotted : (b : ℕ) (rest : List ℕ) → b ≡ 46 → get_or rest 0 0 ≡ 47 → FixesHost (b ∷ rest)
+    dotted b [] same next = absurd (omega arith)
+    dotted b (s ∷ rest) same next = subst (λ x. FixesHost (x ∷ s ∷ rest)) (sym same) (subst (λ x. FixesHost (46 ∷ x ∷ rest)) (sym next) (relative rest))
+
+    of_scheme : (front : List ℕ) (split : Option (List ℕ × List ℕ)) → IfSome split (IsSchemeOf front) → is_absolute split ≡ true → FixesHost front
+    of_scheme front (Some split) is known = whole_host front split.0 split.1 is.1 (and_parts _ _ known).0 (and_parts _ _ known).1
+    of_scheme front None is known = cc
+
+path_place : (front : List ℕ) → EndsVisibly front → (list_all is_path_byte (kept front) && fixes_host (kept front) && dot_count (last_segment (kept front)) == 0) ≡ true → EndsInPath front
+path_place front ends tests = record {
+  ends = ends;
+  plain = All_from_list_all is_path_byte (kept front) (and_parts (list_all is_path_byte (kept front)) (fixes_host (kept front)) (and_parts (list_all is_path_byte (kept front) && fixes_host (kept front)) (dot_count (last_segment (kept front)) == 0) tests).0).0;
+  fixed = fixed (kept front) (and_parts (list_all is_path_byte (kept front)) (fixes_host (kept front)) (and_parts (list_all is_path_byte (kept front) && fixes_host (kept front)) (dot_count (last_segment (kept front)) == 0) tests).0).1;
+  resolved = grind (arith, nat_tests);
+}
+
+-- THE TEST IS SOUND: where it tells a place, the law of the place holds
+pub place_sound : (front : List ℕ) → IfSome (place_of front) (λ place. EndsIn place front)
+place_sound front =
+    let P = λ (o : Option UrlPlace). IfSome o (λ place. EndsIn place front) in
+    let k = kept front in
+    cond_both (nat_lt 32 (get_or front (length front - 1) 0)) (place_of_kept k) None P
+    (λ above.
+    let ends : EndsVisibly front = grind (arith, nat_tests) in
+    cond_both (is_some (split_once 35 k).1) (Some Fragment) _ P (λ fragment. record { ends = ends; fragment = fragment })
+    (λ no_fragment.
+    cond_both (is_some (split_once 63 k).1) (Some Query) _ P (λ query. record { ends = ends; query = query; no_fragment = no_fragment })
+    (λ _. cond_both (list_all is_path_byte k && fixes_host k && dot_count (last_segment k) == 0) (Some Path) None P (path_place front ends) (λ _. tt))))
+    (λ _. tt)

@@ -1,0 +1,2 @@
+pub mod PairLaw
+pub mod QueryLaw

@@ -1,0 +1,12 @@
+pub mod Components
+pub mod Fragments
+pub mod Heads
+pub mod Hosts
+pub mod Inputs
+pub mod Links
+pub mod Pairs
+pub mod Paths
+pub mod Places
+pub mod Queries
+pub mod Rests
+pub mod Segments
