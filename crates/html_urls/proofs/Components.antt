@@ -1,11 +1,12 @@
 -- What a component's bytes are, and that it decodes to its text.
-use Rattle.std.proofs.Common.{◌≡◌, ℕ, true, false, not, List, ◌++◌, All, refl, ap, ◌∙◌, arith}
+use Rattle.std.proofs.Common.{◌≡◌, ◌≤◌, ◌*◌, ℕ, true, false, not, List, [], ◌∷◌, ◌++◌, length, length-append, All, refl, ap, ◌∙◌, ⊎_elim, arith}
+use Rattle.std.proofs.lemmas.Bool.{cases_Bool}
 use Rattle.std.proofs.lemmas.Bool.Decides.{nat_tests}
 use Rattle.std.proofs.lemmas.List.Elements.{All-weaker}
 use Rattle.percent_encoding.specs.declared.ascii_set.AsciiSet.{AsciiSet}
-use Rattle.percent_encoding.specs.Percent.{percent_encode, percent_decode}
-use Rattle.percent_encoding.specs.AsciiSet.{contains}
-use Rattle.percent_encoding.proofs.PercentLemmas.{IsByte, IsEscapeByte, All-percent_encode, percent_encode-append, percent_encode_unchanged, round_trip}
+use Rattle.percent_encoding.specs.Percent.{percent_encode, percent_encode_byte, percent_decode}
+use Rattle.percent_encoding.specs.AsciiSet.{contains, should_percent_encode}
+use Rattle.percent_encoding.proofs.PercentLemmas.{IsByte, IsEscapeByte, All-percent_encode, percent_encode-append, percent_encode-nil, percent_encode_escaped, percent_encode_kept, percent_encode_unchanged, round_trip}
 use Rattle.url.proofs.InputLemmas.{IsNot, Passes}
 use Rattle.url.proofs.SetLemmas.{outside_pass, passing_outside, is_escape_byte, passes_from_kept, encoded_is_kept}
 use Rattle.html_urls.specs.declared.component.TheConstants.{COMPONENT}
@@ -40,3 +41,18 @@ encode_around set within escapes before text after =
     let kept = percent_encode_unchanged set (component text) (encoded_is_kept COMPONENT set within escapes text) in
     percent_encode-append set (before ++ component text) after
     ∙ ap (λ x. x ++ percent_encode set after) (percent_encode-append set before (component text) ∙ ap (λ x. percent_encode set before ++ x) kept)
+
+length-percent_encode_byte : (b : ℕ) → length (percent_encode_byte b) ≡ 3
+unfolding percent_encode_byte
+length-percent_encode_byte b = refl
+
+-- each byte becomes three at most
+pub length-component : (text : List ℕ) → length (component text) ≤ length text * 3
+length-component [] = rw (percent_encode-nil COMPONENT) (omega arith)
+length-component (b ∷ text) =
+    let later = length-component text in
+    ⊎_elim
+    (λ (escaped : should_percent_encode COMPONENT b ≡ true).
+    rw (percent_encode_escaped COMPONENT b text escaped) (omega (arith, later, length-append (percent_encode_byte b) (component text), length-percent_encode_byte b)))
+    (λ (plain : should_percent_encode COMPONENT b ≡ false). rw (percent_encode_kept COMPONENT b text plain) (omega (arith, later)))
+    (cases_Bool (should_percent_encode COMPONENT b))

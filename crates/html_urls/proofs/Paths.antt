@@ -3,3 +3,4 @@ pub mod Opening
 pub mod PathLaw
 pub mod PathSegments
 pub mod SegmentFits
+pub mod UrlSegments

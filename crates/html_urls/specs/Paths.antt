@@ -31,10 +31,14 @@ pub record FitsSegment (front text rest : List ℕ) : Type 0 where
   pub resolved : HasNoDotSegments (last_segment (kept front) ++ component text ++ path_of rest)
   pub some : kept front ≡ slash ∷ [] → 0 < length text
 
+-- what the rest adds to the path, percent-encoded as the parser does
+abbrev pub path_after : List ℕ → List ℕ
+path_after rest = percent_encode PATH (path_of rest)
+
 -- the path goes on with the text and the path of the rest, and the rest's query and fragment follow
 abbrev pub path_goes_on : List ℕ → List ℕ → Parts → Parts
 path_goes_on text rest url = record url {
-  path = url.path ++ component text ++ percent_encode PATH (path_of rest);
+  path = url.path ++ component text ++ path_after rest;
   query = option_map (percent_encode (query_set (kind_of url))) (query_of rest);
   fragment = option_map (percent_encode FRAGMENT) (fragment_of rest);
 }

@@ -1,5 +1,5 @@
 -- In which part of a URL its front ends.
-use Rattle.std.specs.Prelude.{⊤, ℕ, ◌-◌, Bool, false, not, ◌&&◌, ◌||◌, ◌==◌, nat_lt, List, [], ◌∷◌, length, slice_index, codes, bytes_eq, Option, Some, None, is_some, if◌then◌else◌}
+use Rattle.std.specs.Prelude.{◌≡◌, ⊤, ℕ, ◌-◌, Bool, false, not, ◌&&◌, ◌||◌, ◌==◌, nat_lt, List, [], ◌∷◌, length, slice_index, codes, bytes_eq, Option, Some, None, is_some, if◌then◌else◌}
 use Rattle.std.specs.List.{list_all}
 use Rattle.url.specs.Ascii.{dot, number_sign, question_mark, slash, space}
 use Rattle.url.specs.Input.{split_once}
@@ -13,6 +13,7 @@ use Rattle.html_urls.specs.Hosts.{IsWebBase}
 use Rattle.html_urls.specs.Inputs.{kept}
 use Rattle.html_urls.specs.Paths.{EndsInPath, FitsSegment, is_path_byte, path_goes_on}
 use Rattle.html_urls.specs.Queries.{EndsInQuery, query_goes_on}
+use Rattle.html_urls.specs.Rests.{fragment_of, query_of}
 use Rattle.html_urls.specs.Segments.{last_segment}
 
 -- the front ends in this part
@@ -21,11 +22,23 @@ EndsIn Path front = EndsInPath front
 EndsIn Query front = EndsInQuery front
 EndsIn Fragment front = EndsInFragment front
 
--- the text may stand there: in a path on a page of the web where it fits, in a query and a fragment always
-abbrev pub MayStand : UrlPlace → Option Parts → List ℕ → List ℕ → List ℕ → Type 0
-MayStand Path base front text rest = IsWebBase base × FitsSegment front text rest
-MayStand Query base front text rest = ⊤
-MayStand Fragment base front text rest = ⊤
+-- the text fits between the front and the rest: any text in a query and in a fragment
+abbrev pub Fits : UrlPlace → List ℕ → List ℕ → List ℕ → Type 0
+Fits Path front text rest = FitsSegment front text rest
+Fits Query front text rest = ⊤
+Fits Fragment front text rest = ⊤
+
+-- the base suits the part: for a path a page of the web, or none
+abbrev pub SuitsPlace : UrlPlace → Option Parts → Type 0
+SuitsPlace Path base = IsWebBase base
+SuitsPlace Query base = ⊤
+SuitsPlace Fragment base = ⊤
+
+-- the rest leaves the part open: it begins no later one
+abbrev pub LeavesOpen : UrlPlace → List ℕ → Type 0
+LeavesOpen Path rest = (query_of rest ≡ None) × (fragment_of rest ≡ None)
+LeavesOpen Query rest = fragment_of rest ≡ None
+LeavesOpen Fragment rest = ⊤
 
 -- the part goes on with the text and the rest
 abbrev pub goes_on : UrlPlace → List ℕ → List ℕ → Parts → Parts

@@ -1,8 +1,10 @@
 -- The segments of a path, and those that read as dots (URL Standard, 4.1 URL representation: URL path segment, single-dot and double-dot URL path segment).
-use Rattle.std.specs.Prelude.{◌≡◌, ◌⊎◌, ℕ, Bool, not, ◌||◌, ◌==◌, List, [], ◌∷◌, codes, bytes_eq, All}
+use Rattle.std.specs.Prelude.{◌≡◌, ◌⊎◌, ℕ, Bool, not, ◌||◌, ◌==◌, List, [], ◌∷◌, codes, bytes_eq, All, IsOkAnd}
 use Rattle.std.specs.List.{list_any}
 use Rattle.url.specs.Ascii.{digit_two, dot, lower_e, percent_sign, slash, upper_e}
 use Rattle.url.specs.Input.{split_once, rsplit_once}
+use Rattle.url.specs.Parser.{Parsed}
+use Rattle.url.specs.Parts.{Parts}
 use Rattle.url.specs.Path.{dot_count}
 use Rattle.url.specs.Relative.{segments, segments_left}
 
@@ -31,6 +33,10 @@ IsNoDotSegment segment = dot_count segment ≡ 0
 -- no segment reads as one of them
 abbrev pub HasNoDotSegments : List ℕ → Type 0
 HasNoDotSegments path = All IsNoDotSegment (segments path)
+
+-- the URL is one with these segments in its path
+abbrev pub HasSegments : Parsed Parts → List (List ℕ) → Type 0
+HasSegments parsed list = IsOkAnd parsed (λ url. segments url.path ≡ list)
 
 -- the text is neither of them: these two cannot be percent-encoded
 abbrev pub may_be_segment : List ℕ → Bool

@@ -1,10 +1,13 @@
-ghost use Rattle.std.specs.Prelude.{◌≡◌, ◌++◌, OnErr, OnOk, string_bytes};
-ghost use Rattle.html_urls.specs.Components.{component};
+//! A text as one component of a URL, put into any sink.
+ghost use Rattle.std.specs.Prelude.{◌≡◌, ◌≤◌, ◌<◌, ◌+◌, ◌++◌, ◌↔◌, IsOk, IsTrue, OnErr, OnOk, length};
+ghost use Rattle.hesc_specs.specs.Text.Beginning.{TookBeginning};
+ghost use Rattle.html_urls.specs.Components.{IsUnreservedText, component};
 
+use hesc_engine::Sink;
+use hesc_engine::forms::Parts;
 use percent_encoding::{AsciiSet, NON_ALPHANUMERIC, ascii_set, utf8_percent_encode};
-use std::alloc::{AllocError, Allocator};
 
-/// Every byte but letters, digits and `-._~`.
+/// The ASCII bytes that are percent-encoded: all but letters, digits, `-`, `.`, `_` and `~`.
 pub const COMPONENT: AsciiSet = ascii_set!(
     NON_ALPHANUMERIC
         .remove(b'-')
@@ -13,11 +16,61 @@ pub const COMPONENT: AsciiSet = ascii_set!(
         .remove(b'~')
 );
 
-/// Writes the text, escaped as one component of a URL.
-pub fn append_component<A: Allocator>(text: &str, out: &mut String<A>) -> Result<(), AllocError>
-    ensures ok { OnOk result
-        (string_bytes out.new ≡ string_bytes out.old ++ component text.now) }
-    ensures err { OnErr result (string_bytes out.new ≡ string_bytes out.old) }
+/// The component of a text, as parts that are put: for a page that is made of several of them.
+///
+/// Of `Component("a&b")` the parts are `a`, `%26` and `b`.
+#[derive(Clone, Copy)]
+pub struct Component<'t>(pub &'t str);
+
+impl Parts for Component<'_> {
+    ghost text = { λ parts. component parts.0.now };
+
+    #[inline(always)]
+    fn put_into<S: Sink>(&self, sink: &mut S) -> Result<(), S::Fault> {
+        put_component(self.0, sink)
+    }
+
+    // Each byte becomes three at most.
+    #[inline(always)]
+    fn short_bound(&self) -> Option<usize> {
+        if self.0.len() <= 128 {
+            Some(self.0.len() * 3)
+        } else {
+            None
+        }
+    }
+}
+
+/// Hands the component of `text` to the sink, piece by piece.
+///
+/// On success the sink took exactly that. On the sink's fault, which is handed on at once, it took
+/// a beginning of it.
+///
+/// Of `a&b` the sink takes `a%26b`.
+pub fn put_component<S: Sink>(text: &str, sink: &mut S) -> Result<(), S::Fault>
+    ensures ok_taken { OnOk result (S.taken sink.new ≡ S.taken sink.old ++ component text.now) }
+    ensures ok_failures { OnOk result (S.failures sink.new ≡ S.failures sink.old) }
+    ensures err_taken { OnErr result
+        (TookBeginning (S.taken sink.old) (S.taken sink.new) (component text.now)) }
+    ensures err_failures { OnErr result (S.failures sink.old < S.failures sink.new) }
+    ensures fits { length (component text.now) ≤ S.room sink.old → IsOk result }
+    ensures room { OnOk result (S.room sink.old ≤ S.room sink.new + length (component text.now)) }
+    ensures same_reference { S.reference sink.new ≡ S.reference sink.old }
+    ensures same_before { S.before sink.new ≡ S.before sink.old }
 {
-    utf8_percent_encode(text, COMPONENT).append_to(out)
+    for piece in utf8_percent_encode(text, COMPONENT) {
+        sink.put(piece)?;
+    }
+    Ok(())
+}
+
+/// Whether no byte of `text` is percent-encoded, so that the text is its own component.
+///
+/// Of `a-b` it is `true`, and of `a b` it is `false`.
+pub fn is_unreserved(text: &str) -> bool
+    ensures { IsTrue result ↔ IsUnreservedText text.now }
+{
+    text.as_bytes()
+        .iter()
+        .all(|&byte| !COMPONENT.should_percent_encode(byte))
 }

@@ -1,10 +1,23 @@
-//! Texts in URLs.
+//! Texts in URLs: no text chooses where a link goes.
+//!
+//! [`encode_component`] percent-encodes a text so that it stays in its part of a URL: in one segment
+//! of a path, in the value of one pair of a query, in the fragment. The [`laws`] say so of the URL
+//! Standard's parser, each with the condition that it needs of the URL's front. A text that is a whole
+//! URL is asked [`is_link`] first.
 #![tactic(auto)]
 
 pub mod component;
+pub mod forms;
+pub mod laws;
 pub mod link;
 pub mod place;
+pub mod segment;
 
-pub use crate::component::{COMPONENT, append_component};
+pub use crate::component::{COMPONENT, Component, is_unreserved, put_component};
+pub use crate::forms::{
+    append_component, append_component_to_vec, encode_component, encode_component_to_string,
+    encode_component_to_vec, encode_component_to_writer,
+};
 pub use crate::link::is_link;
 pub use crate::place::UrlPlace;
+pub use crate::segment::may_be_segment;

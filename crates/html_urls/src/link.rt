@@ -1,11 +1,18 @@
+//! Which texts are taken as whole URLs.
 ghost use Rattle.std.specs.Prelude.{◌≡◌, ◌≤◌, length};
-ghost use Rattle.html_urls.specs.Links as spec;
 ghost use Rattle.url.specs.Input.{lowercase};
+ghost use Rattle.html_urls.specs.Links as spec;
 
-fn is_mark(b: u8) -> bool
-    ensures { result ≡ spec.is_mark b }
+/// Whether the text is a URL with the scheme `http`, `https` or `mailto`, or one with no scheme, which
+/// has that of the page.
+///
+/// Of `HTTPS://a.example` and `/a:b` it is `true`, and of `javascript:x`, ` javascript:x` and
+/// `java\tscript:x` it is `false`.
+pub fn is_link(text: &str) -> bool
+    ensures { result ≡ spec.is_link text.now }
 {
-    b == b':' || b == b'/' || b == b'?' || b == b'#'
+    let at = mark_at(text.as_bytes());
+    at == text.len() || text.as_bytes()[at] != b':' || is_link_scheme(&text[..at])
 }
 
 fn is_link_scheme(scheme: &str) -> bool
@@ -16,6 +23,7 @@ fn is_link_scheme(scheme: &str) -> bool
         || scheme.eq_ignore_ascii_case("mailto")
 }
 
+// Where the first byte stands that may end a scheme or show that there is none.
 fn mark_at(bytes: &[u8]) -> usize
     ensures value { result ≡ spec.mark_at bytes.now }
     ensures within { result ≤ length bytes.now }
@@ -28,10 +36,8 @@ fn mark_at(bytes: &[u8]) -> usize
     bytes.len()
 }
 
-/// Whether the text is a URL of these schemes, or one with no scheme.
-pub fn is_link(text: &str) -> bool
-    ensures { result ≡ spec.is_link text.now }
+fn is_mark(b: u8) -> bool
+    ensures { result ≡ spec.is_mark b }
 {
-    let at = mark_at(text.as_bytes());
-    at == text.len() || text.as_bytes()[at] != b':' || is_link_scheme(&text[..at])
+    b == b':' || b == b'/' || b == b'?' || b == b'#'
 }

@@ -76,7 +76,7 @@ dot_bytes xs =
     (All-take_from_reads IsDotByte xs 3 (omega arith)
     (λ k below.
     ⊎_elim (λ (zeroth : k ≡ 0). rw zeroth (grind (arith, nat_tests)))
-    (λ not_zeroth. ⊎_elim (λ (first : k ≡ 1). rw first (grind (arith, nat_tests))) (λ not_first. let second : k ≡ 2 = omega arith in rw second (grind (arith, nat_tests))) (cases_eq k 1))
+    (λ (not_zeroth : k ≢ 0). ⊎_elim (λ (first : k ≡ 1). rw first (grind (arith, nat_tests))) (λ (not_first : k ≢ 1). let second : k ≡ 2 = omega arith in rw second (grind (arith, nat_tests))) (cases_eq k 1))
     (cases_eq k 0))))
     (λ (none : (get_or xs 0 0 == 37 && get_or xs 1 0 == 50 && (get_or xs 2 0 == 101 || get_or xs 2 0 == 69)) ≡ false).
     subst (λ n. All IsDotByte (take n xs)) (sym (cond-false _ _ _ other ∙ cond-false _ _ _ none)) (All-nil IsDotByte))

@@ -1,8 +1,9 @@
 -- A front that has a text in it ends where it would end with any other.
-use Rattle.std.proofs.Common.{◌≡◌, ◌≢◌, ℕ, ◌<◌, ◌==◌, true, false, List, [], ◌∷◌, ◌++◌, length, get_or, codes, Option, Some, None, is_some, All, sym, refl, ap, ◌∙◌, subst, ⊎_elim, append_assoc, arith}
+use Rattle.std.proofs.Common.{◌≡◌, ◌≢◌, ℕ, ◌<◌, ◌==◌, true, false, List, [], ◌∷◌, ◌++◌, length, get_or, ◌+◌, ◌-◌, codes, Option, Some, None, is_some, All, sym, refl, ap, ◌∙◌, subst, inl, inr, ⊎_elim, append_assoc, append-nil, length-append, lt_of_not-le, arith}
 use Rattle.std.proofs.lemmas.Bool.{cases_Bool}
 use Rattle.std.proofs.lemmas.Bool.Decides.{nat_tests}
-use Rattle.std.proofs.lemmas.List.Elements.{All-head, All-tail, All-append, All-weaker}
+use Rattle.std.proofs.lemmas.List.{get_or-append-add, get_or_past}
+use Rattle.std.proofs.lemmas.List.Elements.{All-get_or, All-head, All-tail, All-append, All-weaker}
 use Rattle.percent_encoding.proofs.PercentLemmas.{percent_encode_nonempty}
 use Rattle.url.specs.Input.{split_once, rsplit_once}
 use Rattle.url.specs.Path.{dot_count}
@@ -11,12 +12,15 @@ use Rattle.html_urls.specs.declared.component.TheConstants.{COMPONENT}
 use Rattle.html_urls.specs.Components.{component, is_component_byte}
 use Rattle.html_urls.specs.Fragments.{EndsInFragment}
 use Rattle.html_urls.specs.Hosts.{FixesHost, absolute, rooted, relative}
-use Rattle.html_urls.specs.Inputs.{IsNot, EndsVisibly, kept, kept_rest}
+use Rattle.html_urls.specs.Inputs.{IsVisible, KeepsEnd, IsNot, EndsVisibly, kept, kept_rest}
 use Rattle.html_urls.specs.Paths.{EndsInPath, FitsSegment, IsPathText, is_path_byte}
 use Rattle.html_urls.specs.Queries.{EndsInQuery}
 use Rattle.html_urls.specs.Rests.{path_of, query_of, fragment_of}
 use Rattle.html_urls.specs.Segments.{HasNoDotSegments, last_segment}
-use Rattle.html_urls.proofs.Components.{component_without, component_bytes}
+use Rattle.html_urls.specs.Places.{EndsIn, Fits, LeavesOpen}
+use Rattle.html_urls.specs.declared.place.UrlPlace.{UrlPlace}
+use Rattle.html_urls.specs.declared.place.UrlPlace.TheVariants.{Path, Query, Fragment}
+use Rattle.html_urls.proofs.Components.{component_visible, component_without, component_bytes}
 use Rattle.html_urls.proofs.Splits.{kept_around, split_found, split_clear, split_whole, some_value}
 use Rattle.html_urls.proofs.Links.LinkLaw.{front_of}
 use Rattle.html_urls.proofs.Queries.PairLaw.{split_joined}
@@ -125,3 +129,32 @@ path_stays front text rest place fits no_query no_fragment ends =
       fixed = subst FixesHost (sym whole) (fixes_more f (c ++ k) place.fixed (λ root. first_other c k (percent_encode_nonempty COMPONENT text (fits.some root)) (component_without 47 refl text)));
       resolved = ap (λ x. dot_count (last_segment x)) whole ∙ last_plain f (c ++ k) dots;
     }
+
+-- ---- the last byte
+
+last_of : (xs ys : List ℕ) → EndsVisibly ys → EndsVisibly (xs ++ ys)
+last_of xs ys ends =
+    let some : 0 < length ys = lt_of_not-le (λ none. let past = get_or_past ys (length ys - 1) 0 (omega arith) in omega arith) in
+    let at : length (xs ++ ys) - 1 ≡ length xs + (length ys - 1) = omega (arith, length-append xs ys) in
+    subst (λ (b : ℕ). 32 < b) (sym (ap (λ i. get_or (xs ++ ys) i 0) at ∙ get_or-append-add xs ys (length ys - 1) 0)) ends
+
+all_visible : (xs : List ℕ) → All IsVisible xs → 0 < length xs → EndsVisibly xs
+all_visible xs visible some = All-get_or IsVisible xs (length xs - 1) 0 (omega arith) visible
+
+-- the text and such a rest leave a visible byte at the end
+pub ends_visibly : (front text rest : List ℕ) → EndsVisibly front → KeepsEnd rest → EndsVisibly (front ++ component text ++ rest)
+ends_visibly front text rest ends (inr rest_ends) = last_of (front ++ component text) rest rest_ends
+ends_visibly front text rest ends (inl none) =
+    subst (λ r. EndsVisibly (front ++ component text ++ r)) (sym none)
+    (subst EndsVisibly (sym (append-nil (front ++ component text)))
+    (after_component (component text) (component_visible text)))
+  where
+    after_component : (c : List ℕ) → All IsVisible c → EndsVisibly (front ++ c)
+    after_component [] visible = subst EndsVisibly (sym (append-nil front)) ends
+    after_component (x ∷ c) visible = last_of front (x ∷ c) (all_visible (x ∷ c) visible (omega arith))
+
+-- THE PLACE STAYS: a front with a text and a rest that opens no later part ends in the part of the front
+pub place_stays : (place : UrlPlace) (front text rest : List ℕ) → EndsIn place front → Fits place front text rest → LeavesOpen place rest → KeepsEnd rest → EndsIn place (front ++ component text ++ rest)
+place_stays Path front text rest place fits open_still kept_end = path_stays front text rest place fits open_still.0 open_still.1 (ends_visibly front text rest place.ends kept_end)
+place_stays Query front text rest place fits open_still kept_end = query_stays front text rest place open_still (ends_visibly front text rest place.ends kept_end)
+place_stays Fragment front text rest place fits open_still kept_end = fragment_stays front text rest place (ends_visibly front text rest place.ends kept_end)
