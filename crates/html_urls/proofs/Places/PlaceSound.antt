@@ -105,3 +105,7 @@ place_sound front =
     cond_both (is_some (split_once 63 k).1) (Some Query) _ P (λ query. record { ends = ends; query = query; no_fragment = no_fragment })
     (λ _. cond_both (list_all is_path_byte k && fixes_host k && dot_count (last_segment k) == 0) (Some Path) None P (path_place front ends) (λ _. tt))))
     (λ _. tt)
+
+-- the same where the place is known
+pub place_is : (place : UrlPlace) (front : List ℕ) → place_of front ≡ Some place → EndsIn place front
+place_is place front is = subst (λ (o : Option UrlPlace). IfSome o (λ p. EndsIn p front)) is (place_sound front)

@@ -53,7 +53,10 @@ fn a_long_text_is_appended(rt: HostRuntime) -> Result<(), Fail> {
         }
     }
     let mut page = String::new(rt.alloc());
-    assert_eq!(rt; append_component(&mut page, text.as_str())?, expected.as_str());
+    assert_eq!(rt;
+        append_component(&mut page, text.as_str())?,
+        expected.as_str()
+    );
     let made = encode_component(rt.alloc(), text.as_str())?;
     assert_eq!(rt; made.as_str(), expected.as_str());
     Ok(())

@@ -27,6 +27,7 @@ fn a_query_goes_on_as_the_law_says(rt: HostRuntime) -> Result<(), Fail> {
 
 #[test]
 fn the_head_stays_as_the_law_says(rt: HostRuntime) -> Result<(), Fail> {
+    laws::whole_segment_law(b"/", "/evil.example", b"");
     laws::head_law(UrlPlace::Path, b"/", "/evil.example", b"");
     let url = fill(rt.alloc(), PAGE, "/", "/evil.example", "")?;
     assert!(rt; url.host_str() == Some("h"));

@@ -69,7 +69,10 @@ fn a_text_goes_on_in_a_segment(rt: HostRuntime) -> Result<(), Fail> {
                 panic!(rt; "{text:?} stays behind {front}");
             };
             assert_eq!(rt; rest, component);
-            assert!(rt; url.query().is_none() && url.fragment().is_none(), "{text:?}");
+            assert!(rt;
+                url.query().is_none() && url.fragment().is_none(),
+                "{text:?}"
+            );
         }
     }
     Ok(())
@@ -87,7 +90,10 @@ fn a_text_is_one_value(rt: HostRuntime) -> Result<(), Fail> {
         }
         let expected = format!(in rt.alloc(); "p\u{0}1\u{0}q\u{0}{text}\u{0}r\u{0}2\u{0}")?;
         assert_eq!(rt; seen.as_str(), expected.as_str());
-        assert!(rt; url.path() == "/a" && url.fragment() == Some("s"), "{text:?}");
+        assert!(rt;
+            url.path() == "/a" && url.fragment() == Some("s"),
+            "{text:?}"
+        );
     }
     Ok(())
 }
@@ -97,8 +103,14 @@ fn a_text_is_a_fragment(rt: HostRuntime) -> Result<(), Fail> {
     for &(text, _) in &ROWS {
         let url = fill(rt.alloc(), PAGE, "#", text, "")?;
         assert_host(&rt, &url, text);
-        assert!(rt; is_decoded_to(rt.alloc(), url.fragment().unwrap_or("-"), text)?, "{text:?}");
-        assert!(rt; url.path() == "/d/f" && url.query() == Some("k=v"), "{text:?}");
+        assert!(rt;
+            is_decoded_to(rt.alloc(), url.fragment().unwrap_or("-"), text)?,
+            "{text:?}"
+        );
+        assert!(rt;
+            url.path() == "/d/f" && url.query() == Some("k=v"),
+            "{text:?}"
+        );
     }
     Ok(())
 }

@@ -7,18 +7,43 @@ const PAGE: &str = "https://h/d/f?k=v#g";
 
 // A front, a text, a rest and the URL.
 const KEPT: [(&str, &str, &str, &str); 12] = [
-    ("/items/", "../../logout", "?q=1", "https://h/items/..%2F..%2Flogout?q=1"),
+    (
+        "/items/",
+        "../../logout",
+        "?q=1",
+        "https://h/items/..%2F..%2Flogout?q=1",
+    ),
     ("/items/", "", "/edit", "https://h/items//edit"),
     ("/", "/evil.example", "", "https://h/%2Fevil.example"),
     ("/", "\\evil.example", "", "https://h/%5Cevil.example"),
     ("./", "javascript:x", "", "https://h/d/javascript%3Ax"),
-    ("https://a.example/", "@b?c#d", "#e", "https://a.example/%40b%3Fc%23d#e"),
-    ("/a?q=", "1&admin=1#x", "&r=2#s", "https://h/a?q=1%26admin%3D1%23x&r=2#s"),
+    (
+        "https://a.example/",
+        "@b?c#d",
+        "#e",
+        "https://a.example/%40b%3Fc%23d#e",
+    ),
+    (
+        "/a?q=",
+        "1&admin=1#x",
+        "&r=2#s",
+        "https://h/a?q=1%26admin%3D1%23x&r=2#s",
+    ),
     ("?q=", "+", "", "https://h/d/f?q=%2B"),
     ("#", "\t<'\">", "", "https://h/d/f?k=v#%09%3C%27%22%3E"),
     ("/x", "..", "", "https://h/x.."),
-    ("/items/", "%2e%2e", "/edit", "https://h/items/%252e%252e/edit"),
-    ("mailto:a@b.example?subject=", "x&bcc=y", "", "mailto:a@b.example?subject=x%26bcc%3Dy"),
+    (
+        "/items/",
+        "%2e%2e",
+        "/edit",
+        "https://h/items/%252e%252e/edit",
+    ),
+    (
+        "mailto:a@b.example?subject=",
+        "x&bcc=y",
+        "",
+        "mailto:a@b.example?subject=x%26bcc%3Dy",
+    ),
 ];
 
 const TRAPS: [(&str, &str, &str, &str); 27] = [
@@ -35,8 +60,18 @@ const TRAPS: [(&str, &str, &str, &str); 27] = [
     ("https:/", "x", "/y", "https://h/x/y"),
     ("http:/", "evil.example", "/y", "http://evil.example/y"),
     ("https:///", "evil.example", "/y", "https://evil.example/y"),
-    ("https://a.example", ".evil.example", "/y", "https://a.example.evil.example/y"),
-    ("https://a.example:", "8080", "/y", "https://a.example:8080/y"),
+    (
+        "https://a.example",
+        ".evil.example",
+        "/y",
+        "https://a.example.evil.example/y",
+    ),
+    (
+        "https://a.example:",
+        "8080",
+        "/y",
+        "https://a.example:8080/y",
+    ),
     ("", "javascript", ":alert(1)", "javascript:alert(1)"),
     ("", "", "", "https://h/d/f?k=v"),
     ("", "", "/x", "https://h/x"),

@@ -1,0 +1,49 @@
+-- Where the fronts of the examples end, and what fits there, by computing.
+use Rattle.std.proofs.Common.{◌≡◌, ℕ, List, [], ◌∷◌, codes, All, refl, inr, true}
+use Rattle.std.proofs.lemmas.List.Elements.{All-nil, All-cons}
+use Rattle.form_urlencoded.specs.Form.{split}
+use Rattle.url.specs.Input.{strip_tabs_and_new_lines, trim_c0_control_and_space, split_once, rsplit_once}
+use Rattle.url.specs.Path.{dot_count}
+use Rattle.url.proofs.InputLemmas.{All_from_list_all}
+use Rattle.html_urls.specs.Paths.{EndsInPath, IsPathText, is_path_byte}
+use Rattle.html_urls.specs.Queries.{EndsInQuery}
+use Rattle.html_urls.specs.Rests.{path_of}
+use Rattle.html_urls.specs.Segments.{BeginsSegment, HasNoDotSegments, IsNoDotSegment, later_segments}
+use Rattle.html_urls.specs.declared.place.UrlPlace.TheVariants.{Path, Query}
+use Rattle.html_urls.proofs.Places.PlaceSound.{place_is}
+
+pub query_front : EndsInQuery (codes "/a?q=")
+unfolding strip_tabs_and_new_lines trim_c0_control_and_space split_once
+query_front = place_is Query (codes "/a?q=") refl
+
+pub root_front : EndsInPath (codes "/")
+unfolding strip_tabs_and_new_lines trim_c0_control_and_space split_once rsplit_once dot_count
+root_front = place_is Path (codes "/") refl
+
+pub items_front : EndsInPath (codes "/items/")
+unfolding strip_tabs_and_new_lines trim_c0_control_and_space split_once rsplit_once dot_count
+items_front = place_is Path (codes "/items/") refl
+
+pub edit_begins : BeginsSegment (path_of (codes "/edit"))
+unfolding strip_tabs_and_new_lines split_once
+edit_begins = inr (codes "edit", refl)
+
+pub edit_is_plain : IsPathText (path_of (codes "/edit"))
+unfolding strip_tabs_and_new_lines split_once
+edit_is_plain = All_from_list_all is_path_byte (codes "/edit") refl
+
+pub edit_has_no_dots : HasNoDotSegments (path_of (codes "/edit"))
+unfolding strip_tabs_and_new_lines split_once split dot_count
+edit_has_no_dots = All-cons IsNoDotSegment [] (codes "edit" ∷ []) refl (All-cons IsNoDotSegment (codes "edit") [] refl (All-nil IsNoDotSegment))
+
+pub edit_has_no_later_dots : All IsNoDotSegment (later_segments (path_of (codes "/edit")))
+unfolding strip_tabs_and_new_lines split_once split dot_count
+edit_has_no_later_dots = All-cons IsNoDotSegment (codes "edit") [] refl (All-nil IsNoDotSegment)
+
+pub nothing_is_plain : IsPathText (path_of [])
+unfolding strip_tabs_and_new_lines split_once
+nothing_is_plain = All-nil (λ b. is_path_byte b ≡ true)
+
+pub nothing_has_no_dots : HasNoDotSegments (path_of [])
+unfolding strip_tabs_and_new_lines split_once split dot_count
+nothing_has_no_dots = All-cons IsNoDotSegment [] [] refl (All-nil IsNoDotSegment)
