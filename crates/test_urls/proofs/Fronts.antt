@@ -1,5 +1,5 @@
 -- Where the fronts of the examples end, and what fits there, by computing.
-use Rattle.std.proofs.Common.{◌≡◌, ℕ, List, [], ◌∷◌, codes, All, refl, inr, true}
+use Rattle.std.proofs.Common.{◌≡◌, [], ◌∷◌, codes, All, refl, inr, true}
 use Rattle.std.proofs.lemmas.List.Elements.{All-nil, All-cons}
 use Rattle.form_urlencoded.specs.Form.{split}
 use Rattle.url.specs.Input.{strip_tabs_and_new_lines, trim_c0_control_and_space, split_once, rsplit_once}
