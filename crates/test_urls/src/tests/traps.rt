@@ -46,7 +46,7 @@ const KEPT: [(&str, &str, &str, &str); 12] = [
     ),
 ];
 
-const TRAPS: [(&str, &str, &str, &str); 27] = [
+const TRAPS: [(&str, &str, &str, &str); 28] = [
     ("/items/", "..", "/edit", "https://h/edit"),
     ("/items/", ".", "/edit", "https://h/items/edit"),
     ("/items/%2", "e", "/edit", "https://h/items/edit"),
@@ -57,6 +57,7 @@ const TRAPS: [(&str, &str, &str, &str); 27] = [
     ("/\\", "evil.example", "/x", "https://evil.example/x"),
     ("/\t/", "evil.example", "/x", "https://evil.example/x"),
     ("//", "evil.example", "/x", "https://evil.example/x"),
+    ("https://", "evil.example", "/y", "https://evil.example/y"),
     ("https:/", "x", "/y", "https://h/x/y"),
     ("http:/", "evil.example", "/y", "http://evil.example/y"),
     ("https:///", "evil.example", "/y", "https://evil.example/y"),
