@@ -15,7 +15,7 @@ use test_support::{Trouble, WeakWriter, Weakness};
 fn a_component_is_what_another_program_gives(rt: HostRuntime) -> Result<(), Fail> {
     for &(text, component) in &ROWS {
         let made = encode_component(rt.alloc(), text)?;
-        assert_eq!(rt; made.as_str(), component);
+        assert!(rt; made.as_str() == component, "{text:?}");
         let is_borrowed = matches!(&made, CowStr::Borrowed(_));
         assert!(rt; is_borrowed == (text == component), "{text:?}");
         assert!(rt; is_unreserved(text) == (text == component), "{text:?}");
@@ -29,14 +29,17 @@ fn a_component_is_appended(rt: HostRuntime) -> Result<(), Fail> {
     let mut bytes = Vec::new(rt.alloc());
     let mut expected = String::new(rt.alloc());
     for &(text, component) in &ROWS {
-        assert_eq!(rt; append_component(&mut page, text)?, component);
-        assert_eq!(rt; encode_component_to_string(text, &mut page)?, component);
+        assert!(rt; append_component(&mut page, text)? == component, "{text:?}");
+        assert!(rt;
+            encode_component_to_string(text, &mut page)? == component,
+            "{text:?}"
+        );
         assert!(rt; append_component_to_vec(&mut bytes, text)? == component.as_bytes());
         assert!(rt; encode_component_to_vec(text, &mut bytes)? == component.as_bytes());
         expected.push_str(component)?;
         expected.push_str(component)?;
     }
-    assert_eq!(rt; page.as_str(), expected.as_str());
+    assert!(rt; page.as_str() == expected.as_str());
     assert!(rt; bytes.as_slice() == expected.as_str().as_bytes());
     Ok(())
 }
@@ -53,12 +56,9 @@ fn a_long_text_is_appended(rt: HostRuntime) -> Result<(), Fail> {
         }
     }
     let mut page = String::new(rt.alloc());
-    assert_eq!(rt;
-        append_component(&mut page, text.as_str())?,
-        expected.as_str()
-    );
+    assert!(rt; append_component(&mut page, text.as_str())? == expected.as_str());
     let made = encode_component(rt.alloc(), text.as_str())?;
-    assert_eq!(rt; made.as_str(), expected.as_str());
+    assert!(rt; made.as_str() == expected.as_str());
     Ok(())
 }
 

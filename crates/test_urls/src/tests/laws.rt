@@ -21,7 +21,7 @@ fn a_query_goes_on_as_the_law_says(rt: HostRuntime) -> Result<(), Fail> {
     laws::place_of_law(b"/a?q=");
     laws::url_law(UrlPlace::Query, b"/a?q=", "1&admin=1", b"#top");
     let url = fill(rt.alloc(), PAGE, "/a?q=", "1&admin=1", "#top")?;
-    assert_eq!(rt; url.as_str(), "https://h/a?q=1%26admin%3D1#top");
+    assert!(rt; url.as_str() == "https://h/a?q=1%26admin%3D1#top");
     Ok(())
 }
 
@@ -39,9 +39,9 @@ fn a_second_text_stands_as_the_law_says(rt: HostRuntime) -> Result<(), Fail> {
     laws::place_stays_law(UrlPlace::Query, b"/a?q=", "1&x", b"&r=");
     laws::query_begins_law(b"/items/", "1/2", b"?q=");
     let url = fill(rt.alloc(), PAGE, "/a?q=1%26x&r=", "#", "")?;
-    assert_eq!(rt; url.as_str(), "https://h/a?q=1%26x&r=%23");
+    assert!(rt; url.as_str() == "https://h/a?q=1%26x&r=%23");
     let url = fill(rt.alloc(), PAGE, "/items/1%2F2?q=", "#", "")?;
-    assert_eq!(rt; url.as_str(), "https://h/items/1%2F2?q=%23");
+    assert!(rt; url.as_str() == "https://h/items/1%2F2?q=%23");
     Ok(())
 }
 
@@ -51,10 +51,10 @@ fn a_text_is_in_one_segment_as_the_laws_say(rt: HostRuntime) -> Result<(), Fail>
     laws::whole_segment_law(b"/items/", "%2e%2e", b"/edit");
     laws::url_segment_law(b"/items/", "%2e%2e", b"/edit");
     let url = fill(rt.alloc(), PAGE, "/items/", "%2e%2e", "/edit")?;
-    assert_eq!(rt; url.as_str(), "https://h/items/%252e%252e/edit");
+    assert!(rt; url.as_str() == "https://h/items/%252e%252e/edit");
     laws::named_segment_law(b"/item-", "..", b"/edit");
     let url = fill(rt.alloc(), PAGE, "/item-", "..", "/edit")?;
-    assert_eq!(rt; url.as_str(), "https://h/item-../edit");
+    assert!(rt; url.as_str() == "https://h/item-../edit");
     Ok(())
 }
 
@@ -63,7 +63,7 @@ fn a_text_is_one_value_as_the_laws_say(rt: HostRuntime) -> Result<(), Fail> {
     laws::pair_law(b"a=1&", b"q", "2&b=3", b"&c=4");
     laws::url_pair_law(b"/a?q=", b"", b"q", "1&admin=1", b"&r=2#s");
     let url = fill(rt.alloc(), PAGE, "/a?q=", "1&admin=1", "&r=2#s")?;
-    assert_eq!(rt; url.as_str(), "https://h/a?q=1%26admin%3D1&r=2#s");
+    assert!(rt; url.as_str() == "https://h/a?q=1%26admin%3D1&r=2#s");
     Ok(())
 }
 
@@ -72,6 +72,6 @@ fn a_link_has_its_scheme_as_the_law_says(rt: HostRuntime) -> Result<(), Fail> {
     laws::link_law("//a.example");
     assert!(rt; html_urls::is_link("//a.example"));
     let url = fill(rt.alloc(), PAGE, "//a.example", "", "")?;
-    assert_eq!(rt; url.as_str(), "https://a.example/");
+    assert!(rt; url.as_str() == "https://a.example/");
     Ok(())
 }

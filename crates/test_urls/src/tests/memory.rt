@@ -18,9 +18,9 @@ fn a_refusal_leaves_the_output_as_it_was(rt: HostRuntime) -> Result<(), Fail> {
     let heap = Refusing::new(rt.alloc(), 2);
     let mut page = String::from_str(&heap, "x")?;
     assert!(rt; append_component(&mut page, "a&b/../c").is_err());
-    assert_eq!(rt; page.as_str(), "x");
+    assert!(rt; page.as_str() == "x");
     assert!(rt; append_component(&mut page, "a&b/../c").is_ok());
-    assert_eq!(rt; page.as_str(), "xa%26b%2F..%2Fc");
+    assert!(rt; page.as_str() == "xa%26b%2F..%2Fc");
     Ok(())
 }
 

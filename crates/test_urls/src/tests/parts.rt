@@ -68,7 +68,7 @@ fn a_text_goes_on_in_a_segment(rt: HostRuntime) -> Result<(), Fail> {
             let Some(rest) = url.path().strip_prefix("/d/x-") else {
                 panic!(rt; "{text:?} stays behind {front}");
             };
-            assert_eq!(rt; rest, component);
+            assert!(rt; rest == component, "{text:?}");
             assert!(rt;
                 url.query().is_none() && url.fragment().is_none(),
                 "{text:?}"
@@ -89,7 +89,7 @@ fn a_text_is_one_value(rt: HostRuntime) -> Result<(), Fail> {
             write!(seen, "{name}\u{0}{value}\u{0}")?;
         }
         let expected = format!(in rt.alloc(); "p\u{0}1\u{0}q\u{0}{text}\u{0}r\u{0}2\u{0}")?;
-        assert_eq!(rt; seen.as_str(), expected.as_str());
+        assert!(rt; seen.as_str() == expected.as_str(), "{text:?}");
         assert!(rt;
             url.path() == "/a" && url.fragment() == Some("s"),
             "{text:?}"

@@ -90,7 +90,10 @@ const TRAPS: [(&str, &str, &str, &str); 28] = [
 #[test]
 fn a_text_stays_where_the_conditions_hold(rt: HostRuntime) -> Result<(), Fail> {
     for (front, text, rest, url) in KEPT {
-        assert_eq!(rt; fill(rt.alloc(), PAGE, front, text, rest)?.as_str(), url);
+        assert!(rt;
+            fill(rt.alloc(), PAGE, front, text, rest)?.as_str() == url,
+            "{front} {text} {rest}"
+        );
     }
     Ok(())
 }
@@ -98,7 +101,10 @@ fn a_text_stays_where_the_conditions_hold(rt: HostRuntime) -> Result<(), Fail> {
 #[test]
 fn a_text_leaves_its_part_where_one_is_broken(rt: HostRuntime) -> Result<(), Fail> {
     for (front, text, rest, url) in TRAPS {
-        assert_eq!(rt; fill(rt.alloc(), PAGE, front, text, rest)?.as_str(), url);
+        assert!(rt;
+            fill(rt.alloc(), PAGE, front, text, rest)?.as_str() == url,
+            "{front} {text} {rest}"
+        );
     }
     Ok(())
 }
@@ -108,10 +114,7 @@ fn a_base_of_another_kind_refuses(rt: HostRuntime) -> Result<(), Fail> {
     for front in ["/", "./", "?q=", "x/"] {
         assert!(rt; fill(rt.alloc(), "mailto:a", front, "x", "").is_err());
     }
-    assert_eq!(rt;
-        fill(rt.alloc(), "mailto:a", "#", "x", "")?.as_str(),
-        "mailto:a#x"
-    );
+    assert!(rt; fill(rt.alloc(), "mailto:a", "#", "x", "")?.as_str() == "mailto:a#x");
     assert!(rt; fill(rt.alloc(), "https://h/", "https://a.example", "/", "/y").is_err());
     Ok(())
 }
