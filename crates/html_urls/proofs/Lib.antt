@@ -5,4 +5,5 @@ pub mod Links
 pub mod Paths
 pub mod Places
 pub mod Queries
+pub mod SlotsTaken
 pub mod Splits

@@ -10,8 +10,11 @@ pub mod component;
 pub mod forms;
 pub mod laws;
 pub mod link;
+pub mod open_part;
+pub mod parts;
 pub mod place;
 pub mod segment;
+pub mod slots;
 
 pub use crate::component::{COMPONENT, Component, is_unreserved, put_component};
 pub use crate::forms::{
@@ -19,5 +22,7 @@ pub use crate::forms::{
     encode_component_to_vec, encode_component_to_writer,
 };
 pub use crate::link::is_link;
+pub use crate::parts::{UrlFault, UrlPart, UrlSlot};
 pub use crate::place::UrlPlace;
 pub use crate::segment::may_be_segment;
+pub use crate::slots::{may_fill, slots_of};

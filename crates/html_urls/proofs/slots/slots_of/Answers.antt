@@ -1,0 +1,8 @@
+use Rattle.std.proofs.Common.{[], Vec}
+use Rattle.html_urls.specs.declared.parts.UrlSlot.{UrlSlot}
+use Rattle.html_urls.proofs.SlotsTaken.{answered_rest}
+use Rattle.html_urls.proofs.slots.slots_of.Goals as goal
+
+pub returns-in-Err : goal.returns-in-Err
+returns-in-Err g c =
+    answered_rest {T = Vec UrlSlot g.row.A.Denot} (λ slots. slots.items) _ _ _ _ c.parts.rest.now _ [] [] c.in-Err.fault c.in-len1-up.len_at_least c.in-Err.ensures c.parts.invariant.same

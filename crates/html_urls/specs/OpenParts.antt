@@ -1,0 +1,114 @@
+-- What is open at the end of a URL's beginning (URL Standard, 4.4 URL parsing: path state, query state, fragment state).
+use Rattle.std.specs.Prelude.{ℕ, Bool, true, false, not, ◌&&◌, ◌||◌, ◌==◌, eqb, List, [], ◌∷◌, drop, codes, Option, Some, None, if◌then◌else◌}
+use Rattle.std.specs.List.{list_any, starts_with}
+use Rattle.url.specs.Ascii.{dot, number_sign, percent_sign, question_mark, slash}
+use Rattle.html_urls.specs.declared.open_part.OpenPart.{OpenPart}
+use Rattle.html_urls.specs.declared.open_part.OpenPart.TheVariants.{NewSegment, TextSegment, DotSegment, NamedSegment, Query, Fragment}
+use Rattle.html_urls.specs.declared.parts.UrlSlot.{UrlSlot}
+use Rattle.html_urls.specs.declared.place.UrlPlace.TheVariants as place
+use Rattle.html_urls.specs.Segments.{is_dot_byte}
+
+-- a segment ends before it
+abbrev pub is_end : ℕ → Bool
+is_end b = b == slash || b == question_mark || b == number_sign
+
+-- a byte that begins a segment which reads as `.` or `..`
+abbrev pub begins_dots : ℕ → Bool
+begins_dots b = b == dot || b == percent_sign
+
+-- after a byte of a segment: whether with what follows it may read as `.` or `..`
+abbrev pub after_segment_byte : OpenPart → ℕ → OpenPart
+after_segment_byte NamedSegment b = NamedSegment
+after_segment_byte NewSegment b = if begins_dots b then DotSegment else NamedSegment
+after_segment_byte TextSegment b = if is_dot_byte b then DotSegment else NamedSegment
+after_segment_byte DotSegment b = if is_dot_byte b then DotSegment else NamedSegment
+after_segment_byte Query b = if is_dot_byte b then DotSegment else NamedSegment
+after_segment_byte Fragment b = if is_dot_byte b then DotSegment else NamedSegment
+
+-- after a byte of a path, and of a query
+abbrev pub after_path_byte : OpenPart → ℕ → OpenPart
+after_path_byte part b =
+    if b == slash then NewSegment
+    else (if b == question_mark then Query
+    else (if b == number_sign then Fragment
+    else after_segment_byte part b))
+
+abbrev pub after_query_byte : ℕ → OpenPart
+after_query_byte b = if b == number_sign then Fragment else Query
+
+-- after a byte of markup
+abbrev pub after_byte : OpenPart → ℕ → OpenPart
+after_byte NewSegment b = after_path_byte NewSegment b
+after_byte TextSegment b = after_path_byte TextSegment b
+after_byte DotSegment b = after_path_byte DotSegment b
+after_byte NamedSegment b = after_path_byte NamedSegment b
+after_byte Query b = after_query_byte b
+after_byte Fragment b = Fragment
+
+-- after markup in which no slot has stood
+abbrev pub after_front : OpenPart → List ℕ → OpenPart
+after_front part [] = part
+after_front part (b ∷ markup) = after_front (after_byte part b) markup
+
+-- a segment that may read as `.` or `..`
+abbrev pub may_be_dots : OpenPart → Bool
+may_be_dots DotSegment = true
+may_be_dots NewSegment = false
+may_be_dots TextSegment = false
+may_be_dots NamedSegment = false
+may_be_dots Query = false
+may_be_dots Fragment = false
+
+-- after markup behind a slot, unless such a segment ends in it
+abbrev pub after_markup : OpenPart → List ℕ → Option OpenPart
+after_markup part [] = Some part
+after_markup part (b ∷ markup) =
+    if may_be_dots part && is_end b then None else after_markup (after_byte part b) markup
+
+-- the slot that stands here, and what is open after its text
+abbrev pub slot_at : OpenPart → Option UrlSlot
+slot_at NewSegment = Some (record { place = place.Path; begins_segment = true })
+slot_at NamedSegment = Some (record { place = place.Path; begins_segment = false })
+slot_at TextSegment = None
+slot_at DotSegment = None
+slot_at Query = Some (record { place = place.Query; begins_segment = false })
+slot_at Fragment = Some (record { place = place.Fragment; begins_segment = false })
+
+abbrev pub after_text : OpenPart → OpenPart
+after_text NewSegment = TextSegment
+after_text TextSegment = TextSegment
+after_text DotSegment = DotSegment
+after_text NamedSegment = NamedSegment
+after_text Query = Query
+after_text Fragment = Fragment
+
+-- ---- the markup before the first slot
+
+abbrev pub has_byte : ℕ → List ℕ → Bool
+has_byte mark bytes = list_any (λ b. b == mark) bytes
+
+-- `//`, a byte of a host, and a `/` somewhere behind it
+abbrev pub has_host : List ℕ → Bool
+has_host (a ∷ b ∷ c ∷ more) = a == slash && b == slash && not (c == slash) && has_byte slash more
+has_host (a ∷ b ∷ []) = false
+has_host (a ∷ []) = false
+has_host [] = false
+
+abbrev pub begins : List ℕ → List ℕ → Bool
+begins bytes mark = starts_with eqb bytes mark
+
+-- one `/`, and no second one after it; or `./`; or `http:` or `https:`, and such a host
+abbrev pub is_fixed : List ℕ → Bool
+is_fixed front =
+    (begins front (codes "/") && not (begins front (codes "//")))
+    || begins front (codes "./")
+    || (begins front (codes "http:") && has_host (drop 5 front))
+    || (begins front (codes "https:") && has_host (drop 6 front))
+
+-- what is open at its end, if a text may stand there
+abbrev pub open_of : List ℕ → Option OpenPart
+open_of front =
+    if has_byte number_sign front then Some Fragment
+    else (if has_byte question_mark front then Some Query
+    else (if is_fixed front then Some (after_front NewSegment front)
+    else None))

@@ -1,0 +1,100 @@
+-- The slots of a URL's parts, the texts that fill them, and the URL of the texts.
+use Rattle.std.specs.Prelude.{◌≡◌, ⊤, ℕ, ◌+◌, ◌-◌, ◌<◌, Bool, true, not, ◌&&◌, ◌||◌, ◌==◌, nat_lt, List, [], ◌∷◌, ◌++◌, length, map, Option, Some, None, Result, Ok, Err, IsOkAnd, if◌then◌else◌}
+use Rattle.std.specs.Borrow.{Bor}
+use Rattle.std.specs.List.{list_all}
+use Rattle.url.specs.Ascii.{backslash, space}
+use Rattle.html_urls.specs.declared.open_part.OpenPart.{OpenPart}
+use Rattle.html_urls.specs.declared.parts.UrlFault.{UrlFault}
+use Rattle.html_urls.specs.declared.parts.UrlFault.TheVariants.{NotPlain, NotFixed, DotSegment}
+use Rattle.html_urls.specs.declared.parts.UrlPart.{UrlPart}
+use Rattle.html_urls.specs.declared.parts.UrlPart.TheVariants as part
+use Rattle.html_urls.specs.declared.parts.UrlSlot.{UrlSlot}
+use Rattle.html_urls.specs.Components.{component}
+use Rattle.html_urls.specs.OpenParts.{after_markup, after_text, may_be_dots, open_of, slot_at}
+use Rattle.html_urls.specs.Segments.{may_be_segment}
+
+-- a part as the definitions take it
+pub data Given : Type 0 where
+  Markup : List ℕ → Given
+  Slot : Given
+
+abbrev pub given : UrlPart → Given
+given (part.Markup text) = Markup text.now
+given part.Slot = Slot
+
+-- the texts as they are handed in
+abbrev pub texts_of : List (Bor (List ℕ)) → List (List ℕ)
+texts_of texts = map (λ text. text.now) texts
+
+-- the URL of the texts: each as a component in its slot
+abbrev pub url_of : List Given → List (List ℕ) → List ℕ
+url_of [] texts = []
+url_of (Markup bytes ∷ parts) texts = bytes ++ url_of parts texts
+url_of (Slot ∷ parts) [] = url_of parts []
+url_of (Slot ∷ parts) (text ∷ texts) = component text ++ url_of parts texts
+
+-- ---- which texts fill the slots
+
+-- where a segment begins with the slot, a text that is not empty, and neither `.` nor `..`
+abbrev pub may_fill : UrlSlot → List ℕ → Bool
+may_fill slot text = not slot.begins_segment || (nat_lt 0 (length text) && may_be_segment text)
+
+-- a text for each slot and no more, each of which may fill it
+abbrev pub FillSlots : List UrlSlot → List (List ℕ) → Type 0
+FillSlots [] [] = ⊤
+FillSlots [] (text ∷ texts) = ⊥
+FillSlots (slot ∷ slots) [] = ⊥
+FillSlots (slot ∷ slots) (text ∷ texts) = (may_fill slot text ≡ true) × FillSlots slots texts
+
+-- ---- the slots of the parts
+
+-- no white space, no control and no `\`
+abbrev pub is_plain_byte : ℕ → Bool
+is_plain_byte b = nat_lt space b && not (b == 127 || b == backslash)
+
+abbrev pub is_plain : List ℕ → Bool
+is_plain markup = list_all is_plain_byte markup
+
+abbrev pub Told : Type 0
+Told = Result (List UrlSlot) UrlFault
+
+-- these slots, and then those that are told
+abbrev pub after_slots : List UrlSlot → Told → Told
+after_slots slots (Ok more) = Ok (slots ++ more)
+after_slots slots (Err fault) = Err fault
+
+-- goes on where there is something, and else the fault is told
+abbrev pub told_of : {T : Type 0} → Option T → UrlFault → (T → Told) → Told
+told_of (Some found) fault go_on = go_on found
+told_of None fault go_on = Err fault
+
+-- behind the first slot, from the part of this number on
+abbrev pub later_slots : ℕ → OpenPart → List Given → Told
+later_slots number open_part [] = if may_be_dots open_part then Err (DotSegment (number - 1)) else Ok []
+later_slots number open_part (Markup bytes ∷ parts) =
+    if is_plain bytes
+    then told_of (after_markup open_part bytes) (DotSegment number) (λ after. later_slots (number + 1) after parts)
+    else Err (NotPlain number)
+later_slots number open_part (Slot ∷ parts) =
+    told_of (slot_at open_part) (DotSegment number) (λ slot. after_slots (slot ∷ []) (later_slots (number + 1) (after_text open_part) parts))
+
+-- before it, where this is the markup so far
+abbrev pub first_slots : ℕ → List ℕ → List Given → Told
+first_slots number front [] = Ok []
+first_slots number front (Markup bytes ∷ parts) =
+    if is_plain bytes then first_slots (number + 1) (front ++ bytes) parts else Err (NotPlain number)
+first_slots number front (Slot ∷ parts) =
+    told_of (open_of front) (NotFixed number) (λ open_part. later_slots number open_part (Slot ∷ parts))
+
+-- in the one case or the other
+abbrev pub slots_from : ℕ → List ℕ → Option OpenPart → List Given → Told
+slots_from number front None parts = first_slots number front parts
+slots_from number front (Some open_part) parts = later_slots number open_part parts
+
+-- the slots of the parts, or the first fault
+abbrev pub slots_of : List Given → Told
+slots_of parts = first_slots 0 [] parts
+
+-- the texts fill the slots of the parts, which have no fault
+abbrev pub FillUrl : List Given → List (List ℕ) → Type 0
+FillUrl parts texts = IsOkAnd (slots_of parts) (λ slots. FillSlots slots texts)

@@ -1,0 +1,47 @@
+//! What a URL with slots is made of, what is told of each slot, and why there are none.
+use crate::place::UrlPlace;
+use std::alloc::AllocError;
+
+/// A part of a URL with slots.
+#[derive(Clone, Copy, Debug)]
+pub enum UrlPart<'a> {
+    /// Markup, which stands in each URL as it is.
+    Markup(&'a str),
+    /// A slot, for the component of one text.
+    Slot,
+}
+
+/// Where a slot stands.
+#[derive(Clone, Copy, Debug, PartialEq, Eq)]
+pub struct UrlSlot {
+    /// The part of the URL.
+    pub place: UrlPlace,
+    /// In a path: whether a segment begins with the slot. Its text is not empty, and neither `.` nor `..`.
+    pub begins_segment: bool,
+}
+
+/// Why parts have no slots that texts may fill. Parts are counted from 0, and the first fault is
+/// answered.
+#[derive(Clone, Copy, Debug, PartialEq, Eq)]
+pub enum UrlFault {
+    /// This part is markup with a white space, a control or a `\`.
+    NotPlain(usize),
+    /// This part is a slot in a scheme, a user, a host or a port, or where these are still open.
+    NotFixed(usize),
+    /// In this part a segment of the path ends, or a slot stands in one, that with some text may
+    /// read as `.` or `..`: it has no other bytes than those of dots.
+    DotSegment(usize),
+    /// A growth was refused.
+    Memory,
+}
+
+impl From<AllocError> for UrlFault {
+    ghost use Rattle.std.specs.Prelude.{◌≡◌};
+    ghost use Rattle.html_urls.specs.declared.parts.UrlFault.TheVariants.{Memory};
+
+    ghost from_gives = { λ _ fault. fault ≡ Memory };
+
+    fn from(_refusal: AllocError) -> UrlFault {
+        UrlFault::Memory
+    }
+}
