@@ -5,5 +5,6 @@ pub mod Links
 pub mod Paths
 pub mod Places
 pub mod Queries
+pub mod Filled
 pub mod SlotsTaken
 pub mod Splits

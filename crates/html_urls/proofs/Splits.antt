@@ -70,7 +70,7 @@ last_byte (x ∷ front) ends =
     let on : i + 1 ≡ length whole = omega arith in
     (take i whole, get_or whole i 0, ends, split_around whole i (get_or whole i 0) inside refl ∙ ap (λ l. take i whole ++ get_or whole i 0 ∷ l) (ap (λ n. drop n whole) on ∙ drop_of_length-le whole {i = length whole} (omega arith)))
 
-kept_nothing : kept_rest [] ≡ []
+pub kept_nothing : kept_rest [] ≡ []
 unfolding strip_tabs_and_new_lines
 kept_nothing = refl
 

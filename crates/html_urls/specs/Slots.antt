@@ -1,8 +1,9 @@
 -- The slots of a URL's parts, the texts that fill them, and the URL of the texts.
-use Rattle.std.specs.Prelude.{◌≡◌, ⊤, ℕ, ◌+◌, ◌-◌, ◌<◌, Bool, true, not, ◌&&◌, ◌||◌, ◌==◌, nat_lt, List, [], ◌∷◌, ◌++◌, length, map, Option, Some, None, Result, Ok, Err, IsOkAnd, if◌then◌else◌}
+use Rattle.std.specs.Prelude.{◌≡◌, ⊤, ℕ, ◌+◌, ◌-◌, Bool, true, not, ◌&&◌, ◌||◌, ◌==◌, nat_lt, List, [], ◌∷◌, ◌++◌, length, map, Option, Some, None, Result, Ok, Err, IsOkAnd, if◌then◌else◌}
 use Rattle.std.specs.Borrow.{Bor}
 use Rattle.std.specs.List.{list_all}
 use Rattle.url.specs.Ascii.{backslash, space}
+use Rattle.url.specs.Path.{dot_count}
 use Rattle.html_urls.specs.declared.open_part.OpenPart.{OpenPart}
 use Rattle.html_urls.specs.declared.parts.UrlFault.{UrlFault}
 use Rattle.html_urls.specs.declared.parts.UrlFault.TheVariants.{NotPlain, NotFixed, DotSegment}
@@ -11,7 +12,6 @@ use Rattle.html_urls.specs.declared.parts.UrlPart.TheVariants as part
 use Rattle.html_urls.specs.declared.parts.UrlSlot.{UrlSlot}
 use Rattle.html_urls.specs.Components.{component}
 use Rattle.html_urls.specs.OpenParts.{after_markup, after_text, may_be_dots, open_of, slot_at}
-use Rattle.html_urls.specs.Segments.{may_be_segment}
 
 -- a part as the definitions take it
 pub data Given : Type 0 where
@@ -35,9 +35,9 @@ url_of (Slot ∷ parts) (text ∷ texts) = component text ++ url_of parts texts
 
 -- ---- which texts fill the slots
 
--- where a segment begins with the slot, a text that is not empty, and neither `.` nor `..`
+-- where a segment begins with the slot, a text that is not empty, and whose component reads as neither `.` nor `..`
 abbrev pub may_fill : UrlSlot → List ℕ → Bool
-may_fill slot text = not slot.begins_segment || (nat_lt 0 (length text) && may_be_segment text)
+may_fill slot text = not slot.begins_segment || (nat_lt 0 (length text) && dot_count (component text) == 0)
 
 -- a text for each slot and no more, each of which may fill it
 abbrev pub FillSlots : List UrlSlot → List (List ℕ) → Type 0

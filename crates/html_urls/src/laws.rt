@@ -2,7 +2,7 @@
 //!
 //! A URL is the bytes of a front, a text as a component, and the bytes of a rest. It is read by
 //! `parse_url`, the URL Standard's parser, against any base or none.
-ghost use Rattle.std.specs.Prelude.{◌≡◌, ◌<◌, ◌⊎◌, ◌++◌, ◌∷◌, [], All, IfOk, IfSome, None, Ok, Option, Some, codes, is_some, length, true};
+ghost use Rattle.std.specs.Prelude.{◌≡◌, ◌<◌, ◌⊎◌, ◌++◌, ◌∷◌, [], All, IfOk, IfSome, None, Ok, Option, Some, codes, is_some, length, map, true};
 ghost use Rattle.form_urlencoded.specs.Form.{decode, parse};
 ghost use Rattle.percent_encoding.specs.Percent.{percent_decode};
 ghost use Rattle.url.specs.Ascii.{slash};
@@ -31,7 +31,9 @@ ghost use Rattle.html_urls.specs.Segments.{
   names_segment,
   segments_before,
 };
+ghost use Rattle.html_urls.specs.Slots.{FillUrl, given, texts_of, url_of};
 
+use crate::parts::UrlPart;
 use crate::place::UrlPlace;
 
 /// A component is decoded to its text.
@@ -180,6 +182,19 @@ pub fn url_pair_law(front: &[u8], before: &[u8], name: &[u8], text: &str, rest: 
         → BeginsPair (query_after url rest.now)
         → HasPairs (parse_url base (front.now ++ component text.now ++ rest.now))
         (parse before.now ++ (decode name.now, text.now) ∷ parse (query_after url rest.now)) }
+{}
+
+/// No texts that fill the slots of a URL change its scheme, user, password, host or port, or whether
+/// it is refused: these are the same with any other texts.
+///
+/// For instance the URL of `/items/`, a slot, `?q=` and a slot has the host of the page, with the texts
+/// `../../logout` and `1&admin=1` as with `1` and `2`.
+pub fn url_template_law(parts: &[UrlPart<'_>], texts: &[&str], others: &[&str])
+    requires texts { FillUrl (map given parts.now) (texts_of texts.now) }
+    requires others { FillUrl (map given parts.now) (texts_of others.now) }
+    ensures head { (base : Option Parts) → IsWebBase base
+        → head_of (parse_url base (url_of (map given parts.now) (texts_of texts.now)))
+        ≡ head_of (parse_url base (url_of (map given parts.now) (texts_of others.now))) }
 {}
 
 /// The URL of a text that is a link has the scheme `http`, `https` or `mailto`, on each page whose own

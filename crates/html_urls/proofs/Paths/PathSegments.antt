@@ -68,7 +68,7 @@ last_after xs ys = (found xs).1
         let step : rsplit_step 47 x (rsplit_once 47 (xs ++ 47 ∷ ys)).0 (rsplit_once 47 (xs ++ 47 ∷ ys)).1 ≡ (Some (x ∷ f), (rsplit_once 47 ys).1) = λ i. rsplit_step 47 x (front i) (back i) in
         ((x ∷ f, ap (λ r. r.0) step), ap (λ r. r.1) step)
 
-last_of_whole : (xs : List ℕ) → All (IsNot 47) xs → last_segment xs ≡ xs
+pub last_of_whole : (xs : List ℕ) → All (IsNot 47) xs → last_segment xs ≡ xs
 unfolding rsplit_once
 last_of_whole [] none = refl
 last_of_whole (x ∷ xs) none = ap (λ r. r.1) (rsplit_once_none 47 (x ∷ xs) none)

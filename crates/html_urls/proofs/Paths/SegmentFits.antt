@@ -21,7 +21,7 @@ use Rattle.html_urls.proofs.Paths.OneSegment.{whole_first}
 use Rattle.html_urls.proofs.Components.{component_without}
 use Rattle.html_urls.proofs.Paths.PathSegments.{split_at, split_one}
 
-dot_kept : should_percent_encode COMPONENT 46 ≡ false
+pub dot_kept : should_percent_encode COMPONENT 46 ≡ false
 unfolding should_percent_encode
 dot_kept = refl
 
@@ -58,7 +58,7 @@ own_segment last text path none bytes may begins dots =
 
 -- ---- a segment that other bytes name
 
-abbrev IsDotByte : ℕ → Type 0
+abbrev pub IsDotByte : ℕ → Type 0
 IsDotByte b = is_dot_byte b ≡ true
 
 dot_bytes : (xs : List ℕ) → All IsDotByte (take (dot_len xs) xs)
@@ -87,7 +87,7 @@ dot_bytes xs =
     inside_from xs i b here some = lt_of_not-le (λ past. absurd (some (sym here ∙ get_or_past xs i 0 past)))
 
 -- a segment that reads as `.` or `..` has no other byte than those of a dot
-dot_segment_bytes : (xs : List ℕ) → dot_count xs ≢ 0 → All IsDotByte xs
+pub dot_segment_bytes : (xs : List ℕ) → dot_count xs ≢ 0 → All IsDotByte xs
 unfolding dot_count
 dot_segment_bytes xs dots =
     let n = dot_len xs in

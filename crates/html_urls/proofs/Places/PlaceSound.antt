@@ -41,7 +41,7 @@ split_parts s (x ∷ xs) after found =
     (rw (ne_eqb x s other) (All-cons (IsNot s) x (split_once s xs).0 other later.0), rw (ne_eqb x s other) (ap (λ l. x ∷ l) later.1)))
     (cases_eq x s)
 
-whole_host : (front scheme body : List ℕ) → front ≡ scheme ++ 58 ∷ body → is_web_scheme scheme ≡ true → has_whole_host body ≡ true → FixesHost front
+pub whole_host : (front scheme body : List ℕ) → front ≡ scheme ++ 58 ∷ body → is_web_scheme scheme ≡ true → has_whole_host body ≡ true → FixesHost front
 whole_host front scheme (a ∷ b ∷ more) is web host =
     let found : is_some (split_once 47 more).1 ≡ true = (and_parts (a == 47 && b == 47 && nat_lt 0 (length (split_once 47 more).0)) (is_some (split_once 47 more).1) host).1 in
     let first : a ≡ 47 = grind (arith, nat_tests) in

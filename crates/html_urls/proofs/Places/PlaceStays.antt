@@ -138,7 +138,7 @@ last_of xs ys ends =
     let at : length (xs ++ ys) - 1 ≡ length xs + (length ys - 1) = omega (arith, length-append xs ys) in
     subst (λ (b : ℕ). 32 < b) (sym (ap (λ i. get_or (xs ++ ys) i 0) at ∙ get_or-append-add xs ys (length ys - 1) 0)) ends
 
-all_visible : (xs : List ℕ) → All IsVisible xs → 0 < length xs → EndsVisibly xs
+pub all_visible : (xs : List ℕ) → All IsVisible xs → 0 < length xs → EndsVisibly xs
 all_visible xs visible some = All-get_or IsVisible xs (length xs - 1) 0 (omega arith) visible
 
 -- the text and such a rest leave a visible byte at the end

@@ -1,0 +1,4 @@
+pub mod OpenSegments
+pub mod LaterSlots
+pub mod FirstSlot
+pub mod MayFill
