@@ -10,7 +10,7 @@ pub mod component;
 pub mod forms;
 pub mod laws;
 pub mod link;
-pub mod open_part;
+mod open_part;
 pub mod parts;
 pub mod place;
 pub mod segment;

@@ -6,4 +6,5 @@ mod laws;
 mod links;
 mod memory;
 mod parts;
+mod slots;
 mod traps;

@@ -1,12 +1,10 @@
 -- The markup before the first slot, and what its text and the parts behind it do.
-use Rattle.std.proofs.Common.{◌≡◌, ◌≢◌, ℕ, ◌+◌, ◌-◌, ◌<◌, Bool, true, false, not, cond, ◌&&◌, ◌||◌, ◌==◌, eqb, nat_lt, List, [], ◌∷◌, ◌++◌, length, get_or, drop, codes, Option, Some, None, Result, Ok, Err, IsOkAnd, is_some, All, sym, refl, ap, ◌∙◌, subst, inl, inr, ⊎_elim, append_assoc, append-nil, arith}
-use Rattle.std.specs.List.{list_any}
+use Rattle.std.proofs.Common.{◌≡◌, ◌≢◌, ℕ, ◌+◌, ◌<◌, Bool, true, false, not, ◌&&◌, ◌||◌, ◌==◌, nat_lt, List, [], ◌∷◌, ◌++◌, length, drop, codes, Option, Some, None, Ok, Err, IsOkAnd, is_some, All, sym, refl, ap, ◌∙◌, subst, ⊎_elim, append_assoc, append-nil, arith}
 use Rattle.std.proofs.lemmas.Bool.{cases_Bool, cases_eq, both_ways, eq-eqb, ne_eqb, and_parts, cond-true, cond-false, lt-leb, lt-ltb}
 use Rattle.std.proofs.lemmas.Bool.Decides.{nat_tests, Decides-eqb}
 use Rattle.std.proofs.lemmas.List.Elements.{All-nil, All-cons, All-head, All-tail, All-append, All-push, All-weaker}
 use Rattle.std.proofs.lemmas.Slice.Eq.{starts_is}
-use Rattle.percent_encoding.proofs.PercentLemmas.{percent_encode_nonempty}
-use Rattle.url.specs.Input.{rsplit_once, split_once, strip_tabs_and_new_lines, trim_c0_control_and_space}
+use Rattle.url.specs.Input.{rsplit_once, split_once, trim_c0_control_and_space}
 use Rattle.url.specs.Path.{dot_count}
 use Rattle.url.specs.Parts.{Parts}
 use Rattle.url.specs.Parser.{parse_url}
@@ -14,11 +12,9 @@ use Rattle.url.proofs.InputLemmas.{All_from_list_all}
 use Rattle.html_urls.specs.Components.{component}
 use Rattle.html_urls.specs.Heads.{head_of}
 use Rattle.html_urls.specs.Hosts.{FixesHost, IsWebBase, relative, rooted}
-use Rattle.html_urls.specs.Inputs.{EndsVisibly, IsNot, IsVisible, kept, kept_rest}
-use Rattle.html_urls.specs.Paths.{EndsInPath, FitsSegment, IsPathText, is_path_byte}
+use Rattle.html_urls.specs.Inputs.{IsNot, IsVisible, kept, kept_rest}
+use Rattle.html_urls.specs.Paths.{FitsSegment, IsPathText, is_path_byte}
 use Rattle.html_urls.specs.Places.{EndsIn, Fits, SuitsPlace, has_whole_host, is_web_scheme}
-use Rattle.html_urls.specs.Queries.{EndsInQuery}
-use Rattle.html_urls.specs.Fragments.{EndsInFragment}
 use Rattle.html_urls.specs.Rests.{path_of}
 use Rattle.html_urls.specs.Segments.{HasNoDotSegments, last_segment}
 use Rattle.html_urls.specs.declared.open_part.OpenPart.{OpenPart}
@@ -27,7 +23,7 @@ use Rattle.html_urls.specs.declared.parts.UrlFault.TheVariants as fault
 use Rattle.html_urls.specs.declared.parts.UrlSlot.{UrlSlot}
 use Rattle.html_urls.specs.declared.place.UrlPlace.{UrlPlace}
 use Rattle.html_urls.specs.declared.place.UrlPlace.TheVariants as place
-use Rattle.html_urls.specs.OpenParts.{after_byte, after_front, after_path_byte, after_segment_byte, begins, has_byte, has_host, after_text, is_fixed, may_be_dots, open_of, slot_at}
+use Rattle.html_urls.specs.OpenParts.{after_byte, after_front, after_segment_byte, begins, has_byte, has_host, after_text, is_fixed, may_be_dots, open_of, slot_at}
 use Rattle.html_urls.specs.Slots.{FillSlots, Given, Markup, Slot, Told, after_slots, first_slots, is_plain, is_plain_byte, later_slots, may_fill, told_of, url_of}
 use Rattle.html_urls.proofs.Splits.{kept_nothing, kept_visible}
 use Rattle.html_urls.proofs.Paths.PathSegments.{last_after, last_of_whole, last_whole}

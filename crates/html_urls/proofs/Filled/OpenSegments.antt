@@ -1,18 +1,16 @@
 -- What is known of the open segment.
-use Rattle.std.proofs.Common.{◌≡◌, ◌≢◌, ℕ, Bool, true, false, cond, ◌==◌, List, [], ◌∷◌, ◌++◌, All, sym, refl, ap, ◌∙◌, subst, ⊎_elim, append_assoc, append-nil, arith}
+use Rattle.std.proofs.Common.{◌≡◌, ℕ, Bool, true, false, cond, ◌==◌, List, [], ◌∷◌, ◌++◌, sym, refl, ap, ◌∙◌, subst, ⊎_elim, append_assoc, append-nil, arith}
 use Rattle.std.specs.Bool.{⊤}
 use Rattle.std.proofs.lemmas.Bool.{cases_Bool, cases_eq, both_ways}
 use Rattle.std.proofs.lemmas.Bool.Decides.{nat_tests}
 use Rattle.std.proofs.lemmas.List.Elements.{All-head}
-use Rattle.percent_encoding.proofs.PercentLemmas.{IsByte}
 use Rattle.url.specs.Path.{dot_count}
-use Rattle.html_urls.specs.Components.{component}
 use Rattle.html_urls.specs.declared.open_part.OpenPart.{OpenPart}
 use Rattle.html_urls.specs.declared.open_part.OpenPart.TheVariants.{NewSegment, TextSegment, DotSegment, NamedSegment, Query, Fragment}
 use Rattle.html_urls.specs.OpenParts.{after_segment_byte, begins_dots, may_be_dots}
-use Rattle.html_urls.specs.Segments.{is_dot_byte, may_be_segment}
+use Rattle.html_urls.specs.Segments.{is_dot_byte}
 use Rattle.html_urls.proofs.Paths.Opening.{all_left, all_right}
-use Rattle.html_urls.proofs.Paths.SegmentFits.{IsDotByte, component_dots, dot_segment_bytes}
+use Rattle.html_urls.proofs.Paths.SegmentFits.{IsDotByte, dot_segment_bytes}
 
 -- whatever follows, the segment reads as neither `.` nor `..`
 abbrev pub IsNamed : List ℕ → Type 0

@@ -1,0 +1,222 @@
+//! URLs with several slots: where each stands, which parts are refused, and hostile texts in two slots,
+//! read back by the running parser.
+use crate::tests::hostile::ROWS;
+use html_urls::UrlPart::{Markup, Slot};
+use html_urls::{UrlFault, UrlPart, UrlPlace, UrlSlot, append_component, may_fill, slots_of};
+use percent_encoding::percent_decode_str;
+use std::alloc::Global;
+use std::test::Fail;
+use test_support::Refusing;
+use url::{ParseError, Url};
+
+const PAGE: &str = "https://h:8080/d/f?k=v#g";
+
+const ITEM: [UrlPart<'static>; 5] = [
+    Markup("/items/"),
+    Slot,
+    Markup("/edit?q="),
+    Slot,
+    Markup("&r=1#s"),
+];
+
+const BEGINS: UrlSlot = UrlSlot {
+    place: UrlPlace::Path,
+    begins_segment: true,
+};
+
+const IN_SEGMENT: UrlSlot = UrlSlot {
+    place: UrlPlace::Path,
+    begins_segment: false,
+};
+
+const IN_QUERY: UrlSlot = UrlSlot {
+    place: UrlPlace::Query,
+    begins_segment: false,
+};
+
+const IN_FRAGMENT: UrlSlot = UrlSlot {
+    place: UrlPlace::Fragment,
+    begins_segment: false,
+};
+
+// A front, and the fault of a slot behind it.
+const FRONTS: [(&str, UrlFault); 16] = [
+    ("", UrlFault::NotFixed(1)),
+    ("//", UrlFault::NotFixed(1)),
+    ("a/", UrlFault::NotFixed(1)),
+    ("https:/", UrlFault::NotFixed(1)),
+    ("https://", UrlFault::NotFixed(1)),
+    ("https://a@", UrlFault::NotFixed(1)),
+    ("https://a.example", UrlFault::NotFixed(1)),
+    ("https://a.example:", UrlFault::NotFixed(1)),
+    ("javascript:", UrlFault::NotFixed(1)),
+    ("mailto:", UrlFault::NotFixed(1)),
+    ("file:///", UrlFault::NotFixed(1)),
+    ("/a b/", UrlFault::NotPlain(0)),
+    ("/\t/", UrlFault::NotPlain(0)),
+    ("/\\", UrlFault::NotPlain(0)),
+    ("/a/.", UrlFault::DotSegment(1)),
+    ("/a/%2", UrlFault::DotSegment(1)),
+];
+
+// What stands behind `/a/` and a slot, and its fault.
+const RESTS: [(&str, UrlFault); 8] = [
+    ("/../b", UrlFault::DotSegment(2)),
+    ("/..", UrlFault::DotSegment(2)),
+    ("/%2E?q", UrlFault::DotSegment(2)),
+    ("/.#s", UrlFault::DotSegment(2)),
+    (".", UrlFault::DotSegment(2)),
+    ("%2e/b", UrlFault::DotSegment(2)),
+    ("/b ", UrlFault::NotPlain(2)),
+    ("?q=\u{7F}", UrlFault::NotPlain(2)),
+];
+
+fn are_slots(alloc: Global, parts: &[UrlPart<'_>], wanted: &[UrlSlot]) -> bool {
+    match slots_of(alloc, parts) {
+        Ok(slots) => slots.as_slice() == wanted,
+        Err(_) => false,
+    }
+}
+
+fn is_fault(alloc: Global, parts: &[UrlPart<'_>], wanted: UrlFault) -> bool {
+    match slots_of(alloc, parts) {
+        Ok(_) => false,
+        Err(fault) => fault == wanted,
+    }
+}
+
+fn url_of(alloc: Global, parts: &[UrlPart<'_>], texts: &[&str]) -> Result<Url, ParseError> {
+    let mut value = String::new(alloc);
+    let mut texts = texts.iter();
+    for part in parts {
+        match *part {
+            Markup(markup) => value.push_str(markup)?,
+            Slot => {
+                append_component(&mut value, texts.next().map_or("", |text| *text))?;
+            }
+        }
+    }
+    Url::parse(alloc, PAGE)?.join(value.as_str())
+}
+
+#[test]
+fn each_slot_is_told_with_its_place(rt: HostRuntime) -> Result<(), Fail> {
+    assert!(rt; are_slots(rt.alloc(), &ITEM, &[BEGINS, IN_QUERY]));
+    assert!(rt;
+        are_slots(
+            rt.alloc(),
+            &[Markup("/2/"), Slot, Markup("/2/x"), Slot, Slot],
+            &[BEGINS, IN_SEGMENT, IN_SEGMENT]
+        )
+    );
+    assert!(rt;
+        are_slots(
+            rt.alloc(),
+            &[Markup("https://a.example/"), Slot, Markup(".html#"), Slot],
+            &[BEGINS, IN_FRAGMENT]
+        )
+    );
+    assert!(rt;
+        are_slots(
+            rt.alloc(),
+            &[Markup("./"), Markup("a"), Slot],
+            &[IN_SEGMENT]
+        )
+    );
+    assert!(rt;
+        are_slots(
+            rt.alloc(),
+            &[Markup("?"), Slot, Slot],
+            &[IN_QUERY, IN_QUERY]
+        )
+    );
+    assert!(rt; are_slots(rt.alloc(), &[], &[]));
+    Ok(())
+}
+
+#[test]
+fn each_fault_names_its_part(rt: HostRuntime) -> Result<(), Fail> {
+    for &(front, fault) in &FRONTS {
+        assert!(rt;
+            is_fault(rt.alloc(), &[Markup(front), Slot, Markup("/x")], fault),
+            "{front:?}"
+        );
+    }
+    for &(rest, fault) in &RESTS {
+        assert!(rt;
+            is_fault(rt.alloc(), &[Markup("/a/"), Slot, Markup(rest)], fault),
+            "{rest:?}"
+        );
+    }
+    assert!(rt;
+        is_fault(
+            rt.alloc(),
+            &[Markup("/a/"), Slot, Slot],
+            UrlFault::DotSegment(2)
+        )
+    );
+    assert!(rt; is_fault(rt.alloc(), &[Slot, Markup(":x")], UrlFault::NotFixed(0)));
+    Ok(())
+}
+
+#[test]
+fn texts_fill_slots_by_their_place(rt: HostRuntime) -> Result<(), Fail> {
+    for &text in &["", ".", ".."] {
+        assert!(rt; !may_fill(BEGINS, text), "{text:?}");
+        assert!(rt; may_fill(IN_SEGMENT, text), "{text:?}");
+        assert!(rt; may_fill(IN_QUERY, text), "{text:?}");
+        assert!(rt; may_fill(IN_FRAGMENT, text), "{text:?}");
+    }
+    for &text in &["...", "%2e", "a/../b"] {
+        assert!(rt; may_fill(BEGINS, text), "{text:?}");
+    }
+    Ok(())
+}
+
+#[test]
+fn hostile_texts_in_two_slots_are_read_back(rt: HostRuntime) -> Result<(), Fail> {
+    for &(first, component) in &ROWS {
+        if !may_fill(BEGINS, first) {
+            continue;
+        }
+        for &(second, _) in &ROWS {
+            let url = url_of(rt.alloc(), &ITEM, &[first, second])?;
+            assert!(rt;
+                url.scheme() == "https" && url.authority() == "h:8080",
+                "{first:?} {second:?}"
+            );
+            let Some(mut segments) = url.path_segments() else {
+                panic!(rt; "{first:?} has a path");
+            };
+            assert!(rt; segments.next() == Some("items"), "{first:?}");
+            assert!(rt; segments.next() == Some(component), "{first:?}");
+            assert!(rt;
+                segments.next() == Some("edit") && segments.next().is_none(),
+                "{first:?}"
+            );
+            assert!(rt; url.fragment() == Some("s"), "{second:?}");
+            let Some(query) = url.query() else {
+                panic!(rt; "{second:?} has a query");
+            };
+            let value = query
+                .strip_prefix("q=")
+                .and_then(|rest| rest.strip_suffix("&r=1"));
+            let mut bytes = Vec::new(rt.alloc());
+            percent_decode_str(value.unwrap_or("-")).append_to(&mut bytes)?;
+            assert!(rt; bytes.as_slice() == second.as_bytes(), "{second:?}");
+        }
+    }
+    Ok(())
+}
+
+#[test]
+fn refused_memory_is_a_fault(rt: HostRuntime) -> Result<(), Fail> {
+    for refused in 1..3 {
+        let heap = Refusing::new(rt.alloc(), refused);
+        let told = slots_of(&heap, &ITEM);
+        assert!(rt; matches!(&told, Err(UrlFault::Memory)), "{refused}");
+    }
+    let heap = Refusing::new(rt.alloc(), 0);
+    assert!(rt; slots_of(&heap, &ITEM).is_ok());
+    Ok(())
+}
