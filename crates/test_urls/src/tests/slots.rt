@@ -92,7 +92,11 @@ fn url_of(alloc: Global, parts: &[UrlPart<'_>], texts: &[&str]) -> Result<Url, P
         match *part {
             Markup(markup) => value.push_str(markup)?,
             Slot => {
-                append_component(&mut value, texts.next().map_or("", |text| *text))?;
+                let text = match texts.next() {
+                    Some(text) => *text,
+                    None => "",
+                };
+                append_component(&mut value, text)?;
             }
         }
     }
