@@ -1,5 +1,5 @@
 -- The segments of a path, and those that read as dots (URL Standard, 4.1 URL representation: URL path segment, single-dot and double-dot URL path segment).
-use Rattle.std.specs.Prelude.{◌≡◌, ◌⊎◌, ℕ, Bool, not, ◌||◌, ◌==◌, List, [], ◌∷◌, codes, bytes_eq, All, IsOkAnd}
+use Rattle.std.specs.Prelude.{◌≡◌, ◌⊎◌, ℕ, Bool, not, ◌||◌, ◌==◌, List, [], ◌∷◌, codes, bytes_eq, length, Option, Some, None, Ok, Err, All, IsOkAnd}
 use Rattle.std.specs.List.{list_any}
 use Rattle.url.specs.Ascii.{digit_two, dot, lower_e, percent_sign, slash, upper_e}
 use Rattle.url.specs.Input.{split_once, rsplit_once}
@@ -37,6 +37,11 @@ HasNoDotSegments path = All IsNoDotSegment (segments path)
 -- the URL is one with these segments in its path
 abbrev pub HasSegments : Parsed Parts → List (List ℕ) → Type 0
 HasSegments parsed list = IsOkAnd parsed (λ url. segments url.path ≡ list)
+
+-- how many segments the path of the URL has
+abbrev pub segment_count : Parsed Parts → Option ℕ
+segment_count (Ok url) = Some (length (segments url.path))
+segment_count (Err e) = None
 
 -- the text is neither of them: these two cannot be percent-encoded
 abbrev pub may_be_segment : List ℕ → Bool

@@ -14,7 +14,7 @@ ghost use Rattle.html_urls.specs.Heads.{head_of, on_ok};
 ghost use Rattle.html_urls.specs.Hosts.{IsWebBase};
 ghost use Rattle.html_urls.specs.Inputs.{KeepsEnd, kept};
 ghost use Rattle.html_urls.specs.Links.{HasLinkScheme, is_link};
-ghost use Rattle.html_urls.specs.Pairs.{BeginsPair, EndsPair, HasPairs, IsName};
+ghost use Rattle.html_urls.specs.Pairs.{BeginsPair, EndsPair, HasPairs, IsName, string_count};
 ghost use Rattle.html_urls.specs.Paths.{EndsInPath, FitsSegment, IsPathText, path_after};
 ghost use Rattle.html_urls.specs.Places.{EndsIn, Fits, LeavesOpen, SuitsPlace, goes_on, place_of};
 ghost use Rattle.html_urls.specs.Queries.{EndsInQuery, query_after};
@@ -29,6 +29,7 @@ ghost use Rattle.html_urls.specs.Segments.{
   later_segments,
   may_be_segment,
   names_segment,
+  segment_count,
   segments_before,
 };
 ghost use Rattle.html_urls.specs.Slots.{FillUrl, given, texts_of, url_of};
@@ -184,17 +185,24 @@ pub fn url_pair_law(front: &[u8], before: &[u8], name: &[u8], text: &str, rest: 
         (parse before.now ++ (decode name.now, text.now) ∷ parse (query_after url rest.now)) }
 {}
 
-/// No texts that fill the slots of a URL change its scheme, user, password, host or port, or whether
-/// it is refused: these are the same with any other texts.
+/// No texts that fill the slots of a URL change its scheme, user, password, host or port, whether it is
+/// refused, or how many segments its path and how many strings between `&` its query has: these are
+/// the same with any other texts.
 ///
-/// For instance the URL of `/items/`, a slot, `?q=` and a slot has the host of the page, with the texts
-/// `../../logout` and `1&admin=1` as with `1` and `2`.
+/// For instance the URL of `/items/`, a slot, `?q=` and a slot has the host of the page, two segments
+/// and one such string, with the texts `../../logout` and `1&admin=1` as with `1` and `2`.
 pub fn url_template_law(parts: &[UrlPart<'_>], texts: &[&str], others: &[&str])
     requires texts { FillUrl (map given parts.now) (texts_of texts.now) }
     requires others { FillUrl (map given parts.now) (texts_of others.now) }
     ensures head { (base : Option Parts) → IsWebBase base
         → head_of (parse_url base (url_of (map given parts.now) (texts_of texts.now)))
         ≡ head_of (parse_url base (url_of (map given parts.now) (texts_of others.now))) }
+    ensures segments { (base : Option Parts) → IsWebBase base
+        → segment_count (parse_url base (url_of (map given parts.now) (texts_of texts.now)))
+        ≡ segment_count (parse_url base (url_of (map given parts.now) (texts_of others.now))) }
+    ensures strings { (base : Option Parts) → IsWebBase base
+        → string_count (parse_url base (url_of (map given parts.now) (texts_of texts.now)))
+        ≡ string_count (parse_url base (url_of (map given parts.now) (texts_of others.now))) }
 {}
 
 /// The URL of a text that is a link has the scheme `http`, `https` or `mailto`, on each page whose own

@@ -300,7 +300,7 @@ text_fits front NamedSegment slot text rest stands here may good = subst (λ at.
 
 -- ---- the head
 
-any_suits : (at : UrlPlace) (base : Option Parts) → IsWebBase base → SuitsPlace at base
+pub any_suits : (at : UrlPlace) (base : Option Parts) → IsWebBase base → SuitsPlace at base
 any_suits place.Path base web = web
 any_suits place.Query base web = tt
 any_suits place.Fragment base web = tt

@@ -34,20 +34,20 @@ path_over x rest visible no_fragment no_query =
 pub path_over_text : (text rest : List ℕ) → path_of (component text ++ rest) ≡ component text ++ path_of rest
 path_over_text text rest = path_over (component text) rest (component_visible text) (component_without 35 refl text) (component_without 63 refl text)
 
-one_visible : (b : ℕ) → 32 < b → All IsVisible (b ∷ [])
+pub one_visible : (b : ℕ) → 32 < b → All IsVisible (b ∷ [])
 one_visible b above = All-cons IsVisible b [] above (All-nil IsVisible)
 
-one_not : (mark b : ℕ) → b ≢ mark → All (IsNot mark) (b ∷ [])
+pub one_not : (mark b : ℕ) → b ≢ mark → All (IsNot mark) (b ∷ [])
 one_not mark b other = All-cons (IsNot mark) b [] other (All-nil (IsNot mark))
 
 pub path_over_byte : (b : ℕ) (rest : List ℕ) → 32 < b → b ≢ 35 → b ≢ 63 → path_of (b ∷ rest) ≡ b ∷ path_of rest
 path_over_byte b rest above no_fragment no_query = path_over (b ∷ []) rest (one_visible b above) (one_not 35 b no_fragment) (one_not 63 b no_query)
 
-query_ends : (rest : List ℕ) → path_of (63 ∷ rest) ≡ []
+pub query_ends : (rest : List ℕ) → path_of (63 ∷ rest) ≡ []
 unfolding split_once
 query_ends rest = ap (λ k. (split_once 63 (split_once 35 k).0).0) (kept_visible (63 ∷ []) rest (one_visible 63 (omega arith)))
 
-fragment_ends : (rest : List ℕ) → path_of (35 ∷ rest) ≡ []
+pub fragment_ends : (rest : List ℕ) → path_of (35 ∷ rest) ≡ []
 unfolding split_once
 fragment_ends rest = ap (λ k. (split_once 63 (split_once 35 k).0).0) (kept_visible (35 ∷ []) rest (one_visible 35 (omega arith)))
 

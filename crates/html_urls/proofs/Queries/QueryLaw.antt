@@ -52,7 +52,7 @@ by_scheme_with None (Some base) body q r f g = step (cannot_be_a_base base) (is_
 
 -- ---- the law
 
-encode_query : (kind : SchemeType) (before text after : List ℕ) → percent_encode (query_set kind) (before ++ component text ++ after) ≡ percent_encode (query_set kind) before ++ component text ++ percent_encode (query_set kind) after
+pub encode_query : (kind : SchemeType) (before text after : List ℕ) → percent_encode (query_set kind) (before ++ component text ++ after) ≡ percent_encode (query_set kind) before ++ component text ++ percent_encode (query_set kind) after
 encode_query File = encode_around SPECIAL_QUERY refl refl
 encode_query SpecialNotFile = encode_around SPECIAL_QUERY refl refl
 encode_query NotSpecial = encode_around QUERY refl refl
