@@ -24,7 +24,7 @@ pub struct UrlSlot {
 /// answered.
 #[derive(Clone, Copy, Debug, PartialEq, Eq)]
 pub enum UrlFault {
-    /// This part is markup with a white space, a control or a `\`.
+    /// This part is markup with an ASCII white space or control, or a `\`.
     NotPlain(usize),
     /// This part is a slot in a scheme, a user, a host or a port, or where these are still open.
     NotFixed(usize),
