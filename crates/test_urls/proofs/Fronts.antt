@@ -1,14 +1,20 @@
 -- Where the fronts of the examples end, and what fits there, by computing.
-use Rattle.std.proofs.Common.{◌≡◌, [], ◌∷◌, codes, All, refl, inr, true}
-use Rattle.std.proofs.lemmas.List.Elements.{All-nil, All-cons}
+use Rattle.std.proofs.Common.{◌≡◌, ℕ, ◌==◌, nat_lt, List, [], ◌∷◌, codes, All, refl, ap, inr, true, arith}
+use Rattle.std.specs.List.{list_all}
+use Rattle.std.proofs.lemmas.Bool.Decides.{nat_tests}
+use Rattle.std.proofs.lemmas.List.Elements.{All-nil, All-cons, All-weaker}
 use Rattle.form_urlencoded.specs.Form.{split}
+use Rattle.percent_encoding.proofs.PercentLemmas.{IsByte}
 use Rattle.url.specs.Input.{strip_tabs_and_new_lines, trim_c0_control_and_space, split_once, rsplit_once}
 use Rattle.url.specs.Path.{dot_count}
 use Rattle.url.proofs.InputLemmas.{All_from_list_all}
+use Rattle.html_urls.specs.Components.{component}
+use Rattle.html_urls.specs.Slots.{FillUrl, Given, Markup, Slot}
+use Rattle.html_urls.proofs.Paths.SegmentFits.{component_dots}
 use Rattle.html_urls.specs.Paths.{EndsInPath, IsPathText, is_path_byte}
 use Rattle.html_urls.specs.Queries.{EndsInQuery}
 use Rattle.html_urls.specs.Rests.{path_of}
-use Rattle.html_urls.specs.Segments.{BeginsSegment, HasNoDotSegments, IsNoDotSegment, later_segments}
+use Rattle.html_urls.specs.Segments.{BeginsSegment, HasNoDotSegments, IsNoDotSegment, later_segments, may_be_segment}
 use Rattle.html_urls.specs.declared.place.UrlPlace.TheVariants.{Path, Query}
 use Rattle.html_urls.proofs.Places.PlaceSound.{place_is}
 
@@ -47,3 +53,20 @@ nothing_is_plain = All-nil (λ b. is_path_byte b ≡ true)
 pub nothing_has_no_dots : HasNoDotSegments (path_of [])
 unfolding strip_tabs_and_new_lines split_once split dot_count
 nothing_has_no_dots = All-cons IsNoDotSegment [] [] refl (All-nil IsNoDotSegment)
+
+-- ---- the slots of `/items/`, a slot, `?q=` and a slot
+
+abbrev pub item_parts : List Given
+item_parts = Markup (codes "/items/") ∷ Slot ∷ Markup (codes "?q=") ∷ Slot ∷ []
+
+are_bytes : (text : List ℕ) → list_all (λ b. nat_lt b 256) text ≡ true → All IsByte text
+are_bytes text is = All-weaker (λ b. nat_lt b 256 ≡ true) IsByte (λ b below. grind (arith, nat_tests)) text (All_from_list_all (λ b. nat_lt b 256) text is)
+
+is_segment : (text : List ℕ) → list_all (λ b. nat_lt b 256) text ≡ true → may_be_segment text ≡ true → (dot_count (component text) == 0) ≡ true
+is_segment text bytes may = ap (λ n. n == 0) (component_dots text (are_bytes text bytes) may)
+
+pub hostile_fill : FillUrl item_parts (codes "../../logout" ∷ codes "1&admin=1" ∷ [])
+hostile_fill = (is_segment (codes "../../logout") refl refl, (refl, tt))
+
+pub plain_fill : FillUrl item_parts (codes "1" ∷ codes "2" ∷ [])
+plain_fill = (is_segment (codes "1") refl refl, (refl, tt))

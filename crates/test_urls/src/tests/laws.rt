@@ -1,6 +1,6 @@
 //! The examples of the laws: each law is called with its example, and what it says of it is seen.
 use crate::tests::parts::fill;
-use html_urls::{UrlPlace, encode_component, laws};
+use html_urls::{UrlPart, UrlPlace, encode_component, laws};
 use percent_encoding::percent_decode_str;
 use std::test::Fail;
 
@@ -64,6 +64,28 @@ fn a_text_is_one_value_as_the_laws_say(rt: HostRuntime) -> Result<(), Fail> {
     laws::url_pair_law(b"/a?q=", b"", b"q", "1&admin=1", b"&r=2#s");
     let url = fill(rt.alloc(), PAGE, "/a?q=", "1&admin=1", "&r=2#s")?;
     assert!(rt; url.as_str() == "https://h/a?q=1%26admin%3D1&r=2#s");
+    Ok(())
+}
+
+#[test]
+fn two_texts_stay_in_their_slots_as_the_law_says(rt: HostRuntime) -> Result<(), Fail> {
+    let parts = [
+        UrlPart::Markup("/items/"),
+        UrlPart::Slot,
+        UrlPart::Markup("?q="),
+        UrlPart::Slot,
+    ];
+    laws::url_template_law(&parts, &["../../logout", "1&admin=1"], &["1", "2"]);
+    let url = fill(
+        rt.alloc(),
+        PAGE,
+        "/items/..%2F..%2Flogout?q=",
+        "1&admin=1",
+        "",
+    )?;
+    assert!(rt; url.as_str() == "https://h/items/..%2F..%2Flogout?q=1%26admin%3D1");
+    let url = fill(rt.alloc(), PAGE, "/items/1?q=", "2", "")?;
+    assert!(rt; url.as_str() == "https://h/items/1?q=2");
     Ok(())
 }
 
