@@ -1,16 +1,17 @@
 -- What a component's bytes are, and that it decodes to its text.
-use Rattle.std.proofs.Common.{◌≡◌, ◌≤◌, ◌*◌, ℕ, true, false, not, List, [], ◌∷◌, ◌++◌, length, length-append, All, refl, ap, ◌∙◌, ⊎_elim, arith}
-use Rattle.std.proofs.lemmas.Bool.{cases_Bool}
+use Rattle.std.proofs.Common.{◌≡◌, ◌↔◌, subst, ◌≤◌, ◌+◌, ◌*◌, ℕ, true, false, not, List, [], ◌∷◌, ◌++◌, length, if◌then◌else◌, length-append, take, drop, take-append-drop, sym, All, refl, ap, ◌∙◌, ⊎_elim, arith}
+use Rattle.std.proofs.lemmas.Bool.{cases_Bool, cond-true, cond-false}
 use Rattle.std.proofs.lemmas.Bool.Decides.{nat_tests}
-use Rattle.std.proofs.lemmas.List.Elements.{All-weaker}
+use Rattle.std.proofs.lemmas.List.Elements.{All-append, All-drop, All-take, All-weaker}
+use Rattle.std.proofs.lemmas.List.Sums.{sum_by-cons}
 use Rattle.percent_encoding.specs.declared.ascii_set.AsciiSet.{AsciiSet}
-use Rattle.percent_encoding.specs.Percent.{percent_encode, percent_encode_byte, percent_decode}
+use Rattle.percent_encoding.specs.Percent.{IsKept, percent_encode, percent_encode_byte, percent_decode}
 use Rattle.percent_encoding.specs.AsciiSet.{contains, should_percent_encode}
 use Rattle.percent_encoding.proofs.PercentLemmas.{IsByte, IsEscapeByte, All-percent_encode, percent_encode-append, percent_encode-nil, percent_encode_escaped, percent_encode_kept, percent_encode_unchanged, round_trip}
 use Rattle.url.proofs.InputLemmas.{IsNot, Passes}
 use Rattle.url.proofs.SetLemmas.{outside_pass, passing_outside, is_escape_byte, passes_from_kept, encoded_is_kept}
 use Rattle.html_urls.specs.declared.component.TheConstants.{COMPONENT}
-use Rattle.html_urls.specs.Components.{component, is_component_byte}
+use Rattle.html_urls.specs.Components.{IsUnreservedText, component, encoded_count, is_component_byte, is_encoded}
 use Rattle.html_urls.specs.Inputs.{IsVisible}
 
 escape_is_component : (b : ℕ) → IsEscapeByte b → Passes is_component_byte b
@@ -56,3 +57,34 @@ length-component (b ∷ text) =
     rw (percent_encode_escaped COMPONENT b text escaped) (omega (arith, later, length-append (percent_encode_byte b) (component text), length-percent_encode_byte b)))
     (λ (plain : should_percent_encode COMPONENT b ≡ false). rw (percent_encode_kept COMPONENT b text plain) (omega (arith, later)))
     (cases_Bool (should_percent_encode COMPONENT b))
+
+-- ---- how many bytes are encoded
+
+-- each of these adds two bytes
+pub component_length_is : (text : List ℕ) → length (component text) ≡ length text + encoded_count text * 2
+component_length_is [] = rw (percent_encode-nil COMPONENT) refl
+component_length_is (b ∷ text) =
+    let later = component_length_is text in
+    let counted = sum_by-cons (λ c. if is_encoded c then 1 else 0) b text in
+    ⊎_elim
+    (λ (escaped : should_percent_encode COMPONENT b ≡ true).
+    let one : encoded_count (b ∷ text) ≡ 1 + encoded_count text = counted ∙ ap (λ n. n + encoded_count text) (cond-true _ _ _ escaped) in
+    ap length (percent_encode_escaped COMPONENT b text escaped) ∙ omega (arith, one, later, length-append (percent_encode_byte b) (component text), length-percent_encode_byte b))
+    (λ (plain : should_percent_encode COMPONENT b ≡ false).
+    let none : encoded_count (b ∷ text) ≡ 0 + encoded_count text = counted ∙ ap (λ n. n + encoded_count text) (cond-false _ _ _ plain) in
+    ap length (percent_encode_kept COMPONENT b text plain) ∙ omega (arith, none, later))
+    (cases_Bool (should_percent_encode COMPONENT b))
+
+-- the component of a text in two parts
+pub component_parts : (text front back : List ℕ) (n : ℕ) → front ≡ take n text → back ≡ drop n text → component text ≡ component front ++ component back
+component_parts text front back n is_front is_back =
+    ap component (sym (take-append-drop n text)) ∙ percent_encode-append COMPONENT (take n text) (drop n text)
+    ∙ ap (λ l. component l ++ component (drop n text)) (sym is_front)
+    ∙ ap (λ l. component front ++ component l) (sym is_back)
+
+-- a text in two parts is its own component where both are
+pub unreserved_parts : (text front back : List ℕ) (n : ℕ) → front ≡ take n text → back ≡ drop n text → IsUnreservedText text ↔ (IsUnreservedText front × IsUnreservedText back)
+unreserved_parts text front back n is_front is_back = (
+  λ kept. (subst IsUnreservedText (sym is_front) (All-take (IsKept COMPONENT) n text kept), subst IsUnreservedText (sym is_back) (All-drop (IsKept COMPONENT) n text kept)),
+  λ both. subst IsUnreservedText (ap (λ l. l ++ back) is_front ∙ ap (λ l. take n text ++ l) is_back ∙ take-append-drop n text) (All-append (IsKept COMPONENT) front back both.0 both.1),
+)

@@ -1,4 +1,7 @@
+pub mod BlockStores
 pub mod Components
+pub mod EncodedLanes
+pub mod EncodedRows
 pub mod Examples
 pub mod Fragments
 pub mod Links

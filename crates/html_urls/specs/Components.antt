@@ -1,6 +1,8 @@
 -- A text as one component of a URL (RFC 3986, 2.3 Unreserved Characters; URL Standard, 1.3 Percent-encoded bytes).
-use Rattle.std.specs.Prelude.{ℕ, Bool, ◌||◌, ◌==◌, List, All}
+use Rattle.std.specs.Prelude.{ℕ, Bool, ◌||◌, ◌==◌, List, All, if◌then◌else◌}
 use Rattle.std.specs.Char.{is_ascii_alphanumeric}
+use Rattle.std.specs.List.{sum_by}
+use Rattle.percent_encoding.specs.AsciiSet.{should_percent_encode}
 use Rattle.percent_encoding.specs.Percent.{IsKept, percent_encode}
 use Rattle.html_urls.specs.declared.component.TheConstants.{COMPONENT}
 
@@ -12,6 +14,17 @@ component text = percent_encode COMPONENT text
 abbrev pub IsUnreservedText : List ℕ → Type 0
 IsUnreservedText text = All (IsKept COMPONENT) text
 
--- what a component is made of: a letter, a digit, or `-`, `.`, `_`, `~` or `%`
+-- a letter, a digit, or `-`, `.`, `_` or `~`
+abbrev pub is_unreserved_byte : ℕ → Bool
+is_unreserved_byte b = is_ascii_alphanumeric b || b == 45 || b == 46 || b == 95 || b == 126
+
+-- what a component is made of: such a byte, or `%`
 abbrev pub is_component_byte : ℕ → Bool
-is_component_byte b = is_ascii_alphanumeric b || b == 45 || b == 46 || b == 95 || b == 126 || b == 37
+is_component_byte b = is_unreserved_byte b || b == 37
+
+-- the byte is percent-encoded, and how many of the bytes are
+abbrev pub is_encoded : ℕ → Bool
+is_encoded b = should_percent_encode COMPONENT b
+
+abbrev pub encoded_count : List ℕ → ℕ
+encoded_count bytes = sum_by (λ b. if is_encoded b then 1 else 0) bytes

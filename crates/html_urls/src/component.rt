@@ -3,9 +3,12 @@ ghost use Rattle.std.specs.Prelude.{◌≡◌, ◌≤◌, ◌<◌, ◌+◌, ◌+
 ghost use Rattle.hesc_specs.specs.Text.Beginning.{TookBeginning};
 ghost use Rattle.html_urls.specs.Components.{IsUnreservedText, component};
 
-use hesc_engine::Sink;
+use crate::blocks::{ROOM, encode_block, first_block};
+use crate::length::component_length;
+use crate::unreserved::is_unreserved_block;
 use hesc_engine::forms::Parts;
-use percent_encoding::{AsciiSet, NON_ALPHANUMERIC, ascii_set, utf8_percent_encode};
+use hesc_engine::{CountOverflow, Sink};
+use percent_encoding::{AsciiSet, NON_ALPHANUMERIC, ascii_set};
 
 /// The ASCII bytes that are percent-encoded: all but letters, digits, `-`, `.`, `_` and `~`.
 pub const COMPONENT: AsciiSet = ascii_set!(
@@ -28,6 +31,11 @@ impl Parts for Component<'_> {
     #[inline(always)]
     fn put_into<S: Sink>(&self, sink: &mut S) -> Result<(), S::Fault> {
         put_component(self.0, sink)
+    }
+
+    #[inline(always)]
+    fn room_for(&self, _spare: usize) -> Result<usize, CountOverflow> {
+        component_length(self.0).ok_or(CountOverflow)
     }
 
     // Each byte becomes three at most.
@@ -58,8 +66,12 @@ pub fn put_component<S: Sink>(text: &str, sink: &mut S) -> Result<(), S::Fault>
     ensures same_reference { S.reference sink.new ≡ S.reference sink.old }
     ensures same_before { S.before sink.new ≡ S.before sink.old }
 {
-    for piece in utf8_percent_encode(text, COMPONENT) {
-        sink.put(piece)?;
+    let mut room = [0; ROOM];
+    let mut rest = text.as_bytes();
+    'putting: while !rest.is_empty() {
+        let (block, later) = first_block(rest);
+        sink.put(encode_block(block, &mut room))?;
+        rest = later;
     }
     Ok(())
 }
@@ -70,7 +82,13 @@ pub fn put_component<S: Sink>(text: &str, sink: &mut S) -> Result<(), S::Fault>
 pub fn is_unreserved(text: &str) -> bool
     ensures { IsTrue result ↔ IsUnreservedText text.now }
 {
-    text.as_bytes()
-        .iter()
-        .all(|&byte| !COMPONENT.should_percent_encode(byte))
+    let mut rest = text.as_bytes();
+    'looking: while !rest.is_empty() {
+        let (block, later) = first_block(rest);
+        if !is_unreserved_block(block) {
+            return false;
+        }
+        rest = later;
+    }
+    true
 }

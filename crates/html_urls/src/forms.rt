@@ -1,14 +1,15 @@
 //! The component of a text in each form: a text that borrows where nothing changes, appended to a
 //! string or a vector, or written.
-ghost use Rattle.std.specs.Prelude.{◌≡◌, ◌↔◌, IfOk, IsOk, drop};
+ghost use Rattle.std.specs.Prelude.{◌≡◌, ◌≤◌, ◌↔◌, IfOk, IfSome, IsOk, drop, length};
 ghost use Rattle.std.specs.Borrow.{sem};
 ghost use Rattle.std.specs.Cow.{cow_str_bytes};
 ghost use Rattle.std.specs.Str.{IsCharBoundary};
 ghost use Rattle.std.specs.String.{string_bytes};
 ghost use Rattle.percent_encoding.specs.Cow.{IsBorrowedStr};
-ghost use Rattle.hesc_engine.specs.Forms.{AnswersPart, StringAppended, VecAppended, WritesText, string_room, vec_room};
+ghost use Rattle.hesc_engine.specs.Forms.{Appended, AnswersPart, StringAppended, VecAppended, WritesText, string_room, vec_room};
 ghost use Rattle.html_urls.specs.Components.{IsUnreservedText, component};
 
+use crate::blocks::{BLOCK, ROOM, encode_block};
 use crate::component::{Component, is_unreserved, put_component};
 use hesc_engine::WriterSink;
 use hesc_engine::forms::{append_parts, append_parts_to_vec};
@@ -31,7 +32,7 @@ pub fn encode_component<'t, A: Allocator>(
         return Ok(CowStr::Borrowed(text));
     }
     let mut made = String::new(alloc);
-    append_parts(&mut made, &Component(text))?;
+    append_text(&mut made, text)?;
     Ok(CowStr::Owned(made))
 }
 
@@ -48,8 +49,37 @@ pub fn append_component<'o, A: Allocator>(
         (component text.now) result) }
 {
     let start = output.as_str().len();
-    append_parts(output, &Component(text))?;
+    append_text(output, text)?;
     Ok(part_from(output, start))
+}
+
+// A text of one block is appended as it is made, and one that stays as it is as it stands: neither is
+// measured.
+#[inline(always)]
+fn append_text<A: Allocator>(output: &mut String<A>, text: &str) -> Result<(), AllocError>
+    ensures appended { Appended (string_bytes output.old) (string_bytes output.new)
+        (component text.now) result }
+    ensures fits { length (component text.now) ≤ string_room output.old → IsOk result }
+{
+    if text.len() <= BLOCK {
+        let mut room = [0; ROOM];
+        return output.push_str(encode_block(text.as_bytes(), &mut room));
+    }
+    if let Some(same) = unchanged(text) {
+        return output.push_str(same);
+    }
+    append_parts(output, &Component(text))
+}
+
+// The text, where it is its own component.
+#[inline(always)]
+fn unchanged(text: &str) -> Option<&str>
+    ensures { IfSome result (λ made. made.now ≡ component text.now) }
+{
+    if !is_unreserved(text) {
+        return None;
+    }
+    Some(text)
 }
 
 fn part_from<A: Allocator>(output: &String<A>, start: usize) -> &str
@@ -71,8 +101,24 @@ pub fn append_component_to_vec<'o, A: Allocator>(
         (component text.now) result) }
 {
     let start = output.len();
-    append_parts_to_vec(output, &Component(text))?;
+    append_text_to_vec(output, text)?;
     Ok(&output.as_slice()[start..])
+}
+
+#[inline(always)]
+fn append_text_to_vec<A: Allocator>(output: &mut Vec<u8, A>, text: &str) -> Result<(), AllocError>
+    ensures appended { Appended output.old.items output.new.items (component text.now) result }
+    ensures fits { length (component text.now) ≤ vec_room output.old → IsOk result }
+{
+    if text.len() <= BLOCK {
+        let mut room = [0; ROOM];
+        let made = encode_block(text.as_bytes(), &mut room);
+        return output.extend_from_slice(made.as_bytes());
+    }
+    if let Some(same) = unchanged(text) {
+        return output.extend_from_slice(same.as_bytes());
+    }
+    append_parts_to_vec(output, &Component(text))
 }
 
 /// [`append_component`] with the output last, as in the encoders: a caller's proof learns the answered

@@ -6,21 +6,26 @@
 //! URL is asked [`is_link`] first.
 #![tactic(auto)]
 
+mod blocks;
 pub mod component;
 pub mod forms;
 pub mod laws;
+pub mod length;
 pub mod link;
 mod open_part;
 pub mod parts;
 pub mod place;
+mod rows;
 pub mod segment;
 pub mod slots;
+mod unreserved;
 
 pub use crate::component::{COMPONENT, Component, is_unreserved, put_component};
 pub use crate::forms::{
     append_component, append_component_to_vec, encode_component, encode_component_to_string,
     encode_component_to_vec, encode_component_to_writer,
 };
+pub use crate::length::component_length;
 pub use crate::link::is_link;
 pub use crate::parts::{UrlFault, UrlPart, UrlSlot};
 pub use crate::place::UrlPlace;

@@ -3,7 +3,7 @@ use crate::tests::hostile::ROWS;
 use hesc_engine::Counter;
 use hesc_engine::forms::Parts;
 use html_urls::{
-    Component, append_component, append_component_to_vec, encode_component,
+    Component, append_component, append_component_to_vec, component_length, encode_component,
     encode_component_to_string, encode_component_to_vec, encode_component_to_writer, is_unreserved,
     put_component,
 };
@@ -19,6 +19,7 @@ fn a_component_is_what_another_program_gives(rt: HostRuntime) -> Result<(), Fail
         let is_borrowed = matches!(&made, CowStr::Borrowed(_));
         assert!(rt; is_borrowed == (text == component), "{text:?}");
         assert!(rt; is_unreserved(text) == (text == component), "{text:?}");
+        assert!(rt; component_length(text) == Some(component.len()), "{text:?}");
     }
     Ok(())
 }

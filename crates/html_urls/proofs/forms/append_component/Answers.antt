@@ -8,12 +8,12 @@ use Rattle.html_urls.proofs.forms.append_component.Goals as goal
 
 pub part_from-requires : goal.part_from-requires
 part_from-requires g c =
-    seam (string_bytes c.args.output.now) (string_bytes c.append_parts.new.output) (component c.args.text.now) (length c.as_str-start.result.now)
-    (IsUtf8-string_bytes c.args.output.now) (IsUtf8-string_bytes c.append_parts.new.output) c.in_ok-append_parts.ensures.appended (ap length c.as_str-start.ensures.value)
+    seam (string_bytes c.args.output.now) (string_bytes c.append_text.new.output) (component c.args.text.now) (length c.as_str-start.result.now)
+    (IsUtf8-string_bytes c.args.output.now) (IsUtf8-string_bytes c.append_text.new.output) c.in_ok-append_text.ensures.appended (ap length c.as_str-start.ensures.value)
 
 pub returns : goal.returns
 returns g c =
-    let added = c.in_ok-append_parts.ensures.appended in (
+    let added = c.in_ok-append_text.ensures.appended in (
       (refl, (λ _. tt), added),
       record {
         part = c.part_from.ensures ∙ rw (c.as_str-start.ensures.value, added) (drop-append_seam (string_bytes c.args.output.now) (component c.args.text.now));

@@ -8,7 +8,7 @@ pub returns : goal.returns
 returns g c =
     let old = c.args.output.now.items in
     let made = component c.args.text.now in
-    let added = c.in_ok-append_parts_to_vec.ensures.appended in
+    let added = c.in_ok-append_text_to_vec.ensures.appended in
     let long : vec_len c.args.output.now ≡ length old = omega (arith, c.args.output.now.ok.0) in (
       (refl, (λ _. tt), added),
       record {

@@ -1,0 +1,64 @@
+-- A block of a text on the stack: what was stored of its component, byte by byte.
+use Rattle.std.proofs.Common.{◌≡◌, ℕ, ◌+◌, ◌*◌, ◌≤◌, ◌<◌, true, false, List, [], ◌∷◌, ◌++◌, get_or, length, take, refl, sym, ap, ◌∙◌, subst, ⊎_elim, take_all, append-nil, length-take-le, arith}
+use Rattle.std.proofs.lemmas.Bool.{cases_Bool, cond-true, cond-false}
+use Rattle.std.proofs.lemmas.List.{take_more}
+use Rattle.std.proofs.lemmas.Simd.{length-put_chunk, take_more_put_chunk}
+use Rattle.std.specs.Simd.Lanes.{put_chunk}
+use Rattle.percent_encoding.specs.AsciiSet.{should_percent_encode}
+use Rattle.percent_encoding.specs.Percent.{encode_byte, percent_encode_byte}
+use Rattle.percent_encoding.proofs.PercentLemmas.{percent_encode-append, percent_encode-nil, percent_encode_escaped, percent_encode_kept}
+use Rattle.hesc_sinks.specs.Stores.{Stored}
+use Rattle.hesc_sinks.proofs.Progress.{Progress}
+use Rattle.hesc_sinks.proofs.Stores.{stored_first, stored_then}
+use Rattle.html_urls.specs.declared.component.TheConstants.{COMPONENT}
+use Rattle.html_urls.specs.Components.{component}
+use Rattle.html_urls.proofs.Components.{length-component}
+
+-- a row of four bytes, of which fewer are wanted
+pub stored_row : (old bytes made : List ℕ) (place count : ℕ) → length bytes ≡ 4 → take count bytes ≡ made → count ≤ 3 → place + 4 ≤ length old → Stored old (put_chunk place old bytes) place made (place + count)
+stored_row old bytes made place count four is few within =
+    let new = put_chunk place old bytes in
+    let block : Stored old new place bytes (place + 4) = record {
+      before = take_more_put_chunk place old bytes (place + 4) (omega (arith, four)) within;
+      after = omega (arith, four);
+      long = length-put_chunk place old bytes;
+    } in
+    let whole : Stored old new place (take 4 bytes) (place + 4) = subst (λ l. Stored old new place l (place + 4)) (sym (take_all 4 bytes (omega (arith, four)))) block in
+    let first : Stored old new place (take count bytes) (place + count) = stored_first old new bytes place 4 count (place + 4) (omega (arith, few)) (omega (arith, four)) (omega (arith, within)) whole in
+    subst (λ l. Stored old new place l (place + count)) is first
+
+component_one : (b : ℕ) → component (b ∷ []) ≡ encode_byte COMPONENT b
+component_one b =
+    ⊎_elim
+    (λ (escaped : should_percent_encode COMPONENT b ≡ true).
+    percent_encode_escaped COMPONENT b [] escaped ∙ ap (λ l. percent_encode_byte b ++ l) (percent_encode-nil COMPONENT) ∙ append-nil (percent_encode_byte b) ∙ sym (cond-true _ _ _ escaped))
+    (λ (plain : should_percent_encode COMPONENT b ≡ false). percent_encode_kept COMPONENT b [] plain ∙ ap (λ l. b ∷ l) (percent_encode-nil COMPONENT) ∙ sym (cond-false _ _ _ plain))
+    (cases_Bool (should_percent_encode COMPONENT b))
+
+-- the component of one byte more
+component_more : (bytes : List ℕ) (i : ℕ) → i < length bytes → component (take i bytes) ++ encode_byte COMPONENT (get_or bytes i 0) ≡ component (take (i + 1) bytes)
+component_more bytes i within =
+    let byte = get_or bytes i 0 in
+    ap (λ l. component (take i bytes) ++ l) (sym (component_one byte)) ∙ sym (percent_encode-append COMPONENT (take i bytes) (byte ∷ [])) ∙ ap component (sym (take_more bytes i 0 within))
+
+pub stored_nothing : (old : List ℕ) → Stored old old 0 (component []) 0
+stored_nothing old = subst (λ l. Stored old old 0 l 0) (sym (percent_encode-nil COMPONENT)) (record { before = refl; after = refl; long = refl })
+
+pub stored_byte : (old mid new bytes : List ℕ) (i middle end : ℕ) → i < length bytes → Stored old mid 0 (component (take i bytes)) middle
+    → Stored mid new middle (encode_byte COMPONENT (get_or bytes i 0)) end → Stored old new 0 (component (take (i + 1) bytes)) end
+stored_byte old mid new bytes i middle end within one two =
+    subst (λ l. Stored old new 0 l end) (component_more bytes i within) (stored_then old mid new (component (take i bytes)) (encode_byte COMPONENT (get_or bytes i 0)) 0 middle end one two)
+
+-- at most three for each
+pub stored_few : (old mid bytes : List ℕ) (i middle : ℕ) → i ≤ length bytes → Stored old mid 0 (component (take i bytes)) middle → middle ≤ i * 3
+stored_few old mid bytes i middle within one = omega (arith, one.after, length-component (take i bytes), length-take-le i bytes within)
+
+-- after the last byte
+pub stored_all : (old new bytes : List ℕ) (i end : ℕ) → i ≡ length bytes → Stored old new 0 (component (take i bytes)) end → take end new ≡ component bytes
+stored_all old new bytes i end is stored = stored.before ∙ ap component (take_all i bytes (omega (arith, is)))
+
+-- after the last block
+pub all_taken : (old now rest text : List ℕ) → length rest ≡ 0 → Progress old now (component rest) (component text) → now ≡ old ++ component text
+all_taken old now [] text none progress =
+    progress.taken ∙ ap (λ l. old ++ l) (sym (append-nil progress.done) ∙ ap (λ l. progress.done ++ l) (sym (percent_encode-nil COMPONENT)) ∙ progress.left)
+all_taken old now (b ∷ rest) text none progress = absurd (omega (arith, none))

@@ -1,0 +1,43 @@
+//! How long the component of a text is.
+ghost use Rattle.std.specs.Prelude.{◌≡◌, ◌≤◌, ◌<◌, ◌^◌, length, IfSome, IsSome};
+ghost use Rattle.html_urls.specs.Components as spec;
+
+use crate::rows::is_kept;
+use crate::unreserved::encoded_mask;
+
+/// The length of the component of `text`, in bytes, or `None` where it would pass the greatest `usize`.
+///
+/// `component_length("a&b")` is `Some(5)`.
+#[tactic(auto, using(crate::proofs::Components::component_length_is))]
+pub fn component_length(text: &str) -> Option<usize>
+    ensures count { IfSome result (λ count. count ≡ length (spec.component text.now)) }
+    ensures fits { length (spec.component text.now) < 2 ^ 64 → IsSome result }
+{
+    // `%` and a digit more for each byte that is encoded.
+    let added = encoded_count(text.as_bytes()).checked_mul(2)?;
+    text.len().checked_add(added)
+}
+
+// How many of the bytes are percent-encoded, counted 16 at a time.
+fn encoded_count(bytes: &[u8]) -> usize
+    ensures { result ≡ spec.encoded_count bytes.now }
+{
+    let mut count = 0;
+    let mut place = 0;
+    'counting: while bytes.len() - place >= 16 {
+        count += encoded_mask::<16>(bytes, place).count_ones() as usize;
+        place += 16;
+    }
+    count + encoded_among(&bytes[place..])
+}
+
+fn encoded_among(bytes: &[u8]) -> usize
+    ensures count { result ≡ spec.encoded_count bytes.now }
+    ensures few { result ≤ length bytes.now }
+{
+    let mut count = 0;
+    for b in bytes {
+        count += usize::from(!is_kept(*b));
+    }
+    count
+}
