@@ -16,6 +16,22 @@ absolute_front : place_of (codes "https://a.example/items/") ≡ Some Path
 unfolding strip_tabs_and_new_lines trim_c0_control_and_space split_once rsplit_once dot_count split_scheme scheme_len
 absolute_front = refl
 
+below_front : place_of (codes "items/") ≡ Some Path
+unfolding strip_tabs_and_new_lines trim_c0_control_and_space split_once rsplit_once dot_count
+below_front = refl
+
+above_front : place_of (codes "../u/") ≡ Some Path
+unfolding strip_tabs_and_new_lines trim_c0_control_and_space split_once rsplit_once dot_count
+above_front = refl
+
+scheme_before : place_of (codes "a:b/") ≡ None
+unfolding strip_tabs_and_new_lines trim_c0_control_and_space split_once rsplit_once dot_count split_scheme scheme_len
+scheme_before = refl
+
+no_slash_yet : place_of (codes "items") ≡ None
+unfolding strip_tabs_and_new_lines trim_c0_control_and_space split_once rsplit_once dot_count split_scheme scheme_len
+no_slash_yet = refl
+
 query_front : place_of (codes "/items?q=") ≡ Some Query
 unfolding strip_tabs_and_new_lines trim_c0_control_and_space split_once
 query_front = refl

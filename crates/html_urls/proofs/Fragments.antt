@@ -8,9 +8,9 @@ use Rattle.url.specs.Input.{is_empty, lowercase, split_once}
 use Rattle.url.specs.Parts.{Parts, cannot_be_a_base}
 use Rattle.url.specs.Parser.{Parsed, and_then, parse_body, parse_all, parse_parts, parse_by_scheme, base_for_scheme, split_scheme, parse_url, with_tail, before_tail}
 use Rattle.html_urls.specs.Components.{component}
-use Rattle.html_urls.specs.Fragments.{EndsInFragment, fragment_goes_on}
 use Rattle.html_urls.specs.Heads.{on_ok}
 use Rattle.html_urls.specs.Inputs.{kept, kept_rest}
+use Rattle.html_urls.specs.Parts.Fragments.{EndsInFragment, fragment_goes_on}
 use Rattle.html_urls.proofs.Components.{encode_around}
 use Rattle.html_urls.proofs.Splits.{kept_around, split_found, some_value}
 use Rattle.html_urls.proofs.Queries.QueryLaw.{on_ok_both}

@@ -1,3 +1,4 @@
+pub mod FirstSegment
 pub mod OneSegment
 pub mod Opening
 pub mod PathLaw

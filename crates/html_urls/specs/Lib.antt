@@ -1,15 +1,10 @@
 pub mod Components
-pub mod Fragments
 pub mod Heads
 pub mod Hosts
 pub mod Inputs
 pub mod Links
 pub mod OpenParts
-pub mod Pairs
-pub mod Paths
+pub mod Parts
 pub mod Places
-pub mod Queries
-pub mod Rests
-pub mod Segments
 pub mod SlotFaults
 pub mod Slots

@@ -6,7 +6,9 @@ use Rattle.html_urls.specs.declared.open_part.OpenPart.{OpenPart}
 use Rattle.html_urls.specs.declared.open_part.OpenPart.TheVariants.{NewSegment, TextSegment, DotSegment, NamedSegment, Query, Fragment}
 use Rattle.html_urls.specs.declared.parts.UrlSlot.{UrlSlot}
 use Rattle.html_urls.specs.declared.place.UrlPlace.TheVariants as place
-use Rattle.html_urls.specs.Segments.{is_dot_byte}
+use Rattle.html_urls.specs.Hosts.{has_first_segment}
+use Rattle.html_urls.specs.Links.{is_link}
+use Rattle.html_urls.specs.Parts.Segments.{is_dot_byte}
 
 -- a segment ends before it
 abbrev pub is_end : ℕ → Bool
@@ -97,18 +99,26 @@ has_host [] = false
 abbrev pub begins : List ℕ → List ℕ → Bool
 begins bytes mark = starts_with eqb bytes mark
 
--- one `/`, and no second one after it; or `./`; or `http:` or `https:`, and such a host
-abbrev pub is_fixed : List ℕ → Bool
-is_fixed front =
-    (begins front (codes "/") && not (begins front (codes "//")))
-    || begins front (codes "./")
-    || (begins front (codes "http:") && has_host (drop 5 front))
-    || (begins front (codes "https:") && has_host (drop 6 front))
+-- one `/`, and no second one after it
+abbrev pub is_rooted : List ℕ → Bool
+is_rooted front = begins front (codes "/") && not (begins front (codes "//"))
 
--- what is open at its end, if a text may stand there
-abbrev pub open_of : List ℕ → Option OpenPart
-open_of front =
+-- `http:` or `https:`, and such a host
+abbrev pub has_web_host : List ℕ → Bool
+has_web_host front = (begins front (codes "http:") && has_host (drop 5 front)) || (begins front (codes "https:") && has_host (drop 6 front))
+
+-- one of these, or a first segment and `/`
+abbrev pub is_fixed : List ℕ → Bool
+is_fixed front = is_rooted front || has_first_segment front || has_web_host front
+
+-- what is open at its end
+abbrev pub open_of_link : List ℕ → Option OpenPart
+open_of_link front =
     if has_byte number_sign front then Some Fragment
     else (if has_byte question_mark front then Some Query
     else (if is_fixed front then Some (after_front NewSegment front)
     else None))
+
+-- the same, if a text may stand there: not behind a scheme whose URL a browser decodes, and runs or shows
+abbrev pub open_of : List ℕ → Option OpenPart
+open_of front = if is_link front then open_of_link front else None

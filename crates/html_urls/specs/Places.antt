@@ -1,20 +1,20 @@
 -- In which part of a URL its front ends.
 use Rattle.std.specs.Prelude.{◌≡◌, ⊤, ℕ, ◌-◌, Bool, false, not, ◌&&◌, ◌||◌, ◌==◌, nat_lt, List, [], ◌∷◌, length, slice_index, codes, bytes_eq, Option, Some, None, is_some, if◌then◌else◌}
 use Rattle.std.specs.List.{list_all}
-use Rattle.url.specs.Ascii.{dot, number_sign, question_mark, slash, space}
+use Rattle.url.specs.Ascii.{number_sign, question_mark, slash, space}
 use Rattle.url.specs.Input.{split_once}
 use Rattle.url.specs.Path.{dot_count}
 use Rattle.url.specs.Parts.{Parts}
 use Rattle.url.specs.Parser.{split_scheme}
 use Rattle.html_urls.specs.declared.place.UrlPlace.{UrlPlace}
 use Rattle.html_urls.specs.declared.place.UrlPlace.TheVariants.{Path, Query, Fragment}
-use Rattle.html_urls.specs.Fragments.{EndsInFragment, fragment_goes_on}
-use Rattle.html_urls.specs.Hosts.{IsWebBase}
+use Rattle.html_urls.specs.Hosts.{IsWebBase, has_first_segment}
 use Rattle.html_urls.specs.Inputs.{kept}
-use Rattle.html_urls.specs.Paths.{EndsInPath, FitsSegment, is_path_byte, path_goes_on}
-use Rattle.html_urls.specs.Queries.{EndsInQuery, query_goes_on}
-use Rattle.html_urls.specs.Rests.{fragment_of, query_of}
-use Rattle.html_urls.specs.Segments.{last_segment}
+use Rattle.html_urls.specs.Parts.Fragments.{EndsInFragment, fragment_goes_on}
+use Rattle.html_urls.specs.Parts.Paths.{EndsInPath, FitsSegment, is_path_byte, path_goes_on}
+use Rattle.html_urls.specs.Parts.Queries.{EndsInQuery, query_goes_on}
+use Rattle.html_urls.specs.Parts.Rests.{fragment_of, query_of}
+use Rattle.html_urls.specs.Parts.Segments.{last_segment}
 
 -- the front ends in this part
 abbrev pub EndsIn : UrlPlace → List ℕ → Type 0
@@ -67,8 +67,7 @@ abbrev pub fixes_host : List ℕ → Bool
 fixes_host [] = false
 fixes_host (b ∷ rest) =
     if b == slash then not (slice_index rest 0 == slash)
-    else (if b == dot then slice_index rest 0 == slash
-    else is_absolute (split_scheme (b ∷ rest)))
+    else has_first_segment (b ∷ rest) || is_absolute (split_scheme (b ∷ rest))
 
 -- where what the parser keeps of a front ends
 abbrev pub place_of_kept : List ℕ → Option UrlPlace

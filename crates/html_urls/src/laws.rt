@@ -1,7 +1,8 @@
 //! The laws of texts in URLs: each is a function that does nothing and whose contract is the law.
 //!
 //! A URL is the bytes of a front, a text as a component, and the bytes of a rest. It is read by
-//! `parse_url`, the URL Standard's parser, against any base or none.
+//! `parse_url`, the URL Standard's parser, against the bases that a law names: none and any web page,
+//! at least.
 ghost use Rattle.std.specs.Prelude.{◌≡◌, ◌<◌, ◌⊎◌, ◌++◌, ◌∷◌, [], All, IfOk, IfSome, None, Ok, Option, Some, codes, is_some, length, map, true};
 ghost use Rattle.form_urlencoded.specs.Form.{decode, parse};
 ghost use Rattle.percent_encoding.specs.Percent.{percent_decode};
@@ -14,12 +15,11 @@ ghost use Rattle.html_urls.specs.Heads.{head_of, on_ok};
 ghost use Rattle.html_urls.specs.Hosts.{IsWebBase};
 ghost use Rattle.html_urls.specs.Inputs.{KeepsEnd, kept};
 ghost use Rattle.html_urls.specs.Links.{HasLinkScheme, is_link};
-ghost use Rattle.html_urls.specs.Pairs.{BeginsPair, EndsPair, HasPairs, IsName, string_count};
-ghost use Rattle.html_urls.specs.Paths.{EndsInPath, FitsSegment, IsPathText, path_after};
-ghost use Rattle.html_urls.specs.Places.{EndsIn, Fits, LeavesOpen, SuitsPlace, goes_on, place_of};
-ghost use Rattle.html_urls.specs.Queries.{EndsInQuery, query_after};
-ghost use Rattle.html_urls.specs.Rests.{fragment_of, path_of, query_of};
-ghost use Rattle.html_urls.specs.Segments.{
+ghost use Rattle.html_urls.specs.Parts.Pairs.{BeginsPair, EndsPair, HasPairs, IsName, string_count};
+ghost use Rattle.html_urls.specs.Parts.Paths.{EndsInPath, FitsSegment, IsPathText, path_after};
+ghost use Rattle.html_urls.specs.Parts.Queries.{EndsInQuery, query_after};
+ghost use Rattle.html_urls.specs.Parts.Rests.{fragment_of, path_of, query_of};
+ghost use Rattle.html_urls.specs.Parts.Segments.{
   BeginsSegment,
   HasNoDotSegments,
   HasSegments,
@@ -32,6 +32,7 @@ ghost use Rattle.html_urls.specs.Segments.{
   segment_count,
   segments_before,
 };
+ghost use Rattle.html_urls.specs.Places.{EndsIn, Fits, LeavesOpen, SuitsPlace, goes_on, place_of};
 ghost use Rattle.html_urls.specs.Slots.{FillUrl, given, texts_of, url_of};
 
 use crate::parts::UrlPart;

@@ -12,7 +12,7 @@ pub mod forms;
 pub mod laws;
 pub mod length;
 pub mod link;
-mod open_part;
+pub mod open_part;
 pub mod parts;
 pub mod place;
 mod rows;
@@ -27,7 +27,8 @@ pub use crate::forms::{
 };
 pub use crate::length::component_length;
 pub use crate::link::is_link;
+pub use crate::open_part::{OpenPart, after_markup, after_text, may_be_dots, open_of, slot_at};
 pub use crate::parts::{UrlFault, UrlPart, UrlSlot};
 pub use crate::place::UrlPlace;
 pub use crate::segment::may_be_segment;
-pub use crate::slots::{may_fill, slots_of};
+pub use crate::slots::{is_plain, may_fill, slots_of};

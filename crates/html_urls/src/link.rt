@@ -11,20 +11,29 @@ ghost use Rattle.html_urls.specs.Links as spec;
 pub fn is_link(text: &str) -> bool
     ensures { result ≡ spec.is_link text.now }
 {
-    let at = mark_at(text.as_bytes());
-    at == text.len() || text.as_bytes()[at] != b':' || is_link_scheme(&text[..at])
+    is_link_bytes(text.as_bytes())
 }
 
-fn is_link_scheme(scheme: &str) -> bool
+/// The same of bytes.
+///
+/// Of `https://a.example/` and `?q=` it is `true`, and of `javascript:` it is `false`.
+pub fn is_link_bytes(text: &[u8]) -> bool
+    ensures { result ≡ spec.is_link text.now }
+{
+    let at = mark_at(text);
+    at == text.len() || text[at] != b':' || is_link_scheme(&text[..at])
+}
+
+fn is_link_scheme(scheme: &[u8]) -> bool
     ensures { result ≡ spec.is_link_scheme (lowercase scheme.now) }
 {
-    scheme.eq_ignore_ascii_case("http")
-        || scheme.eq_ignore_ascii_case("https")
-        || scheme.eq_ignore_ascii_case("mailto")
+    scheme.eq_ignore_ascii_case(b"http")
+        || scheme.eq_ignore_ascii_case(b"https")
+        || scheme.eq_ignore_ascii_case(b"mailto")
 }
 
 // Where the first byte stands that may end a scheme or show that there is none.
-fn mark_at(bytes: &[u8]) -> usize
+pub fn mark_at(bytes: &[u8]) -> usize
     ensures value { result ≡ spec.mark_at bytes.now }
     ensures within { result ≤ length bytes.now }
 {

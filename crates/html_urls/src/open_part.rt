@@ -1,12 +1,16 @@
 //! What is open at the end of a URL's beginning: a segment of its path, its query or its fragment.
 ghost use Rattle.std.specs.Prelude.{◌≡◌};
-ghost use Rattle.html_urls.specs.Segments as segments;
+ghost use Rattle.html_urls.specs.Hosts as hosts;
 ghost use Rattle.html_urls.specs.OpenParts as spec;
+ghost use Rattle.html_urls.specs.Parts.Segments as segments;
 
+use crate::link::{is_link_bytes, mark_at};
 use crate::parts::UrlSlot;
 use crate::place::UrlPlace;
 
-/// What is open.
+/// What is open at the end of a URL's beginning. A slot stands there by [`slot_at`].
+///
+/// Behind `/a/` it is `NewSegment`, behind `/a/b` `NamedSegment`, and behind `/a?q=` `Query`.
 #[derive(Clone, Copy, Debug, PartialEq, Eq)]
 pub enum OpenPart {
     /// A segment with nothing in it.
@@ -85,8 +89,8 @@ fn after_segment_byte(part: OpenPart, b: u8) -> OpenPart
     }
 }
 
-/// What is open after markup in which no slot has stood, where this was open.
-pub fn after_front(part: OpenPart, markup: &[u8]) -> OpenPart
+// After markup in which no slot has stood.
+fn after_front(part: OpenPart, markup: &[u8]) -> OpenPart
     ensures { result ≡ spec.after_front part markup.now }
 {
     let mut part = part;
@@ -98,14 +102,26 @@ pub fn after_front(part: OpenPart, markup: &[u8]) -> OpenPart
     part
 }
 
-/// What is open after markup behind a slot, unless a segment ends in it that may read as `.` or `..`.
+/// Whether what is open is a segment that may read as `.` or `..`: it may not end so.
+///
+/// Behind `/a/.` and `/a/%2` it is `true`, and behind `/a/` and `/a/b` it is `false`.
+pub fn may_be_dots(part: OpenPart) -> bool
+    ensures { result ≡ spec.may_be_dots part }
+{
+    part == OpenPart::DotSegment
+}
+
+/// What is open after markup behind a slot, where this was open before it: `None` where a segment ends
+/// in the markup that may read as `.` or `..`.
+///
+/// After `?q=` it is `Query`, and after `/../b` it is `None`, in a path.
 pub fn after_markup(part: OpenPart, markup: &[u8]) -> Option<OpenPart>
     ensures { result ≡ spec.after_markup part markup.now }
 {
     let mut part = part;
     let mut rest = markup;
     'bytes: while let [b, others @ ..] = rest {
-        if part == OpenPart::DotSegment && is_end(*b) {
+        if may_be_dots(part) && is_end(*b) {
             return None;
         }
         part = after_byte(part, *b);
@@ -114,7 +130,9 @@ pub fn after_markup(part: OpenPart, markup: &[u8]) -> Option<OpenPart>
     Some(part)
 }
 
-/// A slot that stands here, unless its segment may read as `.` or `..` with some text.
+/// The slot that stands where this is open, unless its segment may read as `.` or `..` with some text.
+///
+/// Of `NewSegment` it is a slot in the path that a segment begins with, and of `DotSegment` it is `None`.
 pub fn slot_at(part: OpenPart) -> Option<UrlSlot>
     ensures { result ≡ spec.slot_at part }
 {
@@ -139,7 +157,9 @@ pub fn slot_at(part: OpenPart) -> Option<UrlSlot>
     }
 }
 
-/// What is open after a text that fits.
+/// What is open after a text that fills the slot, where this was open before it.
+///
+/// Of `NewSegment` it is `TextSegment`, and of `Query` it is `Query`.
 pub fn after_text(part: OpenPart) -> OpenPart
     ensures { result ≡ spec.after_text part }
 {
@@ -166,19 +186,54 @@ fn has_host(body: &[u8]) -> bool
     }
 }
 
-/// Whether the host is fixed before markup that goes on.
-pub fn is_fixed(front: &[u8]) -> bool
-    ensures { result ≡ spec.is_fixed front.now }
+// One `/`, and no second one after it.
+fn is_rooted(front: &[u8]) -> bool
+    ensures { result ≡ spec.is_rooted front.now }
 {
-    (front.starts_with(b"/") && !front.starts_with(b"//"))
-        || front.starts_with(b"./")
-        || (front.starts_with(b"http:") && has_host(&front[5..]))
+    front.starts_with(b"/") && !front.starts_with(b"//")
+}
+
+// `http://` or `https://`, a host and `/`.
+fn has_web_host(front: &[u8]) -> bool
+    ensures { result ≡ spec.has_web_host front.now }
+{
+    (front.starts_with(b"http:") && has_host(&front[5..]))
         || (front.starts_with(b"https:") && has_host(&front[6..]))
 }
 
-/// What is open at the end of the markup before the first slot, if a text may stand there.
+// The first segment of a relative path, which is not empty and has no `:`, and `/`.
+fn has_first_segment(front: &[u8]) -> bool
+    ensures { result ≡ hosts.has_first_segment front.now }
+{
+    let at = mark_at(front);
+    at > 0 && at < front.len() && front[at] == b'/' && !has_byte(b'\\', &front[..at])
+}
+
+// Whether the host is fixed before markup that goes on: by one `/`, by a first segment of a relative
+// path and `/`, or by the markup's own host.
+fn is_fixed(front: &[u8]) -> bool
+    ensures { result ≡ spec.is_fixed front.now }
+{
+    is_rooted(front) || has_first_segment(front) || has_web_host(front)
+}
+
+/// What is open at the end of the markup before the first slot, if a text may stand there. Behind a scheme
+/// that is none of `http`, `https` and `mailto` none may: of a `javascript:` or a `data:` URL a browser
+/// decodes all that follows, and runs or shows it.
+///
+/// Of `/items/` and `items/` it is `NewSegment`, of `mailto:a@b.example?subject=` it is `Query`, and of
+/// `//`, `items` and `javascript:x?` it is `None`.
 pub fn open_of(front: &[u8]) -> Option<OpenPart>
     ensures { result ≡ spec.open_of front.now }
+{
+    if !is_link_bytes(front) {
+        return None;
+    }
+    open_of_link(front)
+}
+
+fn open_of_link(front: &[u8]) -> Option<OpenPart>
+    ensures { result ≡ spec.open_of_link front.now }
 {
     if has_byte(b'#', front) {
         Some(OpenPart::Fragment)

@@ -26,7 +26,10 @@ pub struct UrlSlot {
 pub enum UrlFault {
     /// This part is markup with an ASCII white space or control, or a `\`.
     NotPlain(usize),
-    /// This part is a slot in a scheme, a user, a host or a port, or where these are still open.
+    /// This part is a slot in a scheme, a user, a host or a port, or where these are still open, or
+    /// behind a scheme that is none of `http`, `https` and `mailto`, as in `javascript:x?` and a slot.
+    /// They are still open in the first segment of a relative path, as in `items` and a slot, and no
+    /// longer behind its `/`, as in `items/`, `./` or `../u/` and a slot.
     NotFixed(usize),
     /// In this part a segment of the path ends, or a slot stands in one, that with some text may
     /// read as `.` or `..`: it has no other bytes than those of dots.

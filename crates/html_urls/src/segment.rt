@@ -1,6 +1,6 @@
 //! Which texts may be a whole segment of a path.
 ghost use Rattle.std.specs.Prelude.{◌≡◌};
-ghost use Rattle.html_urls.specs.Segments as spec;
+ghost use Rattle.html_urls.specs.Parts.Segments as spec;
 
 /// Whether the text may be a whole segment: it is neither `.` nor `..`, which the parser takes away
 /// however they are percent-encoded.

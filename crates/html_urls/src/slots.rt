@@ -21,7 +21,8 @@ pub fn may_fill(slot: UrlSlot, text: &str) -> bool
 /// The slots of these parts, or the first fault, part by part.
 ///
 /// Of `/items/`, a slot, `?q=` and a slot, the first stands in the path and a segment begins with it,
-/// and the second stands in the query. Of `//`, a slot and `/` the fault is `NotFixed(1)`.
+/// and the second stands in the query. Of `//`, a slot and `/` the fault is `NotFixed(1)`, and so it is
+/// of `javascript:x?` and a slot.
 #[tactic(auto, using(crate::proofs::SlotsTaken::answered))]
 pub fn slots_of<A: Allocator + Copy>(
     alloc: A,
@@ -60,14 +61,14 @@ fn take_part<A: Allocator>(
 {
     match (part, open_part) {
         (UrlPart::Markup(markup), None) => {
-            if !is_plain(markup) {
+            if !is_plain(markup.as_bytes()) {
                 return Err(UrlFault::NotPlain(number));
             }
             front.extend_from_slice(markup.as_bytes())?;
             Ok(None)
         }
         (UrlPart::Markup(markup), Some(open_part)) => {
-            if !is_plain(markup) {
+            if !is_plain(markup.as_bytes()) {
                 return Err(UrlFault::NotPlain(number));
             }
             match after_markup(open_part, markup.as_bytes()) {
@@ -101,10 +102,14 @@ fn take_slot<A: Allocator>(
     }
 }
 
-fn is_plain(markup: &str) -> bool
+/// Whether the markup has no ASCII white space, no control and no `\`: other markup `slots_of` refuses
+/// as `NotPlain`.
+///
+/// Of `/items/` it is `true`, and of `/a b` and `/\` it is `false`.
+pub fn is_plain(markup: &[u8]) -> bool
     ensures { result ≡ spec.is_plain markup.now }
 {
-    markup.as_bytes().iter().all(|b| is_plain_byte(*b))
+    markup.iter().all(|b| is_plain_byte(*b))
 }
 
 fn is_plain_byte(b: u8) -> bool

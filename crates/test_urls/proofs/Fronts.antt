@@ -11,10 +11,10 @@ use Rattle.url.proofs.InputLemmas.{All_from_list_all}
 use Rattle.html_urls.specs.Components.{component}
 use Rattle.html_urls.specs.Slots.{FillUrl, Given, Markup, Slot}
 use Rattle.html_urls.proofs.Paths.SegmentFits.{component_dots}
-use Rattle.html_urls.specs.Paths.{EndsInPath, IsPathText, is_path_byte}
-use Rattle.html_urls.specs.Queries.{EndsInQuery}
-use Rattle.html_urls.specs.Rests.{path_of}
-use Rattle.html_urls.specs.Segments.{BeginsSegment, HasNoDotSegments, IsNoDotSegment, later_segments, may_be_segment}
+use Rattle.html_urls.specs.Parts.Paths.{EndsInPath, IsPathText, is_path_byte}
+use Rattle.html_urls.specs.Parts.Queries.{EndsInQuery}
+use Rattle.html_urls.specs.Parts.Rests.{path_of}
+use Rattle.html_urls.specs.Parts.Segments.{BeginsSegment, HasNoDotSegments, IsNoDotSegment, later_segments, may_be_segment}
 use Rattle.html_urls.specs.declared.place.UrlPlace.TheVariants.{Path, Query}
 use Rattle.html_urls.proofs.Places.PlaceSound.{place_is}
 

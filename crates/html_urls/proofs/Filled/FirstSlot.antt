@@ -11,23 +11,24 @@ use Rattle.url.specs.Parser.{parse_url}
 use Rattle.url.proofs.InputLemmas.{All_from_list_all}
 use Rattle.html_urls.specs.Components.{component}
 use Rattle.html_urls.specs.Heads.{head_of}
-use Rattle.html_urls.specs.Hosts.{FixesHost, IsWebBase, relative, rooted}
+use Rattle.html_urls.specs.Hosts.{FixesHost, IsWebBase, has_first_segment, rooted}
 use Rattle.html_urls.specs.Inputs.{IsNot, IsVisible, kept, kept_rest}
-use Rattle.html_urls.specs.Paths.{FitsSegment, IsPathText, is_path_byte}
+use Rattle.html_urls.specs.Links.{is_link}
+use Rattle.html_urls.specs.Parts.Paths.{FitsSegment, IsPathText, is_path_byte}
+use Rattle.html_urls.specs.Parts.Rests.{path_of}
+use Rattle.html_urls.specs.Parts.Segments.{HasNoDotSegments, last_segment}
 use Rattle.html_urls.specs.Places.{EndsIn, Fits, SuitsPlace, has_whole_host, is_web_scheme}
-use Rattle.html_urls.specs.Rests.{path_of}
-use Rattle.html_urls.specs.Segments.{HasNoDotSegments, last_segment}
 use Rattle.html_urls.specs.declared.open_part.OpenPart.{OpenPart}
 use Rattle.html_urls.specs.declared.open_part.OpenPart.TheVariants.{NewSegment, TextSegment, DotSegment, NamedSegment, Query, Fragment}
 use Rattle.html_urls.specs.declared.parts.UrlFault.TheVariants as fault
 use Rattle.html_urls.specs.declared.parts.UrlSlot.{UrlSlot}
 use Rattle.html_urls.specs.declared.place.UrlPlace.{UrlPlace}
 use Rattle.html_urls.specs.declared.place.UrlPlace.TheVariants as place
-use Rattle.html_urls.specs.OpenParts.{after_byte, after_front, after_segment_byte, begins, has_byte, has_host, after_text, is_fixed, may_be_dots, open_of, slot_at}
+use Rattle.html_urls.specs.OpenParts.{after_byte, after_front, after_segment_byte, begins, has_byte, has_host, has_web_host, after_text, is_fixed, is_rooted, may_be_dots, open_of, open_of_link, slot_at}
 use Rattle.html_urls.specs.Slots.{FillSlots, Given, Markup, Slot, Told, after_slots, first_slots, is_plain, is_plain_byte, later_slots, may_fill, told_of, url_of}
 use Rattle.html_urls.proofs.Splits.{kept_nothing, kept_visible}
 use Rattle.html_urls.proofs.Paths.PathSegments.{last_after, last_of_whole, last_whole}
-use Rattle.html_urls.proofs.Places.PlaceSound.{whole_host}
+use Rattle.html_urls.proofs.Places.PlaceSound.{first_segment, whole_host}
 use Rattle.html_urls.proofs.Places.PlaceStays.{all_visible}
 use Rattle.html_urls.proofs.Places.UrlLaw.{head_law}
 use Rattle.html_urls.proofs.Filled.OpenSegments.{Open, after_segment, closes, in_path, segment_in_path}
@@ -78,28 +79,33 @@ absolute_front scheme front one web host =
 pub fixed_front : (front : List ℕ) → is_fixed front ≡ true → FixesHost front
 fixed_front front fixed =
     ⊎_elim
-    (λ (root : (begins front (codes "/") && not (begins front (codes "//"))) ≡ true).
+    (λ (root : is_rooted front ≡ true).
     let both = and_parts (begins front (codes "/")) (not (begins front (codes "//"))) root in
     rooted_front front both.0 (not_true (begins front (codes "//")) both.1))
-    (λ (no_root : (begins front (codes "/") && not (begins front (codes "//"))) ≡ false).
+    (λ (no_root : is_rooted front ≡ false).
+    let either : (has_first_segment front || has_web_host front) ≡ true = right (is_rooted front) (has_first_segment front) (has_web_host front) no_root fixed in
     ⊎_elim
-    (λ (below : begins front (codes "./") ≡ true). subst FixesHost (sym (begun front (codes "./") below)) (relative (drop 2 front)))
-    (λ (not_below : begins front (codes "./") ≡ false).
+    (λ (below : has_first_segment front ≡ true). first_segment front below)
+    (λ (not_below : has_first_segment front ≡ false).
     ⊎_elim
     (λ (http : (begins front (codes "http:") && has_host (drop 5 front)) ≡ true).
     let both = and_parts (begins front (codes "http:")) (has_host (drop 5 front)) http in
     absolute_front (codes "http") front both.0 refl both.1)
     (λ (no_http : (begins front (codes "http:") && has_host (drop 5 front)) ≡ false).
-    let https : (begins front (codes "https:") && has_host (drop 6 front)) ≡ true = rw (no_root, not_below, no_http) at fixed in
+    let https : (begins front (codes "https:") && has_host (drop 6 front)) ≡ true = rw (not_below, no_http) at either in
     let both = and_parts (begins front (codes "https:")) (has_host (drop 6 front)) https in
     absolute_front (codes "https") front both.0 refl both.1)
     (cases_Bool (begins front (codes "http:") && has_host (drop 5 front))))
-    (cases_Bool (begins front (codes "./"))))
+    (cases_Bool (has_first_segment front)))
     (cases_Bool (begins front (codes "/") && not (begins front (codes "//"))))
   where
     not_true : (x : Bool) → not x ≡ true → x ≡ false
     not_true true is = cc
     not_true false is = refl
+
+    right : (x y z : Bool) → x ≡ false → (x || y || z) ≡ true → (y || z) ≡ true
+    right true y z none is = cc
+    right false y z none is = is
 
 -- ---- the open segment
 
@@ -188,8 +194,8 @@ slot_in_query slot here = cc
 slot_in_fragment : (slot : UrlSlot) → slot_at Fragment ≡ Some slot → slot.place ≡ place.Fragment
 slot_in_fragment slot here = cc
 
-pub front_stands : (front : List ℕ) (p : OpenPart) (slot : UrlSlot) → All (λ b. is_plain_byte b ≡ true) front → open_of front ≡ Some p → slot_at p ≡ Some slot → StandsIn front p slot.place
-front_stands front p slot plain is here =
+link_stands : (front : List ℕ) (p : OpenPart) (slot : UrlSlot) → All (λ b. is_plain_byte b ≡ true) front → open_of_link front ≡ Some p → slot_at p ≡ Some slot → StandsIn front p slot.place
+link_stands front p slot plain is here =
     ⊎_elim
     (λ (fragment : has_byte 35 front ≡ true).
     let same : Fragment ≡ p = some_is Fragment p (sym (cond-true _ _ _ fragment) ∙ is) in
@@ -247,6 +253,13 @@ front_stands front p slot plain is here =
 
     none_some : (x : OpenPart) → None ≡ Some x → ⊥
     none_some x same = cc
+
+pub front_stands : (front : List ℕ) (p : OpenPart) (slot : UrlSlot) → All (λ b. is_plain_byte b ≡ true) front → open_of front ≡ Some p → slot_at p ≡ Some slot → StandsIn front p slot.place
+front_stands front p slot plain is here =
+    ⊎_elim
+    (λ (link : is_link front ≡ true). link_stands front p slot plain (sym (cond-true _ _ _ link) ∙ is) here)
+    (λ (other : is_link front ≡ false). let clash : None ≡ Some p = sym (cond-false _ _ _ other) ∙ is in cc)
+    (cases_Bool (is_link front))
 
 -- ---- a text in the first slot
 

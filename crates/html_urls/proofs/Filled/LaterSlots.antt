@@ -8,9 +8,9 @@ use Rattle.url.specs.Path.{dot_count}
 use Rattle.url.proofs.InputLemmas.{All_from_list_all}
 use Rattle.html_urls.specs.Components.{component, is_component_byte}
 use Rattle.html_urls.specs.Inputs.{IsNot, IsVisible, kept_rest}
-use Rattle.html_urls.specs.Paths.{IsPathText, is_path_byte}
-use Rattle.html_urls.specs.Rests.{before_fragment, path_of}
-use Rattle.html_urls.specs.Segments.{HasNoDotSegments, IsNoDotSegment}
+use Rattle.html_urls.specs.Parts.Paths.{IsPathText, is_path_byte}
+use Rattle.html_urls.specs.Parts.Rests.{before_fragment, path_of}
+use Rattle.html_urls.specs.Parts.Segments.{HasNoDotSegments, IsNoDotSegment}
 use Rattle.html_urls.specs.declared.open_part.OpenPart.{OpenPart}
 use Rattle.html_urls.specs.declared.open_part.OpenPart.TheVariants.{NewSegment, TextSegment, DotSegment, NamedSegment, Query, Fragment}
 use Rattle.html_urls.specs.declared.parts.UrlFault.{UrlFault}

@@ -16,12 +16,12 @@ use Rattle.url.proofs.InputLemmas.{All_from_list_all}
 use Rattle.html_urls.specs.Components.{component, is_component_byte}
 use Rattle.html_urls.specs.Heads.{on_ok}
 use Rattle.html_urls.specs.Inputs.{IsNot, IsVisible, kept_rest}
-use Rattle.html_urls.specs.Pairs.{string_count}
-use Rattle.html_urls.specs.Paths.{path_after}
+use Rattle.html_urls.specs.Parts.Pairs.{string_count}
+use Rattle.html_urls.specs.Parts.Paths.{path_after}
+use Rattle.html_urls.specs.Parts.Queries.{query_after}
+use Rattle.html_urls.specs.Parts.Rests.{before_fragment, path_of, query_of}
+use Rattle.html_urls.specs.Parts.Segments.{segment_count}
 use Rattle.html_urls.specs.Places.{goes_on}
-use Rattle.html_urls.specs.Queries.{query_after}
-use Rattle.html_urls.specs.Rests.{before_fragment, path_of, query_of}
-use Rattle.html_urls.specs.Segments.{segment_count}
 use Rattle.html_urls.specs.declared.open_part.OpenPart.{OpenPart}
 use Rattle.html_urls.specs.declared.parts.UrlFault.TheVariants as fault
 use Rattle.html_urls.specs.declared.parts.UrlSlot.{UrlSlot}

@@ -9,7 +9,7 @@ use Rattle.url.specs.Path.{dot_count}
 use Rattle.html_urls.specs.declared.component.TheConstants.{COMPONENT}
 use Rattle.html_urls.specs.declared.parts.UrlSlot.{UrlSlot}
 use Rattle.html_urls.specs.Components.{component}
-use Rattle.html_urls.specs.Segments.{may_be_segment}
+use Rattle.html_urls.specs.Parts.Segments.{may_be_segment}
 use Rattle.html_urls.specs.Slots.{may_fill}
 use Rattle.html_urls.proofs.Paths.SegmentFits.{component_dots, dot_kept}
 

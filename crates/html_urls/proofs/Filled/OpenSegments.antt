@@ -8,7 +8,7 @@ use Rattle.url.specs.Path.{dot_count}
 use Rattle.html_urls.specs.declared.open_part.OpenPart.{OpenPart}
 use Rattle.html_urls.specs.declared.open_part.OpenPart.TheVariants.{NewSegment, TextSegment, DotSegment, NamedSegment, Query, Fragment}
 use Rattle.html_urls.specs.OpenParts.{after_segment_byte, begins_dots, may_be_dots}
-use Rattle.html_urls.specs.Segments.{is_dot_byte}
+use Rattle.html_urls.specs.Parts.Segments.{is_dot_byte}
 use Rattle.html_urls.proofs.Paths.Opening.{all_left, all_right}
 use Rattle.html_urls.proofs.Paths.SegmentFits.{IsDotByte, dot_segment_bytes}
 

@@ -7,7 +7,7 @@ use Rattle.url.specs.Relative.{segments, segments_left}
 use Rattle.url.proofs.RelativeLemmas.{segments_at}
 use Rattle.html_urls.specs.Components.{component}
 use Rattle.html_urls.specs.Inputs.{IsNot}
-use Rattle.html_urls.specs.Segments.{last_segment, first_segment, later_segments, segments_before}
+use Rattle.html_urls.specs.Parts.Segments.{last_segment, first_segment, later_segments, segments_before}
 use Rattle.html_urls.proofs.Components.{component_without}
 use Rattle.html_urls.proofs.Splits.{split_clear}
 use Rattle.html_urls.proofs.Queries.PairLaw.{split_joined}

@@ -52,11 +52,11 @@ based_parts base b input path body query fragment web relative =
     ∙ ap (λ (url : Parts). Ok (with_tail url query fragment)) (before_special (with_path (head_only base) (parse_path SpecialNotFile path body)) query fragment (ap is_special web))
 
 -- the answer of `parse_relative` at every base that there is
-abbrev Relative : Option Parts → List ℕ → List ℕ → List ℕ → Type 0
+abbrev pub Relative : Option Parts → List ℕ → List ℕ → List ℕ → Type 0
 Relative base input path body = IfSome base (λ url. parse_relative url input ≡ Ok (with_path (head_only url) (parse_path SpecialNotFile path body)))
 
 -- an input with no scheme and no authority
-relative_reads : (base : Option Parts) (b : ℕ) (input path body : List ℕ) → IsWebBase base → split_scheme (b ∷ input) ≡ None → Relative base (b ∷ input) path body → Reads base (b ∷ input) (from_base base) path body
+pub relative_reads : (base : Option Parts) (b : ℕ) (input path body : List ℕ) → IsWebBase base → split_scheme (b ∷ input) ≡ None → Relative base (b ∷ input) path body → Reads base (b ∷ input) (from_base base) path body
 relative_reads None b input path body web none relative query fragment = ap (λ s. parse_by_scheme s None (b ∷ input) query fragment) none
 relative_reads (Some base) b input path body web none relative query fragment =
     ap (λ s. parse_by_scheme s (Some base) (b ∷ input) query fragment) none
@@ -69,7 +69,7 @@ relative_reads (Some base) b input path body web none relative query fragment =
     step true parts = refl
     step false parts = parts
 
-relative_body : (url : Parts) (body : List ℕ) (n : ℕ) → kind_of url ≡ SpecialNotFile → leading_slashes SpecialNotFile body ≡ n → (n == 2) ≡ false →
+pub relative_body : (url : Parts) (body : List ℕ) (n : ℕ) → kind_of url ≡ SpecialNotFile → leading_slashes SpecialNotFile body ≡ n → (n == 2) ≡ false →
     parse_relative url body ≡ Ok (with_path (inherit url (n == 0)) (parse_path SpecialNotFile (inherit url (n == 0)).path (drop n body)))
 unfolding parse_relative
 relative_body url body n kind slashes few =
@@ -90,10 +90,6 @@ root_slash : leading_slashes SpecialNotFile (47 ∷ []) ≡ 1
 unfolding leading_slashes
 root_slash = refl
 
-no_leading_slash : (rest : List ℕ) → leading_slashes SpecialNotFile (46 ∷ 47 ∷ rest) ≡ 0
-unfolding leading_slashes
-no_leading_slash rest = refl
-
 -- `/` and then no slash
 pub rooted_reads : (base : Option Parts) (b : ℕ) (rest : List ℕ) → IsWebBase base → b ≢ 47 → b ≢ 92 → Reads base (47 ∷ b ∷ rest) (from_base base) [] (b ∷ rest)
 unfolding split_scheme scheme_len
@@ -111,15 +107,6 @@ root_reads base web = relative_reads base 47 [] [] [] web refl (by_base base web
     by_base : (base : Option Parts) → IsWebBase base → Relative base (47 ∷ []) [] []
     by_base None web = tt
     by_base (Some url) web = relative_body url (47 ∷ []) 1 web root_slash refl
-
--- `./`
-pub folder_reads : (base : Option Parts) (rest : List ℕ) → IsWebBase base → Reads base (46 ∷ 47 ∷ rest) (from_base base) (folder_of base) (46 ∷ 47 ∷ rest)
-unfolding split_scheme scheme_len
-folder_reads base rest web = relative_reads base 46 (47 ∷ rest) (folder_of base) (46 ∷ 47 ∷ rest) web refl (by_base base web)
-  where
-    by_base : (base : Option Parts) → IsWebBase base → Relative base (46 ∷ 47 ∷ rest) (folder_of base) (46 ∷ 47 ∷ rest)
-    by_base None web = tt
-    by_base (Some url) web = relative_body url (46 ∷ 47 ∷ rest) 0 web (no_leading_slash rest) refl
 
 -- ---- behind a scheme and a host
 

@@ -15,13 +15,14 @@ use Rattle.html_urls.specs.Components.{component}
 use Rattle.html_urls.specs.Heads.{on_ok}
 use Rattle.html_urls.specs.Hosts.{FixesHost, absolute, rooted, relative, IsWebBase}
 use Rattle.html_urls.specs.Inputs.{IsNot, kept, kept_rest}
-use Rattle.html_urls.specs.Paths.{is_path_byte, IsPathText, EndsInPath, FitsSegment, path_goes_on}
-use Rattle.html_urls.specs.Rests.{path_of, query_of, fragment_of}
-use Rattle.html_urls.specs.Segments.{last_segment, HasNoDotSegments}
+use Rattle.html_urls.specs.Parts.Paths.{is_path_byte, IsPathText, EndsInPath, FitsSegment, path_goes_on}
+use Rattle.html_urls.specs.Parts.Rests.{path_of, query_of, fragment_of}
+use Rattle.html_urls.specs.Parts.Segments.{last_segment, HasNoDotSegments}
 use Rattle.html_urls.proofs.Components.{component_without, encode_around}
 use Rattle.html_urls.proofs.Splits.{kept_around, split_clear}
 use Rattle.html_urls.proofs.Paths.PathSegments.{last_after, path_grows}
-use Rattle.html_urls.proofs.Paths.Opening.{Reads, from_base, folder_of, all_left, all_right, rooted_reads, root_reads, folder_reads, absolute_reads}
+use Rattle.html_urls.proofs.Paths.Opening.{Reads, from_base, folder_of, all_left, all_right, rooted_reads, root_reads, absolute_reads}
+use Rattle.html_urls.proofs.Paths.FirstSegment.{folder_reads}
 
 -- ---- bytes
 
@@ -78,14 +79,14 @@ opened base _ text web plain (rooted (b ∷ rest) other) text_some =
       alone = rooted_reads base b rest web other (All-head (IsNot 92) b rest after);
       goes_on = λ more. rooted_reads base b (rest ++ (component text ++ more)) web other (All-head (IsNot 92) b rest after);
     }
-opened base _ text web plain (relative rest) text_some = record {
+opened base _ text web plain (relative first rest some bytes) text_some = record {
   start = from_base base;
   path = folder_of base;
-  body = 46 ∷ 47 ∷ rest;
+  body = first ++ 47 ∷ rest;
   plain = plain;
   last = refl;
-  alone = folder_reads base rest web;
-  goes_on = λ more. folder_reads base (rest ++ (component text ++ more)) web;
+  alone = folder_reads base first rest web some bytes;
+  goes_on = λ more. subst (λ x. Reads base x (from_base base) (folder_of base) x) (sym (append_assoc first (47 ∷ rest) (component text ++ more))) (folder_reads base first (rest ++ (component text ++ more)) web some bytes);
 }
 
 -- ---- the law

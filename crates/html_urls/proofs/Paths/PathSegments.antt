@@ -13,7 +13,7 @@ use Rattle.url.specs.Scheme.{is_slash}
 use Rattle.url.specs.Path.{dot_count, push_segment, parse_segments, parse_path}
 use Rattle.url.proofs.InputLemmas.{rsplit_once_none}
 use Rattle.html_urls.specs.Inputs.{IsNot}
-use Rattle.html_urls.specs.Segments.{HasNoDotSegments, last_segment}
+use Rattle.html_urls.specs.Parts.Segments.{HasNoDotSegments, last_segment}
 
 abbrev encoded : List ℕ → List ℕ
 encoded bytes = percent_encode PATH bytes

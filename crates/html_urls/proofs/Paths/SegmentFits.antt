@@ -15,7 +15,7 @@ use Rattle.url.proofs.PathLemmas.{IsDots, dots_from_encoded}
 use Rattle.html_urls.specs.declared.component.TheConstants.{COMPONENT}
 use Rattle.html_urls.specs.Components.{component}
 use Rattle.html_urls.specs.Inputs.{IsNot}
-use Rattle.html_urls.specs.Segments.{HasNoDotSegments, may_be_segment, BeginsSegment, is_dot_byte, names_segment, first_segment, later_segments}
+use Rattle.html_urls.specs.Parts.Segments.{HasNoDotSegments, may_be_segment, BeginsSegment, is_dot_byte, names_segment, first_segment, later_segments}
 use Rattle.html_urls.proofs.Paths.Opening.{all_left, all_right}
 use Rattle.html_urls.proofs.Paths.OneSegment.{whole_first}
 use Rattle.html_urls.proofs.Components.{component_without}

@@ -5,8 +5,8 @@ use Rattle.url.specs.Parser.{Parsed, parse_url}
 use Rattle.html_urls.specs.Components.{component}
 use Rattle.html_urls.specs.Heads.{on_ok}
 use Rattle.html_urls.specs.Hosts.{IsWebBase}
-use Rattle.html_urls.specs.Paths.{EndsInPath, FitsSegment, path_after, path_goes_on}
-use Rattle.html_urls.specs.Segments.{HasSegments, first_segment, last_segment, later_segments, segments_before}
+use Rattle.html_urls.specs.Parts.Paths.{EndsInPath, FitsSegment, path_after, path_goes_on}
+use Rattle.html_urls.specs.Parts.Segments.{HasSegments, first_segment, last_segment, later_segments, segments_before}
 use Rattle.html_urls.proofs.Paths.OneSegment.{segment_law}
 use Rattle.html_urls.proofs.Paths.PathLaw.{path_law}
 

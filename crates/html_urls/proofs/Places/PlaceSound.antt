@@ -1,19 +1,21 @@
 -- The test of a front tells what the laws ask.
-use Rattle.std.proofs.Common.{◌≡◌, ◌≢◌, ℕ, ◌-◌, ◌<◌, true, false, ◌&&◌, ◌==◌, nat_lt, List, [], ◌∷◌, ◌++◌, length, get_or, codes, bytes_eq, Option, Some, None, IfSome, is_some, All, sym, ap, ◌∙◌, subst, inl, inr, ⊎_elim, append_assoc, arith}
-use Rattle.std.specs.List.{list_all}
-use Rattle.std.proofs.lemmas.Bool.{cond_both, cases_Bool, cases_eq, and_parts, eq-eqb, ne_eqb}
+use Rattle.std.proofs.Common.{◌≡◌, ◌≢◌, ℕ, ◌+◌, ◌-◌, ◌<◌, Bool, true, false, not, ◌&&◌, ◌||◌, ◌==◌, nat_lt, List, [], ◌∷◌, ◌++◌, length, get_or, take, drop, length-take-le, lt_of_not-le, refl, codes, bytes_eq, Option, Some, None, IfSome, is_some, All, sym, ap, ◌∙◌, subst, inl, inr, ⊎_elim, append_assoc, arith}
+use Rattle.std.specs.List.{list_all, list_any}
+use Rattle.std.proofs.lemmas.Bool.{cond_both, cond-false, cases_Bool, cases_eq, and_parts, eq-eqb, ne_eqb}
 use Rattle.std.proofs.lemmas.Bool.Decides.{nat_tests}
-use Rattle.std.proofs.lemmas.List.Elements.{All-nil, All-cons}
+use Rattle.std.proofs.lemmas.List.{get_or_past}
+use Rattle.std.proofs.lemmas.List.Elements.{All-nil, All-cons, All-head, All-tail}
 use Rattle.std.proofs.lemmas.Slice.Eq.{bytes_eq-Decides}
 use Rattle.url.specs.Input.{split_once}
 use Rattle.url.specs.Path.{dot_count}
 use Rattle.url.specs.Parser.{split_scheme}
-use Rattle.url.proofs.InputLemmas.{All_from_list_all}
-use Rattle.html_urls.specs.Hosts.{IsWebScheme, FixesHost, absolute, rooted, relative}
+use Rattle.url.proofs.InputLemmas.{All_from_list_all, All-take-prefix_len, Passes, split_around}
+use Rattle.html_urls.specs.Hosts.{IsWebScheme, FixesHost, absolute, rooted, relative, has_first_segment, is_first_byte}
 use Rattle.html_urls.specs.Inputs.{IsNot, EndsVisibly, kept}
-use Rattle.html_urls.specs.Paths.{is_path_byte, EndsInPath}
+use Rattle.html_urls.specs.Links.{is_mark, mark_at}
+use Rattle.html_urls.specs.Parts.Paths.{is_path_byte, EndsInPath}
+use Rattle.html_urls.specs.Parts.Segments.{last_segment}
 use Rattle.html_urls.specs.Places.{is_web_scheme, has_whole_host, is_absolute, fixes_host, place_of_kept, place_of, EndsIn}
-use Rattle.html_urls.specs.Segments.{last_segment}
 use Rattle.html_urls.specs.declared.place.UrlPlace.{UrlPlace}
 use Rattle.html_urls.specs.declared.place.UrlPlace.TheVariants.{Path, Query, Fragment}
 use Rattle.html_urls.proofs.Splits.{some_value}
@@ -56,6 +58,36 @@ whole_host front scheme (a ∷ b ∷ more) is web host =
 whole_host front scheme (a ∷ []) is web host = cc
 whole_host front scheme [] is web host = cc
 
+first_bytes : (xs : List ℕ) → All (Passes (λ b. not (is_mark b))) xs → list_any (λ b. b == 92) xs ≡ false → All (λ b. is_first_byte b ≡ true) xs
+first_bytes [] marks plain = All-nil (λ b. is_first_byte b ≡ true)
+first_bytes (x ∷ xs) marks plain =
+    let here = All-head (Passes (λ b. not (is_mark b))) x xs marks in
+    let other : (x == 92) ≡ false = (or_parts (x == 92) (list_any (λ b. b == 92) xs) plain).0 in
+    All-cons (λ b. is_first_byte b ≡ true) x xs (grind (arith, nat_tests))
+    (first_bytes xs (All-tail (Passes (λ b. not (is_mark b))) x xs marks) (or_parts (x == 92) (list_any (λ b. b == 92) xs) plain).1)
+  where
+    or_parts : (x y : Bool) → (x || y) ≡ false → (x ≡ false) × (y ≡ false)
+    or_parts true y none = cc
+    or_parts false y none = (refl, none)
+
+pub first_segment : (front : List ℕ) → has_first_segment front ≡ true → FixesHost front
+first_segment front has =
+    let n = mark_at front in
+    let first = take n front in
+    let backslashes = list_any (λ b. b == 92) first in
+    let both = and_parts (nat_lt 0 n && get_or front n 0 == 47) (not backslashes) has in
+    let some : 0 < n = grind (arith, nat_tests) in
+    let same : get_or front n 0 ≡ 47 = grind (arith, nat_tests) in
+    let inside : n < length front = lt_of_not-le (λ past. let none : get_or front n 0 ≡ 0 = get_or_past front n 0 past in omega arith) in
+    let long : length first ≡ n = length-take-le n front (omega arith) in
+    let plain : backslashes ≡ false = not_true backslashes both.1 in
+    subst FixesHost (sym (split_around front n 47 inside same))
+    (relative first (drop (n + 1) front) (omega arith) (first_bytes first (All-take-prefix_len (λ b. not (is_mark b)) front) plain))
+  where
+    not_true : (x : Bool) → not x ≡ true → x ≡ false
+    not_true true is = cc
+    not_true false is = refl
+
 fixed : (front : List ℕ) → fixes_host front ≡ true → FixesHost front
 fixed [] fixes = cc
 fixed (b ∷ rest) fixes =
@@ -65,20 +97,17 @@ fixed (b ∷ rest) fixes =
     let other : get_or rest 0 0 ≢ 47 = λ e. let clash = rw root at fixes in absurd (grind (arith, nat_tests)) in
     subst (λ x. FixesHost (x ∷ rest)) (sym same) (rooted rest other))
     (λ (no_root : (b == 47) ≡ false).
+    let either : (has_first_segment (b ∷ rest) || is_absolute (split_scheme (b ∷ rest))) ≡ true = sym (cond-false _ _ _ no_root) ∙ fixes in
     ⊎_elim
-    (λ (folder : (b == 46) ≡ true).
-    let same : b ≡ 46 = grind (arith, nat_tests) in
-    let next : (get_or rest 0 0 == 47) ≡ true = rw (no_root, folder) at fixes in
-    dotted b rest same (grind (arith, nat_tests)))
-    (λ (no_folder : (b == 46) ≡ false).
-    let absolute_is : is_absolute (split_scheme (b ∷ rest)) ≡ true = rw (no_root, no_folder) at fixes in
-    of_scheme (b ∷ rest) (split_scheme (b ∷ rest)) (own_scheme (b ∷ rest)) absolute_is)
-    (cases_Bool (b == 46)))
+    (λ (below : has_first_segment (b ∷ rest) ≡ true). first_segment (b ∷ rest) below)
+    (λ (no_below : has_first_segment (b ∷ rest) ≡ false).
+    of_scheme (b ∷ rest) (split_scheme (b ∷ rest)) (own_scheme (b ∷ rest)) (right (has_first_segment (b ∷ rest)) (is_absolute (split_scheme (b ∷ rest))) no_below either))
+    (cases_Bool (has_first_segment (b ∷ rest))))
     (cases_Bool (b == 47))
   where
-    dotted : (b : ℕ) (rest : List ℕ) → b ≡ 46 → get_or rest 0 0 ≡ 47 → FixesHost (b ∷ rest)
-    dotted b [] same next = absurd (omega arith)
-    dotted b (s ∷ rest) same next = subst (λ x. FixesHost (x ∷ s ∷ rest)) (sym same) (subst (λ x. FixesHost (46 ∷ x ∷ rest)) (sym next) (relative rest))
+    right : (x y : Bool) → x ≡ false → (x || y) ≡ true → y ≡ true
+    right true y none is = cc
+    right false y none is = is
 
     of_scheme : (front : List ℕ) (split : Option (List ℕ × List ℕ)) → IfSome split (IsSchemeOf front) → is_absolute split ≡ true → FixesHost front
     of_scheme front (Some split) is known = whole_host front split.0 split.1 is.1 (and_parts _ _ known).0 (and_parts _ _ known).1

@@ -10,13 +10,13 @@ use Rattle.url.specs.Path.{dot_count}
 use Rattle.url.specs.Relative.{segments}
 use Rattle.html_urls.specs.declared.component.TheConstants.{COMPONENT}
 use Rattle.html_urls.specs.Components.{component, is_component_byte}
-use Rattle.html_urls.specs.Fragments.{EndsInFragment}
 use Rattle.html_urls.specs.Hosts.{FixesHost, absolute, rooted, relative}
 use Rattle.html_urls.specs.Inputs.{IsVisible, KeepsEnd, IsNot, EndsVisibly, kept, kept_rest}
-use Rattle.html_urls.specs.Paths.{EndsInPath, FitsSegment, IsPathText, is_path_byte}
-use Rattle.html_urls.specs.Queries.{EndsInQuery}
-use Rattle.html_urls.specs.Rests.{path_of, query_of, fragment_of}
-use Rattle.html_urls.specs.Segments.{HasNoDotSegments, last_segment}
+use Rattle.html_urls.specs.Parts.Fragments.{EndsInFragment}
+use Rattle.html_urls.specs.Parts.Paths.{EndsInPath, FitsSegment, IsPathText, is_path_byte}
+use Rattle.html_urls.specs.Parts.Queries.{EndsInQuery}
+use Rattle.html_urls.specs.Parts.Rests.{path_of, query_of, fragment_of}
+use Rattle.html_urls.specs.Parts.Segments.{HasNoDotSegments, last_segment}
 use Rattle.html_urls.specs.Places.{EndsIn, Fits, LeavesOpen}
 use Rattle.html_urls.specs.declared.place.UrlPlace.{UrlPlace}
 use Rattle.html_urls.specs.declared.place.UrlPlace.TheVariants.{Path, Query, Fragment}
@@ -105,7 +105,7 @@ fixes_more _ more (absolute scheme host rest web some other) begins =
     subst FixesHost (sym (append_assoc (scheme ++ codes "://" ++ host) (47 ∷ rest) more)) (absolute scheme host (rest ++ more) web some other)
 fixes_more _ more (rooted [] other) begins = rooted more (begins refl)
 fixes_more _ more (rooted (b ∷ rest) other) begins = rooted (b ∷ rest ++ more) other
-fixes_more _ more (relative rest) begins = relative (rest ++ more)
+fixes_more _ more (relative first rest some bytes) begins = subst FixesHost (sym (append_assoc first (47 ∷ rest) more)) (relative first (rest ++ more) some bytes)
 
 first_other : (c more : List ℕ) → 0 < length c → All (IsNot 47) c → get_or (c ++ more) 0 0 ≢ 47
 first_other [] more some none = absurd (omega arith)

@@ -10,8 +10,8 @@ use Rattle.form_urlencoded.proofs.FormLemmas.{split_once_before_at, split_once_a
 use Rattle.html_urls.specs.Components.{component}
 use Rattle.html_urls.specs.Heads.{on_ok}
 use Rattle.html_urls.specs.Inputs.{IsNot}
-use Rattle.html_urls.specs.Pairs.{EndsPair, BeginsPair, IsName, HasPairs}
-use Rattle.html_urls.specs.Queries.{EndsInQuery, query_goes_on, query_after}
+use Rattle.html_urls.specs.Parts.Pairs.{EndsPair, BeginsPair, IsName, HasPairs}
+use Rattle.html_urls.specs.Parts.Queries.{EndsInQuery, query_goes_on, query_after}
 use Rattle.html_urls.proofs.Queries.QueryLaw.{query_law}
 use Rattle.url.specs.Parts.{Parts}
 use Rattle.url.specs.Parser.{Parsed, parse_url}

@@ -12,7 +12,7 @@ use Rattle.url.specs.Input.{lowercase}
 use Rattle.html_urls.specs.Components.{component}
 use Rattle.html_urls.specs.Heads.{on_ok}
 use Rattle.html_urls.specs.Inputs.{kept, kept_rest}
-use Rattle.html_urls.specs.Queries.{EndsInQuery, query_goes_on}
+use Rattle.html_urls.specs.Parts.Queries.{EndsInQuery, query_goes_on}
 use Rattle.html_urls.proofs.Components.{component_without, encode_around}
 use Rattle.html_urls.proofs.Splits.{kept_around, split_found, split_clear, split_whole, some_value}
 

@@ -1,6 +1,6 @@
 //! Hostile texts in each part of a URL, read back by the running parser.
 use crate::tests::hostile::ROWS;
-use html_urls::{append_component, may_be_segment};
+use html_urls::{OpenPart, append_component, may_be_segment, open_of};
 use percent_encoding::percent_decode_str;
 use std::alloc::Global;
 use std::process::Abort;
@@ -72,6 +72,45 @@ fn a_text_goes_on_in_a_segment(rt: HostRuntime) -> Result<(), Fail> {
             assert!(rt;
                 url.query().is_none() && url.fragment().is_none(),
                 "{text:?}"
+            );
+        }
+    }
+    Ok(())
+}
+
+// A front that is read against the page's folder, and its path there.
+const BELOW: [(&str, &str); 7] = [
+    ("items/", "/d/items/"),
+    ("./", "/d/"),
+    ("../u/", "/u/"),
+    ("../../../", "/"),
+    ("a.html/../b:c/", "/d/b:c/"),
+    ("%2e%2E/c/", "/c/"),
+    ("javascript//", "/d/javascript//"),
+];
+
+#[test]
+fn a_text_is_one_segment_of_a_relative_path(rt: HostRuntime) -> Result<(), Fail> {
+    for &(front, before) in &BELOW {
+        assert!(rt;
+            open_of(front.as_bytes()) == Some(OpenPart::NewSegment),
+            "{front}"
+        );
+        assert!(rt; Url::parse(rt.alloc(), front).is_err(), "{front}");
+        for &(text, component) in &ROWS {
+            if !may_be_segment(text) {
+                continue;
+            }
+            let url = fill(rt.alloc(), PAGE, front, text, "/edit?q=1#s")?;
+            assert_host(&rt, &url, text);
+            let segment = url
+                .path()
+                .strip_prefix(before)
+                .and_then(|rest| rest.strip_suffix("/edit"));
+            assert!(rt; segment == Some(component), "{front} {text:?}");
+            assert!(rt;
+                url.query() == Some("q=1") && url.fragment() == Some("s"),
+                "{front} {text:?}"
             );
         }
     }

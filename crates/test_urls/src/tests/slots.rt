@@ -2,7 +2,10 @@
 //! read back by the running parser.
 use crate::tests::hostile::ROWS;
 use html_urls::UrlPart::{Markup, Slot};
-use html_urls::{UrlFault, UrlPart, UrlPlace, UrlSlot, append_component, may_fill, slots_of};
+use html_urls::{
+    OpenPart, UrlFault, UrlPart, UrlPlace, UrlSlot, after_markup, after_text, append_component,
+    is_plain, may_be_dots, may_fill, open_of, slot_at, slots_of,
+};
 use percent_encoding::percent_decode_str;
 use std::alloc::Global;
 use std::test::Fail;
@@ -40,21 +43,33 @@ const IN_FRAGMENT: UrlSlot = UrlSlot {
 };
 
 // A front, and the fault of a slot behind it.
-const FRONTS: [(&str, UrlFault); 16] = [
+const FRONTS: [(&str, UrlFault); 28] = [
     ("", UrlFault::NotFixed(1)),
     ("//", UrlFault::NotFixed(1)),
-    ("a/", UrlFault::NotFixed(1)),
+    ("//x/", UrlFault::NotFixed(1)),
+    ("items", UrlFault::NotFixed(1)),
+    ("..", UrlFault::NotFixed(1)),
+    ("a:b/", UrlFault::NotFixed(1)),
+    (":/a/", UrlFault::NotFixed(1)),
+    ("https:a/", UrlFault::NotFixed(1)),
     ("https:/", UrlFault::NotFixed(1)),
     ("https://", UrlFault::NotFixed(1)),
     ("https://a@", UrlFault::NotFixed(1)),
     ("https://a.example", UrlFault::NotFixed(1)),
     ("https://a.example:", UrlFault::NotFixed(1)),
     ("javascript:", UrlFault::NotFixed(1)),
+    ("javascript:x?", UrlFault::NotFixed(1)),
+    ("JavaScript:x#", UrlFault::NotFixed(1)),
+    ("data:text/html,?", UrlFault::NotFixed(1)),
+    ("tel:1?", UrlFault::NotFixed(1)),
+    ("file:///a?q=", UrlFault::NotFixed(1)),
     ("mailto:", UrlFault::NotFixed(1)),
     ("file:///", UrlFault::NotFixed(1)),
     ("/a b/", UrlFault::NotPlain(0)),
     ("/\t/", UrlFault::NotPlain(0)),
     ("/\\", UrlFault::NotPlain(0)),
+    ("\\a/", UrlFault::NotPlain(0)),
+    ("a.html/..", UrlFault::DotSegment(1)),
     ("/a/.", UrlFault::DotSegment(1)),
     ("/a/%2", UrlFault::DotSegment(1)),
 ];
@@ -130,8 +145,31 @@ fn each_slot_is_told_with_its_place(rt: HostRuntime) -> Result<(), Fail> {
     assert!(rt;
         are_slots(
             rt.alloc(),
+            &[Markup("items/"), Slot, Markup("/x?q="), Slot],
+            &[BEGINS, IN_QUERY]
+        )
+    );
+    assert!(rt;
+        are_slots(
+            rt.alloc(),
+            &[Markup(".."), Markup("/u/x-"), Slot],
+            &[IN_SEGMENT]
+        )
+    );
+    assert!(rt; are_slots(rt.alloc(), &[Markup("a?b/"), Slot], &[IN_QUERY]));
+    assert!(rt; are_slots(rt.alloc(), &[Markup("a/b:c/"), Slot], &[BEGINS]));
+    assert!(rt;
+        are_slots(
+            rt.alloc(),
             &[Markup("?"), Slot, Slot],
             &[IN_QUERY, IN_QUERY]
+        )
+    );
+    assert!(rt;
+        are_slots(
+            rt.alloc(),
+            &[Markup("mailto:a@b.example?subject="), Slot],
+            &[IN_QUERY]
         )
     );
     assert!(rt; are_slots(rt.alloc(), &[], &[]));
@@ -160,6 +198,22 @@ fn each_fault_names_its_part(rt: HostRuntime) -> Result<(), Fail> {
         )
     );
     assert!(rt; is_fault(rt.alloc(), &[Slot, Markup(":x")], UrlFault::NotFixed(0)));
+    Ok(())
+}
+
+#[test]
+fn slots_are_told_part_by_part(rt: HostRuntime) -> Result<(), Fail> {
+    assert!(rt; is_plain(b"/items/") && !is_plain(b"/a b") && !is_plain(b"/\\"));
+    assert!(rt; open_of(b"/items/") == Some(OpenPart::NewSegment));
+    assert!(rt; open_of(b"mailto:a@b.example?subject=") == Some(OpenPart::Query));
+    assert!(rt; open_of(b"//").is_none() && open_of(b"javascript:x?").is_none());
+    assert!(rt; slot_at(OpenPart::NewSegment) == Some(BEGINS));
+    assert!(rt; slot_at(OpenPart::DotSegment).is_none());
+    assert!(rt; after_text(OpenPart::NewSegment) == OpenPart::TextSegment);
+    assert!(rt; after_markup(OpenPart::TextSegment, b"?q=") == Some(OpenPart::Query));
+    assert!(rt; after_markup(OpenPart::TextSegment, b"/../b").is_none());
+    assert!(rt; after_markup(OpenPart::TextSegment, b"/%2") == Some(OpenPart::DotSegment));
+    assert!(rt; may_be_dots(OpenPart::DotSegment) && !may_be_dots(OpenPart::TextSegment));
     Ok(())
 }
 

@@ -46,7 +46,7 @@ const KEPT: [(&str, &str, &str, &str); 12] = [
     ),
 ];
 
-const TRAPS: [(&str, &str, &str, &str); 28] = [
+const TRAPS: [(&str, &str, &str, &str); 29] = [
     ("/items/", "..", "/edit", "https://h/edit"),
     ("/items/", ".", "/edit", "https://h/items/edit"),
     ("/items/%2", "e", "/edit", "https://h/items/edit"),
@@ -74,6 +74,7 @@ const TRAPS: [(&str, &str, &str, &str); 28] = [
         "https://a.example:8080/y",
     ),
     ("", "javascript", ":alert(1)", "javascript:alert(1)"),
+    ("java", "script", ":alert(1)", "javascript:alert(1)"),
     ("", "", "", "https://h/d/f?k=v"),
     ("", "", "/x", "https://h/x"),
     ("/a?q= ", "", "", "https://h/a?q="),

@@ -1,6 +1,6 @@
 use Rattle.html_urls.specs.Inputs.{kept}
-use Rattle.html_urls.specs.Rests.{path_of}
-use Rattle.html_urls.specs.Segments.{last_segment}
+use Rattle.html_urls.specs.Parts.Rests.{path_of}
+use Rattle.html_urls.specs.Parts.Segments.{last_segment}
 use Rattle.html_urls.proofs.Paths.PathSegments.{last_whole}
 use Rattle.html_urls.proofs.Paths.SegmentFits.{mixed_segment}
 use Rattle.html_urls.proofs.laws.named_segment_law.Goals as goal

@@ -1,8 +1,8 @@
 use Rattle.std.proofs.Common.{◌≡◌, [], map, true}
 use Rattle.std.proofs.lemmas.List.Elements.{All-nil}
+use Rattle.html_urls.specs.Parts.Pairs.{string_count}
+use Rattle.html_urls.specs.Parts.Segments.{segment_count}
 use Rattle.html_urls.specs.Slots.{given, is_plain_byte, slots_of, texts_of}
-use Rattle.html_urls.specs.Pairs.{string_count}
-use Rattle.html_urls.specs.Segments.{segment_count}
 use Rattle.html_urls.proofs.Filled.Counts.{same_count}
 use Rattle.html_urls.proofs.Filled.Marks.{same_segments, same_strings}
 use Rattle.html_urls.proofs.Filled.FirstSlot.{both_fill, same_head}

@@ -2,8 +2,8 @@ use Rattle.std.proofs.Common.{arith}
 use Rattle.std.proofs.lemmas.List.Elements.{All-from_get_or}
 use Rattle.percent_encoding.proofs.PercentLemmas.{IsByte}
 use Rattle.html_urls.specs.Inputs.{kept}
-use Rattle.html_urls.specs.Rests.{path_of}
-use Rattle.html_urls.specs.Segments.{last_segment}
+use Rattle.html_urls.specs.Parts.Rests.{path_of}
+use Rattle.html_urls.specs.Parts.Segments.{last_segment}
 use Rattle.html_urls.proofs.Paths.SegmentFits.{own_segment}
 use Rattle.html_urls.proofs.laws.whole_segment_law.Goals as goal
 

@@ -7,8 +7,8 @@ use Rattle.url.specs.Parts.{Parts, kind_of, query_set}
 use Rattle.html_urls.specs.Components.{component}
 use Rattle.html_urls.specs.Hosts.{FixesHost}
 use Rattle.html_urls.specs.Inputs.{EndsVisibly, kept}
-use Rattle.html_urls.specs.Rests.{fragment_of, path_of, query_of}
-use Rattle.html_urls.specs.Segments.{HasNoDotSegments, IsNoDotSegment, last_segment}
+use Rattle.html_urls.specs.Parts.Rests.{fragment_of, path_of, query_of}
+use Rattle.html_urls.specs.Parts.Segments.{HasNoDotSegments, IsNoDotSegment, last_segment}
 
 -- none of `#`, `?` and `\`
 abbrev pub is_path_byte : ℕ → Bool

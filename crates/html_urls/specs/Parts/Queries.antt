@@ -7,7 +7,7 @@ use Rattle.url.specs.Input.{split_once}
 use Rattle.url.specs.Parts.{Parts, kind_of, query_set}
 use Rattle.html_urls.specs.Components.{component}
 use Rattle.html_urls.specs.Inputs.{EndsVisibly, kept}
-use Rattle.html_urls.specs.Rests.{before_fragment, fragment_of}
+use Rattle.html_urls.specs.Parts.Rests.{before_fragment, fragment_of}
 
 -- the front of a URL has a `?`, and no `#`
 pub record EndsInQuery (front : List ℕ) : Type 0 where

@@ -1,0 +1,6 @@
+pub mod Fragments
+pub mod Pairs
+pub mod Paths
+pub mod Queries
+pub mod Rests
+pub mod Segments
