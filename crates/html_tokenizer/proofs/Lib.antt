@@ -8,3 +8,4 @@ pub mod Staying
 pub mod Stretches
 pub mod Slots
 pub mod Agreement
+pub mod UrlValues

@@ -1,4 +1,5 @@
 pub mod Tokenizer
 pub mod Standing
 pub mod Tokens
+pub mod UrlValues
 pub mod Agreement

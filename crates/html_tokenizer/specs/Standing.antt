@@ -1,7 +1,7 @@
 -- Where a slot stands in what was read, and where a page may end.
 use Rattle.std.specs.Prelude.{◌≡◌, ⊤, Bool, true, false, ◌&&◌, ◌==◌, if◌then◌else◌}
 use Rattle.html_tokenizer.specs.declared.reader.Standing.{Standing}
-use Rattle.html_tokenizer.specs.declared.reader.Standing.TheVariants.{Stands, Nowhere, Barred}
+use Rattle.html_tokenizer.specs.declared.reader.Standing.TheVariants.{Stands, InUrl, InLink, Nowhere, Barred}
 use Rattle.html_tokenizer.specs.declared.slot_place.SlotPlace.{SlotPlace}
 use Rattle.html_tokenizer.specs.declared.slot_place.SlotPlace.TheVariants.{Text, DoubleQuoted, SingleQuoted, Unquoted, ScriptSingle, ScriptDouble, StyleSingle, StyleDouble}
 use Rattle.html_tokenizer.specs.declared.states.Code.{Code}
@@ -10,13 +10,20 @@ use Rattle.html_tokenizer.specs.declared.elements.OpenElement.{OpenElement}
 use Rattle.html_tokenizer.specs.declared.elements.OpenElement.TheVariants as element
 use Rattle.html_tokenizer.specs.Tokenizer.Code.Escapes.{is_opaque}
 use Rattle.html_tokenizer.specs.Tokenizer.States as state
-use Rattle.html_tokenizer.specs.Tokenizer.States.{State, Attribute, Tokenizer, at, refused}
+use Rattle.html_tokenizer.specs.Tokenizer.States.{State, Attribute, Tokenizer, at_value, refused}
 use Rattle.html_tokenizer.specs.Tokenizer.Elements.{is_normal}
 
--- a slot in the value of an attribute, if its text would mean itself
+-- a slot in the value of an attribute, if its text would mean itself or stand in a URL
 abbrev pub unless_forbidden : Attribute → SlotPlace → Standing
 unless_forbidden state.Ordinary p = Stands p
+unless_forbidden state.Url p = InUrl p
+unless_forbidden state.Link p = InLink p
 unless_forbidden other p = Barred
+
+-- a slot with which a value without quotes begins: no URL
+abbrev pub before_value : Attribute → Standing
+before_value state.Ordinary = Stands Unquoted
+before_value other = Barred
 
 -- a slot in code is nowhere, and where the rest takes none, in a second language
 abbrev pub in_code : Code → Standing
@@ -30,7 +37,7 @@ in_content other standing = standing
 -- where a slot stands: within a value, or where a value without quotes may begin
 abbrev pub standing_in : State → Content → Attribute → Standing
 standing_in (state.In p) content attribute = in_content content.element (unless_forbidden attribute p)
-standing_in state.BeforeValue content attribute = unless_forbidden attribute Unquoted
+standing_in state.BeforeValue content attribute = before_value attribute
 standing_in (state.InCode kind) content attribute = in_code kind
 standing_in other content attribute = Nowhere
 
@@ -50,15 +57,19 @@ is_same other another = false
 
 abbrev pub stands : SlotPlace → Standing → Bool
 stands p (Stands q) = is_same p q
+stands p (InUrl q) = is_same p q
+stands p (InLink q) = is_same p q
 stands p other = false
 
 -- the tokenizer after a slot at this place, by the template alone
 abbrev pub state_after_slot : SlotPlace → Tokenizer → Tokenizer
-state_after_slot p t = if stands p (standing t) then at (state.In p) t.content else refused
+state_after_slot p t = if stands p (standing t) then at_value (state.In p) t.content t.attribute else refused
 
 -- where the tokenizer goes at a slot
 abbrev pub AfterStanding : Standing → Tokenizer → Tokenizer → Type 0
 AfterStanding (Stands p) old new = new ≡ state_after_slot p old
+AfterStanding (InUrl p) old new = new ≡ state_after_slot p old
+AfterStanding (InLink p) old new = new ≡ state_after_slot p old
 AfterStanding other old new = ⊤
 
 abbrev pub is_refused : State → Bool

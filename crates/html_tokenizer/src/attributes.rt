@@ -1,12 +1,10 @@
 //! What the names of attributes, and the values of some of them, mean.
 pub(crate) mod encodings;
 
-ghost use Rattle.std.specs.Prelude.{◌≡◌, ℕ, List, [], ◌==◌, if◌then◌else◌, true};
-ghost use Rattle.hesc_specs.specs.Text.Ascii.{slash};
-ghost use Rattle.html_tokenizer.specs.Tokenizer.Attributes.{attribute_of, begins_path, content_after, holds_language, holds_url, is_javascript, is_script_tag, is_switch, names_script_type, raw_value, reference_read, scheme_end, value_byte_read, value_of};
+ghost use Rattle.std.specs.Prelude.{◌≡◌, ℕ, List, [], true};
+ghost use Rattle.html_tokenizer.specs.Tokenizer.Attributes.{attribute_of, content_after, followed, holds_language, holds_url, holds_urls, is_javascript, is_script_tag, is_switch, names_script_type, raw_value, reference_read, value_byte_read, value_of};
 ghost use Rattle.html_tokenizer.specs.Tokenizer.Elements.{is_meta};
 ghost use Rattle.html_tokenizer.specs.Tokenizer.Phases.{attribute_in, moved, word_after};
-ghost use Rattle.html_tokenizer.specs.declared.states.Kind.TheVariants as kind;
 
 use crate::attributes::encodings::{is_utf_8, names_no_other};
 use crate::elements::{Content, OpenElement, is_meta, with_element};
@@ -28,7 +26,21 @@ fn holds_url(name: &[u8]) -> bool
         || name == b"data".as_slice()
         || name == b"xlink:href".as_slice()
         || name == b"poster".as_slice()
-        || name == b"ping".as_slice()
+        || name == b"cite".as_slice()
+        || name == b"background".as_slice()
+        || name == b"longdesc".as_slice()
+        || name == b"manifest".as_slice()
+        || name == b"codebase".as_slice()
+}
+
+fn holds_urls(name: &[u8]) -> bool
+    ensures { result ≡ holds_urls name.now }
+{
+    name == b"ping".as_slice()
+        || name == b"srcset".as_slice()
+        || name == b"imagesrcset".as_slice()
+        || name == b"archive".as_slice()
+        || name == b"attributionsrc".as_slice()
 }
 
 fn is_switch(name: &[u8]) -> bool
@@ -43,12 +55,22 @@ fn is_switch(name: &[u8]) -> bool
 fn attribute_of(name: &[u8]) -> Kind
     ensures { attribute_in result [] ≡ attribute_of name.now }
 {
-    if holds_language(name) || is_switch(name) {
+    if holds_language(name) || is_switch(name) || holds_urls(name) {
         Kind::Forbidden
     } else if holds_url(name) {
-        Kind::Scheme
+        Kind::Url
     } else {
         Kind::Ordinary
+    }
+}
+
+// The same where the element only shows or follows its URLs.
+fn followed(kind: Kind) -> Kind
+    ensures { (word : List ℕ) → attribute_in result word ≡ followed (attribute_in kind word) }
+{
+    match kind {
+        Kind::Url => Kind::Link,
+        _ => kind,
     }
 }
 
@@ -126,6 +148,10 @@ pub(crate) fn value_of(content: Content, name: &[u8]) -> Move
     match content.element {
         OpenElement::Script | OpenElement::DataBlock => script_value(content, name),
         element if is_meta(element) => meta_value(content, name),
+        OpenElement::LinkTag => {
+            let kind = followed(attribute_of(name));
+            in_value(Phase::BeforeValue, content, kind, Word::New)
+        }
         OpenElement::NoScript | OpenElement::NoScriptStyle | OpenElement::NoScriptFrame => {
             raw_value(content, name)
         }
@@ -139,7 +165,7 @@ pub(crate) fn content_after(content: Content, kind: Kind, word: &[u8]) -> Option
     ensures { result ≡ content_after content (attribute_in kind word.now) }
 {
     match kind {
-        Kind::Ordinary => Some(content),
+        Kind::Ordinary | Kind::Forbidden | Kind::Link | Kind::Url => Some(content),
         _ => content_after_word(content, kind, word),
     }
 }
@@ -159,53 +185,17 @@ fn content_after_word(content: Content, kind: Kind, word: &[u8]) -> Option<Conte
     }
 }
 
-fn begins_path(byte: u8) -> bool
-    ensures { result ≡ begins_path byte }
-{
-    matches!(byte, b'/' | b'?' | b'#')
-}
-
-fn scheme_end(scheme: &[u8]) -> Kind
-    ensures { (word : List ℕ) → attribute_in result word ≡ scheme_end scheme.now }
-{
-    if scheme == b"https".as_slice() || scheme == b"http".as_slice() {
-        Kind::AfterScheme
-    } else if scheme == b"mailto".as_slice() || scheme == b"tel".as_slice() {
-        Kind::Ordinary
-    } else {
-        Kind::Forbidden
-    }
-}
-
 /// After one byte more of an attribute's value, and what becomes of the word.
 pub(crate) fn value_byte_read(kind: Kind, word: &[u8], byte: u8) -> (Kind, Word)
     ensures { attribute_in result.0 (word_after result.1 word.now)
         ≡ value_byte_read (attribute_in kind word.now) byte }
 {
-    let next = match kind {
-        Kind::Raw if byte == b'<' => Kind::Unread,
-        Kind::Ordinary | Kind::Forbidden | Kind::Unread | Kind::Raw => kind,
-        Kind::Scheme | Kind::Host if begins_path(byte) => Kind::Ordinary,
-        Kind::AfterSlashes if begins_path(byte) => Kind::Forbidden,
-        Kind::AfterSlashes | Kind::Host => Kind::Host,
-        Kind::Scheme if byte == b':' => scheme_end(word),
-        Kind::AfterScheme => slash_read(Kind::AfterSlash, byte),
-        Kind::AfterSlash => slash_read(Kind::AfterSlashes, byte),
-        Kind::Scheme | Kind::ScriptType | Kind::Encoding | Kind::Pragma | Kind::PageType => {
-            return (kind, Word::Add(byte.to_ascii_lowercase()));
+    match kind {
+        Kind::ScriptType | Kind::Encoding | Kind::Pragma | Kind::PageType => {
+            (kind, Word::Add(byte.to_ascii_lowercase()))
         }
-    };
-    (next, Word::New)
-}
-
-// After a byte that has to be a `/`.
-fn slash_read(following: Kind, byte: u8) -> Kind
-    ensures { result ≡ if byte == slash then following else kind.Forbidden }
-{
-    if byte == b'/' {
-        following
-    } else {
-        Kind::Forbidden
+        Kind::Raw if byte == b'<' => (Kind::Unread, Word::New),
+        _ => (kind, Word::New),
     }
 }
 
@@ -215,7 +205,7 @@ pub(crate) fn reference_read(kind: Kind) -> Kind
         ≡ reference_read (attribute_in kind word) }
 {
     match kind {
-        Kind::Ordinary => Kind::Ordinary,
+        Kind::Ordinary | Kind::Link | Kind::Url => kind,
         Kind::Encoding | Kind::Pragma | Kind::PageType | Kind::Unread => Kind::Unread,
         Kind::Raw => Kind::Raw,
         _ => Kind::Forbidden,

@@ -1,15 +1,15 @@
 //! How the content of each element is read, by the names of its tags.
 pub(crate) mod restricted;
 
-ghost use Rattle.std.specs.Prelude.{◌≡◌, ℕ, List};
-ghost use Rattle.html_tokenizer.specs.Tokenizer.Elements.{around, beside, closed, content_of, content_state, element_of, ends_content, holds_comments, holds_markup, in_normal, inside, inside_element, is_meta, is_template, with_element};
+ghost use Rattle.std.specs.Prelude.{◌≡◌, ◌||◌, ℕ, List, bytes_eq, codes};
+ghost use Rattle.html_tokenizer.specs.Tokenizer.Elements.{around, beside, closed, content_of, content_state, element_of, ends_content, follows_urls, holds_comments, holds_markup, in_normal, inside, inside_element, is_meta, is_template, with_element};
 ghost use Rattle.html_tokenizer.specs.Tokenizer.Phases.{state_of};
 
 use crate::elements::restricted::{in_math, in_noscript, in_select, in_svg, is_left_out};
 use crate::slot_place::SlotPlace;
 use crate::states::{Code, Phase};
 
-/// How the content of the element that is open is read, and for a `meta`, an `svg` and a `math` its tag.
+/// How the content of the element that is open is read, and for some its tag.
 #[derive(Clone, Copy, Debug, PartialEq, Eq)]
 pub enum OpenElement {
     /// Text and elements.
@@ -42,6 +42,8 @@ pub enum OpenElement {
     MetaPragma,
     /// The same after the `http-equiv` that says the type of the page.
     MetaType,
+    /// The tag of an element that only shows or follows its URLs, as `a` and `img`.
+    LinkTag,
     /// The tag of an `svg`.
     SvgTag,
     /// In an `svg`, text up to the end tag of `title`.
@@ -83,6 +85,25 @@ impl Content {
     };
 }
 
+fn follows_urls(name: &[u8]) -> bool
+    ensures { result ≡ follows_urls name.now }
+{
+    name == b"a".as_slice()
+        || name == b"img".as_slice()
+        || name == b"input".as_slice()
+        || name == b"form".as_slice()
+        || name == b"button".as_slice()
+        || name == b"area".as_slice()
+        || name == b"source".as_slice()
+        || name == b"video".as_slice()
+        || name == b"audio".as_slice()
+        || name == b"track".as_slice()
+        || name == b"blockquote".as_slice()
+        || name == b"q".as_slice()
+        || name == b"ins".as_slice()
+        || name == b"del".as_slice()
+}
+
 fn in_normal(name: &[u8]) -> Option<OpenElement>
     ensures { result ≡ in_normal name.now }
 {
@@ -106,6 +127,8 @@ fn in_normal(name: &[u8]) -> Option<OpenElement>
         Some(OpenElement::NoScript)
     } else if name == b"iframe".as_slice() {
         Some(OpenElement::Frame)
+    } else if follows_urls(name) {
+        Some(OpenElement::LinkTag)
     } else if is_left_out(name) {
         None
     } else {
@@ -138,13 +161,22 @@ pub(crate) fn with_element(content: Content, element: OpenElement) -> Content
     Content { element, ..content }
 }
 
+// The names that are asked for in a normal content and have fewer than three letters.
+#[inline(always)]
+fn is_a_or_q(name: &[u8]) -> bool
+    ensures { result ≡ (bytes_eq name.now (codes "a") || bytes_eq name.now (codes "q")) }
+{
+    matches!(name, [b'a' | b'q'])
+}
+
 /// What is open after the name of a start tag, if the profile has the element there.
 #[inline(always)]
 pub(crate) fn content_of(content: Content, name: &[u8]) -> Option<Content>
     ensures { result ≡ content_of content name.now }
 {
     match content.element {
-        // Most names, and none of those that are asked for in a normal content.
+        // Most names.
+        OpenElement::Normal if is_a_or_q(name) => Some(with_element(content, OpenElement::LinkTag)),
         OpenElement::Normal if name.len() < 3 => Some(with_element(content, OpenElement::Normal)),
         _ => content_of_long(content, name),
     }
@@ -191,7 +223,8 @@ fn inside_element(element: OpenElement) -> OpenElement
         OpenElement::Meta
         | OpenElement::MetaContent
         | OpenElement::MetaPragma
-        | OpenElement::MetaType => OpenElement::Normal,
+        | OpenElement::MetaType
+        | OpenElement::LinkTag => OpenElement::Normal,
         OpenElement::DataBlock => OpenElement::Script,
         OpenElement::SvgTag => OpenElement::Svg,
         OpenElement::MathTag => OpenElement::Math,

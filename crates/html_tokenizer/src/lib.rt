@@ -3,8 +3,8 @@
 //! A [`Reader`] reads markup as the HTML Standard's tokenizer does, in a profile that takes no slot
 //! where it cannot tell, and refuses what a browser may read in two ways. It reads at once stretches of
 //! bytes that leave its state as it is, and names; text, tags and values go by in the order of their
-//! states, and all else byte by byte. It says at which place of the page a slot stands. One function for
-//! each state or group of states, and one definition for each of them.
+//! states, and all else byte by byte. It says at which place of the page a slot stands, and whether in
+//! a URL. One function for each state or group of states, and one definition for each of them.
 #![tactic(auto)]
 
 mod attributes;

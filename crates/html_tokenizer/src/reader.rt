@@ -2,12 +2,13 @@
 pub(crate) mod names;
 pub(crate) mod stretches;
 
-ghost use Rattle.std.specs.Prelude.{◌≡◌, ◌≤◌, ◌↔◌, OnOk, IsTrue, length};
+ghost use Rattle.std.specs.Prelude.{◌≡◌, ◌≤◌, ◌↔◌, [], OnOk, IsTrue, length};
 ghost use Rattle.html_tokenizer.specs.Standing.{AfterStanding, is_refused, may_end, standing};
 ghost use Rattle.html_tokenizer.specs.Tokenizer.Attributes.{reference_read};
 ghost use Rattle.html_tokenizer.specs.Tokenizer.Code.Strings.{script_escape_byte};
-ghost use Rattle.html_tokenizer.specs.Tokenizer.Phases.{IsBeforeName, IsNoScriptEscape, IsTextOrValue, ReadsOn, attribute_in, moved, tokenizer_of};
+ghost use Rattle.html_tokenizer.specs.Tokenizer.Phases.{HoldsLetters, IsBeforeName, IsNoScriptEscape, IsTextOrValue, ReadsOn, attribute_in, moved, tokenizer_of};
 ghost use Rattle.html_tokenizer.specs.Tokenizer.States.{at, data_state};
+ghost use Rattle.html_tokenizer.specs.Tokenizer.Stretches.{IsSettled};
 ghost use Rattle.html_tokenizer.specs.Tokenizer.Tokenization.{consume, state_after};
 ghost use Rattle.html_tokenizer.specs.declared.states.Kind.TheVariants as kind;
 ghost use Rattle.html_tokenizer.specs.declared.states.Phase.TheVariants as phase;
@@ -27,6 +28,10 @@ use std::alloc::{AllocError, Allocator};
 pub enum Standing {
     /// At a place for a text.
     Stands(SlotPlace),
+    /// In a URL, at this place of the page.
+    InUrl(SlotPlace),
+    /// The same in a URL that its element only shows or follows.
+    InLink(SlotPlace),
     /// Where a text would be read in a second language.
     Barred,
     /// Where no text may stand.
@@ -244,7 +249,8 @@ impl<A: Allocator> Reader<A> {
     // Reads on in a name, a reference or an end tag of text or code.
     #[inline]
     fn read_held(&mut self, bytes: &[u8], done: &mut usize) -> Result<(), AllocError>
-        requires kind { self.old.kind ≡ kind.Ordinary }
+        requires kind { IsSettled self.old.kind }
+        requires letters { HoldsLetters self.old.phase (attribute_in self.old.kind []) }
         requires within { done.old ≤ length bytes.now }
         ensures { OnOk result (ReadsOn (tokenizer_of self.old) (tokenizer_of self.new)
             bytes.now done.old done.new) }
@@ -288,11 +294,12 @@ impl<A: Allocator> Reader<A> {
                 Phase::TagName
                 | Phase::EndTagName
                 | Phase::Name
-                | Phase::Within(_)
                 | Phase::ValueEndTag(_)
                 | Phase::CodeEndTag(_),
                 Kind::Ordinary,
-            ) => self.read_held(bytes, done),
+            )
+            | (Phase::Within(_), Kind::Ordinary | Kind::Forbidden | Kind::Link | Kind::Url) =>
+                self.read_held(bytes, done),
             (
                 Phase::In(SlotPlace::Text | SlotPlace::DoubleQuoted | SlotPlace::SingleQuoted)
                 | Phase::TagOpen
@@ -361,19 +368,15 @@ impl<A: Allocator> Reader<A> {
     fn standing(&self) -> Standing
         ensures { result ≡ standing (tokenizer_of self.now) }
     {
-        let place = match self.phase {
-            Phase::In(_) if self.content.element == OpenElement::NoScript => {
-                return Standing::Barred;
-            }
-            Phase::In(place) => place,
-            Phase::BeforeValue => SlotPlace::Unquoted,
-            Phase::InCode(code) if is_opaque(code) => return Standing::Barred,
-            _ => return Standing::Nowhere,
-        };
-        if self.kind == Kind::Ordinary {
-            Standing::Stands(place)
-        } else {
-            Standing::Barred
+        match (self.phase, self.kind) {
+            (Phase::In(_), _) if self.content.element == OpenElement::NoScript => Standing::Barred,
+            (Phase::In(place), Kind::Ordinary) => Standing::Stands(place),
+            (Phase::In(place), Kind::Url) => Standing::InUrl(place),
+            (Phase::In(place), Kind::Link) => Standing::InLink(place),
+            (Phase::BeforeValue, Kind::Ordinary) => Standing::Stands(SlotPlace::Unquoted),
+            (Phase::In(_) | Phase::BeforeValue, _) => Standing::Barred,
+            (Phase::InCode(code), _) if is_opaque(code) => Standing::Barred,
+            _ => Standing::Nowhere,
         }
     }
 
@@ -385,8 +388,11 @@ impl<A: Allocator> Reader<A> {
         ensures after { AfterStanding result (tokenizer_of self.old) (tokenizer_of self.new) }
     {
         let standing = self.standing();
-        if let Standing::Stands(place) = standing {
-            self.phase = Phase::In(place);
+        match standing {
+            Standing::Stands(place) | Standing::InUrl(place) | Standing::InLink(place) => {
+                self.phase = Phase::In(place);
+            }
+            Standing::Barred | Standing::Nowhere => {}
         }
         standing
     }

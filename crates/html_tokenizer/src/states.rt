@@ -132,11 +132,8 @@ pub(crate) enum Phase {
 pub(crate) enum Kind {
     Ordinary,
     Forbidden,
-    Scheme,
-    AfterScheme,
-    AfterSlash,
-    AfterSlashes,
-    Host,
+    Link,
+    Url,
     ScriptType,
     Encoding,
     Pragma,

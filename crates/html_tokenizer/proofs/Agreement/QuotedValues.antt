@@ -26,7 +26,7 @@ never b = false
 no : false ≡ true → ⊥
 no h = cc
 
-module _ {p : SlotPlace} {content : Content} {mark : ℕ} {class : Class} (html : ReadsHtml (In p) p content class) (other : (ampersand == mark) ≡ false)
+module _ {p : SlotPlace} {content : Content} {mark : ℕ} {class : Class} (html : ReadsHtml Ordinary (In p) p content class) (other : (ampersand == mark) ≡ false)
     (keeps_it : (b : ℕ) → (b == mark) ≡ false → (b == ampersand) ≡ false → consume (at (In p) content) b ≡ keeps p content Ordinary b) where
   at_byte : (b : ℕ) → (b == ampersand) ≡ false → AtByte (In p) p content mark never (marked_step mark Plain) b
   unfolding marked_step

@@ -81,7 +81,7 @@ pub data AtByte (start : State) (p : SlotPlace) (content : Content) (mark : ℕ)
 -- the state and the mode in which a value begins or goes on
 pub record ReadsValue (start : State) (mode : Mode) (p : SlotPlace) (content : Content) (mark : ℕ) (odd : ℕ → Bool)
     (step : Mode → List ℕ → Step) (class : Class) : Type 0 where
-  pub html : ReadsHtml start p content class
+  pub html : ReadsHtml Ordinary start p content class
   pub references : (bytes : List ℕ) → step mode (ampersand ∷ bytes) ≡ reference bytes
   pub others : (b : ℕ) → (b == ampersand) ≡ false → AtByte start p content mark odd (step mode) b
 

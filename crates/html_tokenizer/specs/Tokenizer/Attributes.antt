@@ -2,13 +2,13 @@
 pub mod Encodings
 use Rattle.std.specs.Prelude.{ℕ, Bool, true, false, ◌||◌, not, List, [], ◌∷◌, ◌++◌, ◌+◌, ◌-◌, ◌==◌, Option, Some, None, if◌then◌else◌, bytes_eq, codes}
 use Rattle.std.specs.Char.{to_ascii_lowercase}
-use Rattle.hesc_specs.specs.Text.Ascii.{less_than, number_sign, slash}
+use Rattle.hesc_specs.specs.Text.Ascii.{less_than}
 use Rattle.hesc_specs.specs.Text.Words.{begins}
 use Rattle.html_tokenizer.specs.declared.elements.Content.{Content}
 use Rattle.html_tokenizer.specs.declared.elements.OpenElement.{OpenElement}
-use Rattle.html_tokenizer.specs.declared.elements.OpenElement.TheVariants.{Script, DataBlock, Meta, MetaContent, MetaPragma, MetaType, NoScript, NoScriptStyle, NoScriptFrame}
+use Rattle.html_tokenizer.specs.declared.elements.OpenElement.TheVariants.{Script, DataBlock, Meta, MetaContent, MetaPragma, MetaType, LinkTag, NoScript, NoScriptStyle, NoScriptFrame}
 use Rattle.html_tokenizer.specs.Tokenizer.Attributes.Encodings.{is_utf_8, names_no_other}
-use Rattle.html_tokenizer.specs.Tokenizer.States.{Tokenizer, Attribute, Ordinary, Forbidden, Scheme, AfterScheme, AfterSlash, AfterSlashes, Host, ScriptType, Encoding, Pragma, PageType, Unread, Raw, BeforeValue, at_value, refused}
+use Rattle.html_tokenizer.specs.Tokenizer.States.{Tokenizer, Attribute, Ordinary, Forbidden, Link, Url, ScriptType, Encoding, Pragma, PageType, Unread, Raw, BeforeValue, at_value, refused}
 use Rattle.html_tokenizer.specs.Tokenizer.Elements.{with_element}
 
 -- event handlers, styles and pages
@@ -20,7 +20,15 @@ abbrev pub holds_url : List ℕ → Bool
 holds_url name =
     bytes_eq name (codes "href") || bytes_eq name (codes "src") || bytes_eq name (codes "action") ||
     bytes_eq name (codes "formaction") || bytes_eq name (codes "data") ||
-    bytes_eq name (codes "xlink:href") || bytes_eq name (codes "poster") || bytes_eq name (codes "ping")
+    bytes_eq name (codes "xlink:href") || bytes_eq name (codes "poster") || bytes_eq name (codes "cite") ||
+    bytes_eq name (codes "background") || bytes_eq name (codes "longdesc") ||
+    bytes_eq name (codes "manifest") || bytes_eq name (codes "codebase")
+
+-- lists of URLs: 4.8.4.2.1 Srcset attributes, 4.6.2 Links created by a and area elements
+abbrev pub holds_urls : List ℕ → Bool
+holds_urls name =
+    bytes_eq name (codes "ping") || bytes_eq name (codes "srcset") || bytes_eq name (codes "imagesrcset") ||
+    bytes_eq name (codes "archive") || bytes_eq name (codes "attributionsrc")
 
 -- values that switch something on: a tree of code in a `template` (4.12.3), what an `embed` or an `object` runs,
 -- an encoding
@@ -31,9 +39,14 @@ is_switch name =
 
 abbrev pub attribute_of : List ℕ → Attribute
 attribute_of name =
-    if holds_language name || is_switch name then Forbidden
-    else (if holds_url name then Scheme []
+    if holds_language name || is_switch name || holds_urls name then Forbidden
+    else (if holds_url name then Url
     else Ordinary)
+
+-- the same where the element only shows or follows its URLs
+abbrev pub followed : Attribute → Attribute
+followed Url = Link
+followed other = other
 
 -- the attributes that say in which language a script is: 4.12.1.1 Processing model of script
 abbrev pub names_script_type : List ℕ → Bool
@@ -93,6 +106,7 @@ value_in Meta content name =
 value_in MetaContent content name = meta_value refused (plain_value content name) content name
 value_in MetaPragma content name = meta_value refused (forbidden_value content) content name
 value_in MetaType content name = meta_value refused (at_value BeforeValue content (PageType [])) content name
+value_in LinkTag content name = at_value BeforeValue content (followed (attribute_of name))
 value_in NoScript content name = raw_value content name
 value_in NoScriptStyle content name = raw_value content name
 value_in NoScriptFrame content name = raw_value content name
@@ -110,37 +124,12 @@ content_after content (PageType value) = if names_no_other value then Some conte
 content_after content Unread = None
 content_after content other = Some content
 
-abbrev pub colon : ℕ
-colon = 58
-
-abbrev pub question_mark : ℕ
-question_mark = 63
-
--- the bytes that end a host, and before which no scheme has ended
-abbrev pub begins_path : ℕ → Bool
-begins_path b = b == slash || b == question_mark || b == number_sign
-
--- a URL of this scheme is what its host names, or no page
-abbrev pub scheme_end : List ℕ → Attribute
-scheme_end scheme =
-    if bytes_eq scheme (codes "https") || bytes_eq scheme (codes "http") then AfterScheme
-    else (if bytes_eq scheme (codes "mailto") || bytes_eq scheme (codes "tel") then Ordinary
-    else Forbidden)
-
 -- after one byte more of an attribute's value
--- URL Standard, 4.4: before the first `:` the bytes are a scheme, unless `/`, `?` or `#` stands before
--- it; after `http:` and `https:` come `//`, a host, and `/`, `?` or `#`
 abbrev pub value_byte_read : Attribute → ℕ → Attribute
 value_byte_read Ordinary b = Ordinary
 value_byte_read Forbidden b = Forbidden
-value_byte_read (Scheme scheme) b =
-    if begins_path b then Ordinary
-    else (if b == colon then scheme_end scheme
-    else Scheme (scheme ++ to_ascii_lowercase b ∷ []))
-value_byte_read AfterScheme b = if b == slash then AfterSlash else Forbidden
-value_byte_read AfterSlash b = if b == slash then AfterSlashes else Forbidden
-value_byte_read AfterSlashes b = if begins_path b then Forbidden else Host
-value_byte_read Host b = if begins_path b then Ordinary else Host
+value_byte_read Link b = Link
+value_byte_read Url b = Url
 value_byte_read (ScriptType type) b = ScriptType (type ++ to_ascii_lowercase b ∷ [])
 value_byte_read (Encoding label) b = Encoding (label ++ to_ascii_lowercase b ∷ [])
 value_byte_read (Pragma name) b = Pragma (name ++ to_ascii_lowercase b ∷ [])
@@ -151,6 +140,8 @@ value_byte_read Raw b = if b == less_than then Unread else Raw
 -- in a reference or an escape, whose character the profile does not add to what it holds of the value
 abbrev pub reference_read : Attribute → Attribute
 reference_read Ordinary = Ordinary
+reference_read Link = Link
+reference_read Url = Url
 reference_read (Encoding label) = Unread
 reference_read (Pragma name) = Unread
 reference_read (PageType value) = Unread

@@ -6,12 +6,22 @@ use Rattle.html_tokenizer.specs.declared.slot_place.SlotPlace.TheVariants as pla
 use Rattle.html_tokenizer.specs.declared.states.Code.TheVariants.{Plain, Opaque}
 use Rattle.html_tokenizer.specs.declared.elements.Content.{Content}
 use Rattle.html_tokenizer.specs.declared.elements.OpenElement.{OpenElement}
-use Rattle.html_tokenizer.specs.declared.elements.OpenElement.TheVariants.{Normal, Title, Textarea, Script, DataBlock, Style, Frame, Meta, MetaContent, MetaPragma, MetaType, SvgTag, Svg, SvgTitle, SvgStyle, MathTag, Math, MathMi, MathMo, MathMn, MathMs, MathMtext, Select, NoScript, NoScriptStyle, NoScriptFrame}
+use Rattle.html_tokenizer.specs.declared.elements.OpenElement.TheVariants.{Normal, Title, Textarea, Script, DataBlock, Style, Frame, Meta, MetaContent, MetaPragma, MetaType, LinkTag, SvgTag, Svg, SvgTitle, SvgStyle, MathTag, Math, MathMi, MathMo, MathMn, MathMs, MathMtext, Select, NoScript, NoScriptStyle, NoScriptFrame}
 use Rattle.html_tokenizer.specs.Tokenizer.Elements.Restricted.{is_left_out, in_svg, in_math, in_select, in_noscript}
 use Rattle.html_tokenizer.specs.Tokenizer.States as state
 use Rattle.html_tokenizer.specs.Tokenizer.States.{State}
 
--- in a normal content, how the content of an element is read, and for a `meta`, an `svg` and a `math` its tag
+-- elements that only show what their URLs name, or go there when the reader follows them: it runs in no page of ours, where
+-- the scheme is one of the web
+abbrev pub follows_urls : List ℕ → Bool
+follows_urls name =
+    bytes_eq name (codes "a") || bytes_eq name (codes "img") || bytes_eq name (codes "input") ||
+    bytes_eq name (codes "form") || bytes_eq name (codes "button") || bytes_eq name (codes "area") ||
+    bytes_eq name (codes "source") || bytes_eq name (codes "video") || bytes_eq name (codes "audio") ||
+    bytes_eq name (codes "track") || bytes_eq name (codes "blockquote") || bytes_eq name (codes "q") ||
+    bytes_eq name (codes "ins") || bytes_eq name (codes "del")
+
+-- in a normal content, how the content of an element is read, and for some its tag
 -- 13.2.6.4.4 The "in head" insertion mode, 13.2.6.4.7 The "in body" insertion mode
 abbrev pub in_normal : List ℕ → Option OpenElement
 in_normal name =
@@ -25,8 +35,9 @@ in_normal name =
     else (if bytes_eq name (codes "select") then Some Select
     else (if bytes_eq name (codes "noscript") then Some NoScript
     else (if bytes_eq name (codes "iframe") then Some Frame
+    else (if follows_urls name then Some LinkTag
     else (if is_left_out name then None
-    else Some Normal))))))))))
+    else Some Normal)))))))))))
 
 abbrev pub element_of : OpenElement → List ℕ → Option OpenElement
 element_of Svg name = in_svg name
@@ -73,6 +84,7 @@ inside_element MetaContent = Normal
 inside_element MetaPragma = Normal
 inside_element MetaType = Normal
 inside_element DataBlock = Script
+inside_element LinkTag = Normal
 inside_element SvgTag = Svg
 inside_element MathTag = Math
 inside_element other = other

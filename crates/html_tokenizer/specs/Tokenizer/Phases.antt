@@ -9,6 +9,7 @@ use Rattle.html_tokenizer.specs.declared.states.Phase.{Phase}
 use Rattle.html_tokenizer.specs.declared.states.Phase.TheVariants as phase
 use Rattle.html_tokenizer.specs.declared.states.Word.{Word}
 use Rattle.html_tokenizer.specs.declared.states.Word.TheVariants.{New, Keep, Begin, Add}
+use Rattle.html_tokenizer.specs.Tokenizer.Attributes.{reference_read}
 use Rattle.html_tokenizer.specs.Tokenizer.States as state
 use Rattle.html_tokenizer.specs.Tokenizer.States.{State, Attribute, Tokenizer, at_value}
 use Rattle.html_tokenizer.specs.Tokenizer.Tokenization.{state_after}
@@ -55,11 +56,8 @@ state_of phase.Refused word = state.Refused
 abbrev pub attribute_in : Kind → List ℕ → Attribute
 attribute_in kind.Ordinary word = state.Ordinary
 attribute_in kind.Forbidden word = state.Forbidden
-attribute_in kind.Scheme word = state.Scheme word
-attribute_in kind.AfterScheme word = state.AfterScheme
-attribute_in kind.AfterSlash word = state.AfterSlash
-attribute_in kind.AfterSlashes word = state.AfterSlashes
-attribute_in kind.Host word = state.Host
+attribute_in kind.Link word = state.Link
+attribute_in kind.Url word = state.Url
 attribute_in kind.ScriptType word = state.ScriptType word
 attribute_in kind.Encoding word = state.Encoding word
 attribute_in kind.Pragma word = state.Pragma word
@@ -116,3 +114,9 @@ IsInName phase.TagName = ⊤
 IsInName phase.EndTagName = ⊤
 IsInName phase.Name = ⊤
 IsInName other = ⊥
+
+-- a letter that the state holds leaves the attribute as it is: in a reference each that a reference leaves so, elsewhere an
+-- ordinary one
+abbrev pub HoldsLetters : Phase → Attribute → Type 0
+HoldsLetters (phase.Within p) attribute = reference_read attribute ≡ attribute
+HoldsLetters other attribute = attribute ≡ state.Ordinary

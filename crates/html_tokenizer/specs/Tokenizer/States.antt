@@ -78,15 +78,11 @@ pub data State : Type 0 where
 pub data Attribute : Type 0 where
   -- itself
   Ordinary : Attribute
-  -- code, a style, a page, or a URL of a scheme that cannot be told
+  -- code, a style, a page, or a list of URLs
   Forbidden : Attribute
-  -- URL Standard, 4.4, scheme state: a URL, and its bytes so far
-  Scheme : List ℕ → Attribute
-  -- after `http:` or `https:`, after the first `/`, after the second, and in the host
-  AfterScheme : Attribute
-  AfterSlash : Attribute
-  AfterSlashes : Attribute
-  Host : Attribute
+  -- a URL, of an element that only shows or follows it, and of another one
+  Link : Attribute
+  Url : Attribute
   -- the type of a script, and its bytes so far
   ScriptType : List ℕ → Attribute
   -- of a `meta`: its `charset`, its `http-equiv`, its `content` where that is the type of the page, and their bytes so far

@@ -81,6 +81,8 @@ is_scanned element other = false
 abbrev pub IsSettled : Kind → Type 0
 IsSettled kind.Ordinary = ⊤
 IsSettled kind.Forbidden = ⊤
+IsSettled kind.Link = ⊤
+IsSettled kind.Url = ⊤
 IsSettled other = ⊥
 
 -- a byte as a name of a tag or an attribute holds it, if it is a letter, a digit or `-`

@@ -4,6 +4,7 @@ ghost use Rattle.html_tokenizer.specs.Tokenizer.Elements.Restricted.{in_math, in
 
 use crate::elements::OpenElement;
 
+#[inline(always)]
 pub(crate) fn is_left_out(name: &[u8]) -> bool
     ensures { result ≡ is_left_out name.now }
 {

@@ -1,7 +1,7 @@
 //! Names, references and end tags of text and code: the letters with which they go on, held on the stack.
 ghost use Rattle.std.specs.Prelude.{◌≡◌, ◌≤◌, ◌+◌, ◌++◌, ◌∷◌, [], ℕ, List, length, take, IfSome};
-ghost use Rattle.html_tokenizer.specs.Tokenizer.Phases.{IsInName, moved, state_of};
-ghost use Rattle.html_tokenizer.specs.Tokenizer.States.{at};
+ghost use Rattle.html_tokenizer.specs.Tokenizer.Phases.{HoldsLetters, IsInName, moved, state_of};
+ghost use Rattle.html_tokenizer.specs.Tokenizer.States.{Attribute, at, at_value};
 ghost use Rattle.html_tokenizer.specs.Tokenizer.Tokenization.{consume, state_after};
 ghost use Rattle.html_tokenizer.specs.declared.elements.Content.{Content};
 
@@ -31,9 +31,10 @@ pub(crate) fn begun_name(next: Move) -> Option<(Phase, u8)>
 #[inline(always)]
 #[tactic(auto, unfolding(crate::specs::Tokenizer::Tokenization::consume))]
 fn held_letter(phase: Phase, byte: u8) -> Option<u8>
-    ensures { IfSome result (λ letter. (content : Content) (word : List ℕ)
-        → (consume (at (state_of phase word) content) byte).next
-        ≡ at (state_of phase (word ++ letter ∷ [])) content) }
+    ensures { IfSome result (λ letter. (content : Content) (attribute : Attribute)
+        (word : List ℕ) → HoldsLetters phase attribute
+        → (consume (at_value (state_of phase word) content attribute) byte).next
+        ≡ at_value (state_of phase (word ++ letter ∷ [])) content attribute) }
 {
     match phase {
         Phase::TagName | Phase::EndTagName | Phase::Name => name_letter(byte),
@@ -60,10 +61,11 @@ pub(crate) fn read_letters(
     requires { already ≤ 32 }
     ensures within { result ≤ length bytes.now }
     ensures room { already + result ≤ 32 }
-    ensures read { (content : Content) (word : List ℕ)
-        → state_after (at (state_of phase (word ++ take already letters.old)) content)
+    ensures read { (content : Content) (attribute : Attribute) (word : List ℕ)
+        → HoldsLetters phase attribute
+        → state_after (at_value (state_of phase (word ++ take already letters.old)) content attribute)
         (take result bytes.now)
-        ≡ at (state_of phase (word ++ take (already + result) letters.new)) content }
+        ≡ at_value (state_of phase (word ++ take (already + result) letters.new)) content attribute }
 {
     let mut count = 0;
     'letters: while count < bytes.len() && count < MOST_LETTERS - already {

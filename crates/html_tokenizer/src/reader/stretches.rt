@@ -145,7 +145,9 @@ pub(crate) fn stretch(phase: Phase, content: Content, kind: Kind, bytes: &[u8]) 
         ≡ at_value (state_of phase word) content (attribute_in kind word) }
 {
     match (phase, kind) {
-        (Phase::In(place), Kind::Ordinary | Kind::Forbidden) => value_stretch(place, bytes),
+        (Phase::In(place), Kind::Ordinary | Kind::Forbidden | Kind::Link | Kind::Url) => {
+            value_stretch(place, bytes)
+        }
         (Phase::InCode(code), Kind::Ordinary) => code_stretch(code, content.element, bytes),
         (Phase::Comment, Kind::Ordinary) => first_byte(b'-', bytes, 0),
         _ => 0,
@@ -163,15 +165,16 @@ pub(crate) fn text_stretch(phase: Phase, kind: Kind, bytes: &[u8]) -> usize
         ≡ at_value (state_of phase word) content (attribute_in kind word) }
 {
     match (phase, kind) {
-        (Phase::In(SlotPlace::Text), Kind::Ordinary | Kind::Forbidden) => first_near(
-            b'<', b'&', bytes,
-        ),
-        (Phase::In(SlotPlace::DoubleQuoted), Kind::Ordinary | Kind::Forbidden) => first_near(
-            b'"', b'&', bytes,
-        ),
-        (Phase::In(SlotPlace::SingleQuoted), Kind::Ordinary | Kind::Forbidden) => first_near(
-            b'\'', b'&', bytes,
-        ),
+        (Phase::In(SlotPlace::Text), Kind::Ordinary | Kind::Forbidden | Kind::Link | Kind::Url) =>
+            first_near(b'<', b'&', bytes),
+        (
+            Phase::In(SlotPlace::DoubleQuoted),
+            Kind::Ordinary | Kind::Forbidden | Kind::Link | Kind::Url,
+        ) => first_near(b'"', b'&', bytes),
+        (
+            Phase::In(SlotPlace::SingleQuoted),
+            Kind::Ordinary | Kind::Forbidden | Kind::Link | Kind::Url,
+        ) => first_near(b'\'', b'&', bytes),
         _ => 0,
     }
 }

@@ -1,5 +1,6 @@
-use Rattle.std.proofs.Common.{◌≡◌, ◌+◌, append-nil, arith, sym}
-use Rattle.html_tokenizer.specs.Tokenizer.Phases.{tokenizer_of}
+use Rattle.std.proofs.Common.{◌≡◌, ◌+◌, [], append-nil, arith, sym}
+use Rattle.html_tokenizer.specs.Tokenizer.Phases.{attribute_in, tokenizer_of}
+use Rattle.html_tokenizer.proofs.HeldWords.{settled_held}
 use Rattle.html_tokenizer.proofs.Staying.{reads_more}
 use Rattle.html_tokenizer.proofs.reader.Reader.read_held.Goals as goal
 
@@ -11,7 +12,11 @@ returns g c = record {
       let self = c.args.self.now in
       let count = c.read_letters-count.result in
       let all : 0 + count ≡ count = omega arith in
+      let attribute = attribute_in self.kind [] in
       reads_more start (tokenizer_of self) _ c.args.bytes.now c.args.done.now count before
-      (rw (c.requires.kind, c.in_ok-extend_from_slice.ensures.items)
-      (sym (rw (append-nil self.word.items, all) at (c.read_letters-count.ensures.read self.content self.word.items))));
+      (rw (
+        settled_held self.kind self.word.items [] c.requires.kind,
+        settled_held self.kind c.extend_from_slice.new.self.items [] c.requires.kind,
+        c.in_ok-extend_from_slice.ensures.items,
+      ) (sym (rw (append-nil self.word.items, all) at (c.read_letters-count.ensures.read self.content attribute self.word.items c.requires.letters))));
 }

@@ -1,8 +1,9 @@
 use Rattle.std.proofs.Common.{◌≡◌, ◌+◌, ◌∷◌, [], arith, sym, take, ◌∙◌}
 use Rattle.html_tokenizer.specs.declared.states.Kind.TheVariants as kind
 use Rattle.html_tokenizer.specs.Tokenizer.Phases.{state_of, tokenizer_of}
-use Rattle.html_tokenizer.specs.Tokenizer.States.{Tokenizer, at}
+use Rattle.html_tokenizer.specs.Tokenizer.States.{Ordinary, Tokenizer, at}
 use Rattle.html_tokenizer.specs.Tokenizer.Tokenization.{consume, state_after}
+use Rattle.html_tokenizer.proofs.HeldWords.{ordinary_holds}
 use Rattle.html_tokenizer.proofs.Staying.{reads_longer, reads_more}
 use Rattle.html_tokenizer.proofs.reader.Reader.read_name.Goals as goal
 
@@ -36,7 +37,7 @@ returns-then-done-bytes-2 g c = record {
       let named : Tokenizer = at (state_of c.in-Some.name (take (1 + c.read_letters-count.result) c.read_letters-count.new.letters)) content in
       let read : named ≡ state_after start (take (done + 1 + c.read_letters-count.result) bytes) =
       reads_more start begun named bytes (done + 1) c.read_letters-count.result first
-      (sym (c.read_letters-count.ensures.read content [])) in
+      (sym (c.read_letters-count.ensures.read content Ordinary [] (ordinary_holds c.in-Some.name))) in
       c.in_ok-go_from.ensures ∙ (c.goes.ensures _ ∙ read);
 }
 
@@ -58,7 +59,7 @@ returns g c = record {
       let named : Tokenizer = at (state_of c.in-Some.name (take (1 + c.read_letters-count.result) c.read_letters-count.new.letters)) content in
       let read : named ≡ state_after start (take (done + 1 + c.read_letters-count.result) bytes) =
       reads_more start begun named bytes (done + 1) c.read_letters-count.result first
-      (sym (c.read_letters-count.ensures.read content [])) in
+      (sym (c.read_letters-count.ensures.read content Ordinary [] (ordinary_holds c.in-Some.name))) in
       reads_longer start named (tokenizer_of c.go_from-2.new.self) bytes (done + 1 + c.read_letters-count.result)
       (omega (arith, c.read_letters-count.ensures.within)) read
       (sym (c.in_ok-go_from-2.ensures ∙ c.name_byte-next.ensures kind.Ordinary));

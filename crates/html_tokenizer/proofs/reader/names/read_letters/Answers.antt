@@ -1,7 +1,7 @@
 use Rattle.std.proofs.Common.{◌≡◌, ◌+◌, set, ◌++◌, ◌∷◌, [], append_assoc, take, arith, sym}
 use Rattle.std.proofs.lemmas.List.{take_more_set}
 use Rattle.html_tokenizer.specs.Tokenizer.Phases.{state_of}
-use Rattle.html_tokenizer.specs.Tokenizer.States.{at}
+use Rattle.html_tokenizer.specs.Tokenizer.States.{at_value}
 use Rattle.html_tokenizer.proofs.Staying.{reads_longer}
 use Rattle.html_tokenizer.proofs.reader.names.read_letters.Goals as goal
 
@@ -18,9 +18,11 @@ letters-preserved c =
     record {
       within = omega arith;
       room = omega arith;
-      read = λ content word.
+      read = λ content attribute word holds.
           rw (next, longer, ← append_assoc word before (c.in-Some.letter ∷ []))
-          (sym (reads_longer (at (state_of phase (word ++ take c.args.already c.args.letters.now)) content) (at (state_of phase (word ++ before)) content)
-          (at (state_of phase ((word ++ before) ++ c.in-Some.letter ∷ [])) content) bytes count
-          (omega arith) (sym (c.letters.invariant.read content word)) (c.in-Some.ensures content (word ++ before))));
+          (sym (reads_longer (at_value (state_of phase (word ++ take c.args.already c.args.letters.now)) content attribute)
+          (at_value (state_of phase (word ++ before)) content attribute)
+          (at_value (state_of phase ((word ++ before) ++ c.in-Some.letter ∷ [])) content attribute) bytes count
+          (omega arith) (sym (c.letters.invariant.read content attribute word holds))
+          (c.in-Some.ensures content attribute (word ++ before) holds)));
     }

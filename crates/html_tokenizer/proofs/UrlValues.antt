@@ -1,0 +1,14 @@
+pub mod Apart
+pub mod Appending
+pub mod Attributes
+pub mod Bytes
+pub mod Ends
+pub mod FirstBytes
+pub mod Following
+pub mod Names
+pub mod Opening
+pub mod Places
+pub mod Reading
+pub mod Rules
+pub mod Slots
+pub mod Staying

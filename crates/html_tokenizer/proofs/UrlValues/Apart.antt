@@ -1,0 +1,4 @@
+pub mod Bytes
+pub mod NewAttributes
+pub mod OneByte
+pub mod Texts

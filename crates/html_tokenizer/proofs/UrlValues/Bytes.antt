@@ -1,0 +1,114 @@
+-- What a byte does where a URL is open.
+use Rattle.std.proofs.Common.{ℕ, ◌≡◌, Bool, true, false, [], ◌==◌, if◌then◌else◌, refl, sym, subst, ⊎_elim}
+use Rattle.std.proofs.lemmas.Bool.{cases_Bool, eqb-true, false≢true}
+use Rattle.hesc_specs.specs.Text.Ascii.{double_quote, greater_than, single_quote}
+use Rattle.html_tokenizer.specs.declared.elements.Content.{Content}
+use Rattle.html_tokenizer.specs.declared.slot_place.SlotPlace.{SlotPlace}
+use Rattle.html_tokenizer.specs.declared.slot_place.SlotPlace.TheVariants.{DoubleQuoted, SingleQuoted, Unquoted}
+use Rattle.html_tokenizer.specs.Tokenizer.States.{Attribute, BeforeValue, In, State, Tokenizer, Within, at_value}
+use Rattle.html_tokenizer.specs.Tokenizer.Tags.{is_space}
+use Rattle.html_tokenizer.specs.Tokenizer.Tokenization.{byte_in, consume}
+use Rattle.html_tokenizer.specs.Tokenizer.Transitions.{Transition, moves, refuses}
+use Rattle.html_tokenizer.specs.Tokenizer.Values.{before_value_byte, unquoted_byte}
+use Rattle.html_tokenizer.specs.UrlValues.{is_url}
+use Rattle.html_tokenizer.proofs.UrlValues.Places.{is_value_place}
+use Rattle.html_tokenizer.proofs.UrlValues.Following.{StaysAt, in_value, same_place, unquoted_follows, value_follows, within_follows}
+
+-- a state of the value at this place, or before it
+abbrev pub is_at : SlotPlace → State → Bool
+is_at Unquoted BeforeValue = true
+is_at p s = in_value p s
+
+-- a state in which a URL may be open
+abbrev pub may_hold_url : State → Bool
+may_hold_url BeforeValue = true
+may_hold_url (In p) = is_value_place p
+may_hold_url (Within p word) = is_value_place p
+may_hold_url other = false
+
+-- what a byte does before a value
+pub data Begins (b : ℕ) (x : Transition) : Type 0 where
+  blank : is_space b ≡ true → x.next.state ≡ BeforeValue → x.actions ≡ [] → Begins b x
+  double : b ≡ double_quote → x.next.state ≡ In DoubleQuoted → x.actions ≡ [] → Begins b x
+  single : b ≡ single_quote → x.next.state ≡ In SingleQuoted → x.actions ≡ [] → Begins b x
+  unquoted : StaysAt Unquoted b x.next.state → Begins b x
+
+begins : (content : Content) (attribute : Attribute) (b : ℕ) → is_url attribute ≡ true → is_url (before_value_byte content attribute b).next.attribute ≡ true →
+    Begins b (before_value_byte content attribute b)
+begins content attribute b url is =
+    ⊎_elim
+    (λ (space : is_space b ≡ true). blank space (rw space refl) (rw space refl))
+    (λ (no_space : is_space b ≡ false).
+    ⊎_elim
+    (λ (mark : (b == double_quote) ≡ true). double (eqb-true b double_quote mark) (rw (no_space, mark) refl) (rw (no_space, mark) refl))
+    (λ (no_double : (b == double_quote) ≡ false).
+    ⊎_elim
+    (λ (mark : (b == single_quote) ≡ true). single (eqb-true b single_quote mark) (rw (no_space, no_double, mark) refl) (rw (no_space, no_double, mark) refl))
+    (λ (no_single : (b == single_quote) ≡ false).
+    ⊎_elim
+    (λ (greater : (b == greater_than) ≡ true). absurd (false≢true (rw (no_space, no_double, no_single, greater) at is)))
+    (λ (no_greater : (b == greater_than) ≡ false).
+    let same : before_value_byte content attribute b ≡ unquoted_byte content attribute b = rw (no_space, no_double, no_single, no_greater) refl in
+    let goes : is_url (unquoted_byte content attribute b).next.attribute ≡ true = subst (λ (x : Transition). is_url x.next.attribute ≡ true) same is in
+    unquoted (subst (λ (x : Transition). StaysAt Unquoted b x.next.state) (sym same) ((unquoted_follows content attribute b url no_space no_greater).stays goes)))
+    (cases_Bool (b == greater_than)))
+    (cases_Bool (b == single_quote)))
+    (cases_Bool (b == double_quote)))
+    (cases_Bool (is_space b))
+
+-- the byte begins a value, or it stays at its place
+pub data OpenUrl (s : State) (b : ℕ) (x : Transition) : Type 0 where
+  before : s ≡ BeforeValue → Begins b x → OpenUrl s b x
+  within : (p : SlotPlace) → is_value_place p ≡ true → in_value p s ≡ true → StaysAt p b x.next.state → OpenUrl s b x
+
+byte_in_open : (s : State) (content : Content) (attribute : Attribute) (b : ℕ) → is_url attribute ≡ true → may_hold_url s ≡ true →
+    is_url (byte_in s content attribute b).next.attribute ≡ true → OpenUrl s b (byte_in s content attribute b)
+byte_in_open BeforeValue content attribute b url may is = before refl (begins content attribute b url is)
+byte_in_open (In p) content attribute b url may is = within p may (same_place p) ((value_follows p content attribute b may url).stays is)
+byte_in_open (Within p word) content attribute b url may is = within p may (same_place p) ((within_follows p content attribute word b may url).stays is)
+byte_in_open other content attribute b url may is = absurd (false≢true may)
+
+-- where a URL is open before and after the byte
+pub stays_open : (t : Tokenizer) (b : ℕ) → is_url t.attribute ≡ true → may_hold_url t.state ≡ true →
+    is_url (consume t b).next.attribute ≡ true → OpenUrl t.state b (consume t b)
+unfolding consume
+stays_open t b url may is = byte_in_open t.state t.content t.attribute b url may is
+
+-- ---- the value is of the same attribute, in the same content
+
+abbrev Same : Content → Attribute → Transition → Type 0
+Same content attribute x = is_url x.next.attribute ≡ true → x.next ≡ at_value x.next.state content attribute
+
+either_same : {content : Content} {attribute : Attribute} (test : Bool) (x y : Transition) →
+    Same content attribute x → (test ≡ false → Same content attribute y) → Same content attribute (if test then x else y)
+either_same true x y first second = first
+either_same false x y first second = second refl
+
+begins_same : (content : Content) (attribute : Attribute) (b : ℕ) → is_url attribute ≡ true → Same content attribute (before_value_byte content attribute b)
+begins_same content attribute b url =
+    let blank_next : Transition = moves (at_value BeforeValue content attribute) [] in
+    let double_next : Transition = moves (at_value (In DoubleQuoted) content attribute) [] in
+    let single_next : Transition = moves (at_value (In SingleQuoted) content attribute) [] in
+    let unquoted_next : Transition = unquoted_byte content attribute b in
+    either_same (is_space b) blank_next
+    (if b == double_quote then double_next else (if b == single_quote then single_next else (if b == greater_than then refuses else unquoted_next)))
+    (λ is. refl)
+    (λ no_space. either_same (b == double_quote) double_next (if b == single_quote then single_next else (if b == greater_than then refuses else unquoted_next))
+    (λ is. refl)
+    (λ no_double. either_same (b == single_quote) single_next (if b == greater_than then refuses else unquoted_next)
+    (λ is. refl)
+    (λ no_single. either_same (b == greater_than) refuses unquoted_next
+    (λ is. absurd (false≢true is))
+    (λ no_greater. (unquoted_follows content attribute b url no_space no_greater).same))))
+
+byte_in_same : (s : State) (content : Content) (attribute : Attribute) (b : ℕ) → is_url attribute ≡ true → may_hold_url s ≡ true →
+    Same content attribute (byte_in s content attribute b)
+byte_in_same BeforeValue content attribute b url may = begins_same content attribute b url
+byte_in_same (In p) content attribute b url may = (value_follows p content attribute b may url).same
+byte_in_same (Within p word) content attribute b url may = (within_follows p content attribute word b may url).same
+byte_in_same other content attribute b url may = absurd (false≢true may)
+
+pub same_value : (t : Tokenizer) (b : ℕ) → is_url t.attribute ≡ true → may_hold_url t.state ≡ true →
+    is_url (consume t b).next.attribute ≡ true → (consume t b).next ≡ at_value (consume t b).next.state t.content t.attribute
+unfolding consume
+same_value t b url may is = byte_in_same t.state t.content t.attribute b url may is

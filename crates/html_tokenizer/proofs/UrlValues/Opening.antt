@@ -1,0 +1,4 @@
+pub mod AllStates
+pub mod Code
+pub mod Tags
+pub mod Values

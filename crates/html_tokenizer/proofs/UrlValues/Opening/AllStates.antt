@@ -1,0 +1,104 @@
+-- A URL opens after the `=` of an attribute alone.
+use Rattle.std.proofs.Common.{ℕ, ◌≡◌, Bool, true, false, List, [], ◌∷◌, ◌++◌, ◌==◌, if◌then◌else◌, refl, ◌∙◌, sym, ⊎_elim, arith}
+use Rattle.std.proofs.lemmas.Bool.{cases_Bool, eqb-true, true≢false}
+use Rattle.hesc_specs.specs.Text.Ascii.{equals_sign}
+use Rattle.html_tokenizer.specs.declared.elements.Content.{Content}
+use Rattle.html_tokenizer.specs.declared.elements.OpenElement.{OpenElement}
+use Rattle.html_tokenizer.specs.declared.elements.OpenElement.TheVariants.{DataBlock, Meta, MetaContent, MetaPragma, MetaType, NoScript, NoScriptFrame, NoScriptStyle, Script}
+use Rattle.html_tokenizer.specs.Tokenizer.Actions.{read_byte, value_end}
+use Rattle.html_tokenizer.specs.Tokenizer.Attributes.{raw_value, value_in, value_of, reference_read}
+use Rattle.html_tokenizer.specs.Tokenizer.Elements.{beside}
+use Rattle.html_tokenizer.specs.Tokenizer.States.{AfterName, AfterValue, Attribute, BeforeName, BeforeValue, CodeEndTag, CodeLess, CodeWord, EndTagName, EndTagOpen, In, InCode, Name, Ordinary, SelfClosing, State, StringLess, TagName, TagOpen, ValueEndTag, Within, Tokenizer, at_value}
+use Rattle.html_tokenizer.specs.Tokenizer.Transitions.{Transition, moves}
+use Rattle.html_tokenizer.specs.declared.slot_place.SlotPlace.TheVariants.{Text}
+use Rattle.html_tokenizer.specs.Tokenizer.Tags.{first_name_byte, in_tag, name_byte}
+use Rattle.html_tokenizer.specs.Tokenizer.Tokenization.{byte_in, consume, value_byte}
+use Rattle.html_tokenizer.specs.UrlValues.{is_url, value_bytes}
+use Rattle.html_tokenizer.proofs.UrlValues.Names.{is_named, opens_no_url}
+use Rattle.html_tokenizer.proofs.UrlValues.Opening.Code.{code_end_opens_none, code_less_opens_none, code_word_opens_none, in_code_opens_none}
+use Rattle.html_tokenizer.proofs.UrlValues.Opening.Tags.{HoldsNone, OpensNone, closed_opens_none, end_name_opens_none, first_name_holds_none, held_opens_none, in_tag_holds_none, in_tag_opens_none, name_holds_none, tag_name_opens_none}
+use Rattle.html_tokenizer.proofs.UrlValues.Opening.Values.{before_value_opens_none, reference_opens_none, string_less_opens_none, value_opens_none, within_opens_none}
+
+-- a value that begins, after `=`
+pub record Opens (b : ℕ) (x : Transition) : Type 0 where
+  pub before_value : x.next.state ≡ BeforeValue
+  pub equals : b ≡ equals_sign
+  pub nothing : value_bytes x.actions ≡ []
+
+-- after the next byte the state may be in the name of an attribute
+abbrev pub may_be_named : State → Bool
+may_be_named BeforeName = true
+may_be_named s = is_named s
+
+pub others_open_none : (s : State) (content : Content) (attribute : Attribute) (b : ℕ) → may_be_named s ≡ false → is_url attribute ≡ false →
+    OpensNone (byte_in s content attribute b)
+others_open_none (In p) content attribute b name is = value_opens_none p content attribute b is
+others_open_none (Within p word) content attribute b name is = within_opens_none p content (reference_read attribute) word b (reference_opens_none attribute is)
+others_open_none (StringLess p) content attribute b name is = string_less_opens_none p content attribute b is
+others_open_none TagOpen content attribute b name is = grind (arith, value_opens_none Text content Ordinary b refl)
+others_open_none EndTagOpen content attribute b name is = grind (arith, value_opens_none Text content Ordinary b refl)
+others_open_none (TagName word) content attribute b name is = tag_name_opens_none content word b
+others_open_none BeforeName content attribute b name is = absurd (true≢false name)
+others_open_none AfterValue content attribute b name is = in_tag_opens_none BeforeName content b _ refl refl
+others_open_none (EndTagName word) content attribute b name is = end_name_opens_none content word b
+others_open_none (ValueEndTag p word) content attribute b name is =
+    let read : Attribute = reference_read attribute in
+    let none : is_url read ≡ false = reference_opens_none attribute is in
+    held_opens_none content word (value_end p) (at_value (ValueEndTag p (word ++ b ∷ [])) content read) (read_byte p)
+    (value_byte p content read b) b none (value_opens_none p content read b none)
+others_open_none (Name word) content attribute b name is = absurd (true≢false name)
+others_open_none (AfterName word) content attribute b name is = absurd (true≢false name)
+others_open_none BeforeValue content attribute b name is = before_value_opens_none content attribute b is
+others_open_none SelfClosing content attribute b name is = grind (arith, closed_opens_none (beside content.element) content)
+others_open_none (InCode kind) content attribute b name is = in_code_opens_none kind content b
+others_open_none (CodeLess kind) content attribute b name is = code_less_opens_none kind content b
+others_open_none (CodeEndTag kind word) content attribute b name is = code_end_opens_none kind content word b
+others_open_none (CodeWord kind word) content attribute b name is = code_word_opens_none kind content word b
+others_open_none other content attribute b name is = grind arith
+
+raw_is_none : (content : Content) (name : List ℕ) → is_url (raw_value content name).attribute ≡ false
+raw_is_none content name = grind arith
+
+value_begins : (element : OpenElement) (content : Content) (name : List ℕ) → is_url (value_in element content name).attribute ≡ true →
+    (value_in element content name).state ≡ BeforeValue
+value_begins Script content name is = grind arith
+value_begins DataBlock content name is = grind arith
+value_begins Meta content name is = grind arith
+value_begins MetaContent content name is = grind arith
+value_begins MetaPragma content name is = grind arith
+value_begins MetaType content name is = grind arith
+value_begins NoScript content name is = absurd (true≢false (sym is ∙ raw_is_none content name))
+value_begins NoScriptStyle content name is = absurd (true≢false (sym is ∙ raw_is_none content name))
+value_begins NoScriptFrame content name is = absurd (true≢false (sym is ∙ raw_is_none content name))
+value_begins other content name is = refl
+
+name_opens : (content : Content) (name : List ℕ) (b : ℕ) (other : Transition) → HoldsNone other →
+    is_url (if b == equals_sign then moves (value_of content name) [] else other).next.attribute ≡ true →
+    Opens b (if b == equals_sign then moves (value_of content name) [] else other)
+name_opens content name b other none is =
+    ⊎_elim
+    (λ (equals : (b == equals_sign) ≡ true). record {
+      before_value = rw equals (value_begins content.element content name (rw equals at is));
+      equals = eqb-true b equals_sign equals;
+      nothing = rw equals refl;
+    })
+    (λ (no : (b == equals_sign) ≡ false). absurd (true≢false (sym (rw no at is) ∙ none)))
+    (cases_Bool (b == equals_sign))
+
+pub opens : (s : State) (content : Content) (attribute : Attribute) (b : ℕ) → is_url attribute ≡ false →
+    is_url (byte_in s content attribute b).next.attribute ≡ true → Opens b (byte_in s content attribute b)
+opens (Name name) content attribute b none is =
+    let other : Transition = name_byte content name b in
+    name_opens content name b (in_tag (AfterName name) content b other) (in_tag_holds_none (AfterName name) content b other (name_holds_none content name b)) is
+opens (AfterName name) content attribute b none is =
+    let other : Transition = first_name_byte content b in
+    name_opens content name b (in_tag (AfterName name) content b other) (in_tag_holds_none (AfterName name) content b other (first_name_holds_none content b)) is
+opens BeforeName content attribute b none is =
+    absurd (true≢false (sym is ∙ in_tag_holds_none BeforeName content b (first_name_byte content b) (first_name_holds_none content b)))
+opens other content attribute b none is =
+    absurd (true≢false (sym is ∙ opens_no_url (byte_in other content attribute b).next.state (byte_in other content attribute b).next.attribute (others_open_none other content attribute b refl none)))
+
+-- where no URL is open, one opens at `=` alone, and as yet without a byte
+pub opens_at_equals : (t : Tokenizer) (b : ℕ) → is_url t.attribute ≡ false → is_url (consume t b).next.attribute ≡ true → Opens b (consume t b)
+unfolding consume
+opens_at_equals t b none is = opens t.state t.content t.attribute b none is

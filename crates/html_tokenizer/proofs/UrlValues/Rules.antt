@@ -1,0 +1,109 @@
+-- What a byte does in the value of a URL, and where letters and digits after a `&` end.
+use Rattle.std.proofs.Common.{ℕ, ◌≡◌, Bool, true, false, List, [], ◌∷◌, ◌++◌, ◌==◌, Some, if◌then◌else◌, codes, refl, ap, ⊎_elim, arith}
+use Rattle.std.specs.Char.{is_ascii_alphanumeric}
+use Rattle.std.specs.List.{list_all}
+use Rattle.std.proofs.lemmas.Bool.{and_parts, and_right, cases_Bool, false≢true, or_parts, true≢false}
+use Rattle.std.proofs.lemmas.Bool.Decides.{nat_tests}
+use Rattle.std.proofs.lemmas.List.Folds.{list_all-append}
+use Rattle.hesc_specs.specs.Text.Ascii.{ampersand, equals_sign, greater_than, number_sign}
+use Rattle.hesc_grammars.specs.Html.{is_unquoted_error}
+use Rattle.html_entities.proofs.References.{same_value}
+use Rattle.html_tokenizer.specs.declared.elements.Content.{Content}
+use Rattle.html_tokenizer.specs.declared.slot_place.SlotPlace.{SlotPlace}
+use Rattle.html_tokenizer.specs.declared.slot_place.SlotPlace.TheVariants.{DoubleQuoted, SingleQuoted, Unquoted}
+use Rattle.html_tokenizer.specs.Standing.{is_refused}
+use Rattle.html_tokenizer.specs.Tokenizer.Actions.{ValueByte, read_byte}
+use Rattle.html_tokenizer.specs.Tokenizer.States.{Attribute, In, Within, at_value}
+use Rattle.html_tokenizer.specs.Tokenizer.Tags.{is_space}
+use Rattle.html_tokenizer.specs.Tokenizer.Tokenization.{consume, value_byte}
+use Rattle.html_tokenizer.specs.Tokenizer.Transitions.{Transition, moves}
+use Rattle.html_tokenizer.specs.Tokenizer.Values.References.{begins_with_legacy, flushes, is_legacy, legacy_end, named_characters, reference_byte}
+use Rattle.html_tokenizer.specs.UrlValues.{ends_value, is_url}
+use Rattle.html_tokenizer.proofs.UrlValues.Attributes.{byte_settled, reference_settled}
+use Rattle.html_tokenizer.proofs.UrlValues.Places.{is_value_place}
+
+abbrev pub are_letters : List ℕ → Bool
+are_letters word = list_all is_ascii_alphanumeric word
+
+pub letters_more : (word : List ℕ) (b : ℕ) → are_letters word ≡ true → is_ascii_alphanumeric b ≡ true → are_letters (word ++ b ∷ []) ≡ true
+letters_more word b letters letter = rw (list_all-append is_ascii_alphanumeric word (b ∷ []), letters, letter) refl
+
+no_number_sign : (b : ℕ) → is_ascii_alphanumeric b ≡ true → (b == number_sign) ≡ false
+no_number_sign b letter = grind (arith, nat_tests)
+
+pub amp_named : named_characters (codes "amp") ≡ Some (ampersand ∷ [])
+unfolding named_characters lib.Utf8.encode
+amp_named = same_value (codes "amp") (codes "&") refl
+
+same_both_ways : (test : Bool) (x : Transition) → (if test then x else x) ≡ x
+same_both_ways true x = refl
+same_both_ways false x = refl
+
+-- what a URL is read by at this place
+pub record ReadsUrl (p : SlotPlace) (content : Content) (attribute : Attribute) : Type 0 where
+  pub references : consume (at_value (In p) content attribute) ampersand ≡ moves (at_value (Within p []) content attribute) []
+  pub within : (word : List ℕ) (b : ℕ) →
+      consume (at_value (Within p word) content attribute) b ≡ reference_byte p content attribute word b (value_byte p content attribute b)
+  pub here : (b : ℕ) → consume (at_value (In p) content attribute) b ≡ value_byte p content attribute b
+  pub kept : (b : ℕ) → ends_value p b ≡ false → (b == ampersand) ≡ false → is_refused (value_byte p content attribute b).next.state ≡ false →
+      value_byte p content attribute b ≡ moves (at_value (In p) content attribute) (ValueByte b ∷ [])
+  pub legacy : (word : List ℕ) (again : Transition) → legacy_end p word equals_sign again ≡ flushes p word again
+  pub reads : read_byte p ≡ ValueByte
+
+double_reads : (content : Content) (attribute : Attribute) → is_url attribute ≡ true → ReadsUrl DoubleQuoted content attribute
+unfolding consume
+double_reads content attribute is = record {
+  references = rw (reference_settled attribute is) refl;
+  within = λ word b. ap (λ x. reference_byte DoubleQuoted content x word b (value_byte DoubleQuoted content x b)) (reference_settled attribute is);
+  here = λ b. refl;
+  kept = λ b inner no_reference unrefused. rw (inner, no_reference, byte_settled attribute b is) refl;
+  legacy = λ word again. rw (and_right (is_legacy word) false refl) refl;
+  reads = refl;
+}
+
+single_reads : (content : Content) (attribute : Attribute) → is_url attribute ≡ true → ReadsUrl SingleQuoted content attribute
+unfolding consume
+single_reads content attribute is = record {
+  references = rw (reference_settled attribute is) refl;
+  within = λ word b. ap (λ x. reference_byte SingleQuoted content x word b (value_byte SingleQuoted content x b)) (reference_settled attribute is);
+  here = λ b. refl;
+  kept = λ b inner no_reference unrefused. rw (inner, no_reference, byte_settled attribute b is) refl;
+  legacy = λ word again. rw (and_right (is_legacy word) false refl) refl;
+  reads = refl;
+}
+
+unquoted_kept : (content : Content) (attribute : Attribute) (b : ℕ) → is_url attribute ≡ true →
+    ends_value Unquoted b ≡ false → (b == ampersand) ≡ false → is_refused (value_byte Unquoted content attribute b).next.state ≡ false →
+    value_byte Unquoted content attribute b ≡ moves (at_value (In Unquoted) content attribute) (ValueByte b ∷ [])
+unquoted_kept content attribute b is inner no_reference unrefused =
+    let parts = or_parts (is_space b) (b == greater_than) inner in
+    ⊎_elim
+    (λ (error : is_unquoted_error b ≡ true). absurd (true≢false (rw (parts.0, parts.1, no_reference, error) at unrefused)))
+    (λ (none : is_unquoted_error b ≡ false). rw (parts.0, parts.1, no_reference, none, byte_settled attribute b is) refl)
+    (cases_Bool (is_unquoted_error b))
+
+unquoted_reads : (content : Content) (attribute : Attribute) → is_url attribute ≡ true → ReadsUrl Unquoted content attribute
+unfolding consume
+unquoted_reads content attribute is = record {
+  references = rw (reference_settled attribute is) refl;
+  within = λ word b. ap (λ x. reference_byte Unquoted content x word b (value_byte Unquoted content x b)) (reference_settled attribute is);
+  here = λ b. refl;
+  kept = λ b inner no_reference unrefused. unquoted_kept content attribute b is inner no_reference unrefused;
+  legacy = λ word again. rw (and_right (is_legacy word) false refl) refl;
+  reads = refl;
+}
+
+-- letters and digits before `=` are no reference
+pub ends_at_equals : {p : SlotPlace} {content : Content} {attribute : Attribute} → ReadsUrl p content attribute →
+    (word : List ℕ) (again : Transition) → are_letters word ≡ true →
+    reference_byte p content attribute word equals_sign again ≡ flushes p word again
+ends_at_equals reads [] again letters = refl
+ends_at_equals {p} reads (first ∷ word) again letters =
+    let parts = and_parts (is_ascii_alphanumeric first) (are_letters word) letters in
+    rw (no_number_sign first parts.0, reads.legacy (first ∷ word) again) (same_both_ways (begins_with_legacy (first ∷ word)) (flushes p (first ∷ word) again))
+
+pub reads_url : (p : SlotPlace) (content : Content) (attribute : Attribute) → is_value_place p ≡ true → is_url attribute ≡ true → ReadsUrl p content attribute
+reads_url DoubleQuoted content attribute place is = double_reads content attribute is
+reads_url SingleQuoted content attribute place is = single_reads content attribute is
+reads_url Unquoted content attribute place is = unquoted_reads content attribute is
+reads_url other content attribute place is = absurd (false≢true place)

@@ -1,0 +1,79 @@
+-- The URLs of a page: the values of the attributes that the tokenizer takes for URLs, and what markup adds to one.
+use Rattle.std.specs.Prelude.{ℕ, Bool, true, false, ◌&&◌, ◌||◌, not, List, [], ◌∷◌, ◌++◌, ◌==◌, Option, Some, None, bytes_eq, codes, if◌then◌else◌}
+use Rattle.std.specs.Char.{is_ascii_alphanumeric}
+use Rattle.std.specs.List.{list_any}
+use Rattle.std.specs.Option.{option_map}
+use Rattle.hesc_specs.specs.Text.Ascii.{ampersand, double_quote, equals_sign, greater_than, semicolon, single_quote}
+use Rattle.html_tokenizer.specs.declared.slot_place.SlotPlace.{SlotPlace}
+use Rattle.html_tokenizer.specs.declared.slot_place.SlotPlace.TheVariants.{DoubleQuoted, SingleQuoted}
+use Rattle.html_tokenizer.specs.Tokenizer.Actions.{Action, ValueByte}
+use Rattle.html_tokenizer.specs.Tokenizer.States.{Attribute, Link, Tokenizer, Url}
+use Rattle.html_tokenizer.specs.Tokenizer.Tags.{is_space}
+use Rattle.html_tokenizer.specs.Tokenizer.Tokenization.{consume}
+
+abbrev pub is_url : Attribute → Bool
+is_url Url = true
+is_url Link = true
+is_url other = false
+
+-- the bytes that actions append to the value of an attribute
+abbrev pub value_bytes : List Action → List ℕ
+value_bytes [] = []
+value_bytes (ValueByte b ∷ actions) = b ∷ value_bytes actions
+value_bytes (other ∷ actions) = value_bytes actions
+
+-- the value so far of the URL that is open, after a byte more
+abbrev pub url_after : Tokenizer → List ℕ → ℕ → List ℕ
+url_after t value b = (if is_url t.attribute then value else []) ++ value_bytes (consume t b).actions
+
+-- and after bytes
+abbrev pub open_url : Tokenizer → List ℕ → List ℕ → List ℕ
+open_url t value [] = value
+open_url t value (b ∷ bytes) = open_url (consume t b).next (url_after t value b) bytes
+
+-- at this byte the URL that is open ends
+abbrev pub ends_url : Tokenizer → ℕ → Bool
+ends_url t b = is_url t.attribute && not (is_url (consume t b).next.attribute)
+
+-- the URLs that end in the bytes, where this is the value so far of the one that is open
+abbrev pub urls_from : Tokenizer → List ℕ → List ℕ → List (List ℕ)
+urls_from t value [] = []
+urls_from t value (b ∷ bytes) =
+    (if ends_url t b then url_after t value b ∷ [] else []) ++ urls_from (consume t b).next (url_after t value b) bytes
+
+-- ---- the markup of a URL that holds a slot
+
+-- a value at this place begins after the byte, and ends before it
+abbrev pub begins_value : SlotPlace → ℕ → Bool
+begins_value DoubleQuoted b = b == double_quote
+begins_value SingleQuoted b = b == single_quote
+begins_value other b = b == equals_sign || is_space b
+
+abbrev pub ends_value : SlotPlace → ℕ → Bool
+ends_value DoubleQuoted b = b == double_quote
+ends_value SingleQuoted b = b == single_quote
+ends_value other b = is_space b || b == greater_than
+
+-- what stands after the last such byte, if there is one
+abbrev pub after_last : (ℕ → Bool) → List ℕ → Option (List ℕ)
+after_last is_mark [] = None
+after_last is_mark (b ∷ bytes) =
+    if list_any is_mark bytes then after_last is_mark bytes
+    else (if is_mark b then Some bytes else None)
+
+-- the bytes that markup adds to a URL, where these letters and digits stand after a `&`: it is a `&` itself before `amp;`,
+-- and before a name and `=`; what else a `&` may begin is not taken
+abbrev pub url_text_from : Option (List ℕ) → List ℕ → Option (List ℕ)
+url_text_from None [] = Some []
+url_text_from (Some word) [] = None
+url_text_from None (b ∷ bytes) =
+    if b == ampersand then url_text_from (Some []) bytes
+    else option_map (λ text. b ∷ text) (url_text_from None bytes)
+url_text_from (Some word) (b ∷ bytes) =
+    if is_ascii_alphanumeric b then url_text_from (Some (word ++ b ∷ [])) bytes
+    else (if b == semicolon && bytes_eq word (codes "amp") then option_map (λ text. ampersand ∷ text) (url_text_from None bytes)
+    else (if b == equals_sign then option_map (λ text. ampersand ∷ word ++ b ∷ text) (url_text_from None bytes)
+    else None))
+
+abbrev pub url_text : List ℕ → Option (List ℕ)
+url_text markup = url_text_from None markup
