@@ -1,60 +1,63 @@
--- Texts fill the slots where they are as many as these and none of these is a value without quotes.
+-- Texts fill the slots where they are as many as these and each of these takes any text.
 use Rattle.std.proofs.Common.{ℕ, ◌≡◌, ◌+◌, List, [], ◌∷◌, length, refl, arith, false, true, Bool, if◌then◌else◌}
 use Rattle.std.specs.Prelude.{None}
+use Rattle.html_template.specs.declared.parts.SlotKind.{SlotKind}
+use Rattle.html_template.specs.declared.parts.SlotKind.TheVariants as kind
 use Rattle.html_tokenizer.specs.declared.slot_place.SlotPlace.{SlotPlace}
 use Rattle.html_tokenizer.specs.declared.slot_place.SlotPlace.TheVariants.{Text, DoubleQuoted, SingleQuoted, Unquoted, ScriptSingle, ScriptDouble, StyleSingle, StyleDouble}
-use Rattle.html_template.specs.FillFaults.{fill_fault, has_unquoted, is_unquoted, may_fill, slot_count}
+use Rattle.html_urls.specs.Slots.{may_fill}
+use Rattle.html_template.specs.FillFaults.{fill_fault, has_checked, is_checked, is_unquoted, slot_count, text_fault}
 use Rattle.html_template.specs.Templates.{Chunk, Markup, Slot, Fill, MayFill}
 
 never : {P : Type 0} → true ≡ false → P
 never is = absurd (cc)
 
--- a place that is not a value without quotes takes any text
-takes_any : (p : SlotPlace) (text : List ℕ) (rest : Bool) → (if is_unquoted p then true else rest) ≡ false → MayFill p text
-takes_any Text text rest none = tt
-takes_any DoubleQuoted text rest none = tt
-takes_any SingleQuoted text rest none = tt
-takes_any Unquoted text rest none = never none
-takes_any ScriptSingle text rest none = tt
-takes_any ScriptDouble text rest none = tt
-takes_any StyleSingle text rest none = tt
-takes_any StyleDouble text rest none = tt
+-- any text may fill such a slot
+record TakesAny (p : SlotPlace) (kind : SlotKind) (text : List ℕ) : Type 0 where
+  fills : MayFill p kind text
+  faultless : (number : ℕ) → text_fault number p kind text ≡ None
 
-may_any : (p : SlotPlace) (text : List ℕ) (rest : Bool) → (if is_unquoted p then true else rest) ≡ false → may_fill p text ≡ true
-may_any Text text rest none = refl
-may_any DoubleQuoted text rest none = refl
-may_any SingleQuoted text rest none = refl
-may_any Unquoted text rest none = never none
-may_any ScriptSingle text rest none = refl
-may_any ScriptDouble text rest none = refl
-may_any StyleSingle text rest none = refl
-may_any StyleDouble text rest none = refl
+text_takes : (p : SlotPlace) (text : List ℕ) → is_unquoted p ≡ false → TakesAny p kind.Text text
+text_takes Text text none = record { fills = tt; faultless = λ number. refl }
+text_takes DoubleQuoted text none = record { fills = tt; faultless = λ number. refl }
+text_takes SingleQuoted text none = record { fills = tt; faultless = λ number. refl }
+text_takes Unquoted text none = never none
+text_takes ScriptSingle text none = record { fills = tt; faultless = λ number. refl }
+text_takes ScriptDouble text none = record { fills = tt; faultless = λ number. refl }
+text_takes StyleSingle text none = record { fills = tt; faultless = λ number. refl }
+text_takes StyleDouble text none = record { fills = tt; faultless = λ number. refl }
 
--- nor is any place after it
-none_after : (p : SlotPlace) (rest : Bool) → (if is_unquoted p then true else rest) ≡ false → rest ≡ false
-none_after Text rest none = none
-none_after DoubleQuoted rest none = none
-none_after SingleQuoted rest none = none
-none_after Unquoted rest none = never none
-none_after ScriptSingle rest none = none
-none_after ScriptDouble rest none = none
-none_after StyleSingle rest none = none
-none_after StyleDouble rest none = none
+takes_any : (p : SlotPlace) (kind : SlotKind) (text : List ℕ) → is_checked p kind ≡ false → TakesAny p kind text
+takes_any p kind.Text text none = text_takes p text none
+takes_any p (kind.UrlPart slot) text none =
+    let may : may_fill slot text ≡ true = rw none refl in
+    record { fills = may; faultless = λ number. rw may refl }
+takes_any p kind.Link text none = never none
 
-pub fill_by_count : (chunks : List Chunk) (texts : List (List ℕ)) → slot_count chunks ≡ length texts → has_unquoted chunks ≡ false → Fill chunks texts
+-- neither this slot nor one behind it is checked
+record AreFree (here others : Bool) : Type 0 where
+  first : here ≡ false
+  later : others ≡ false
+
+are_free : (here others : Bool) → (if here then true else others) ≡ false → AreFree here others
+are_free true others none = never none
+are_free false others none = record { first = refl; later = none }
+
+pub fill_by_count : (chunks : List Chunk) (texts : List (List ℕ)) → slot_count chunks ≡ length texts → has_checked chunks ≡ false → Fill chunks texts
 fill_by_count [] [] same none = tt
 fill_by_count [] (text ∷ texts) same none = absurd (omega arith)
 fill_by_count (Markup bytes ∷ chunks) texts same none = fill_by_count chunks texts same none
-fill_by_count (Slot p ∷ chunks) [] same none = absurd (omega arith)
-fill_by_count (Slot p ∷ chunks) (text ∷ texts) same none =
-    (takes_any p text (has_unquoted chunks) none, fill_by_count chunks texts (omega arith) (none_after p (has_unquoted chunks) none))
+fill_by_count (Slot p kind ∷ chunks) [] same none = absurd (omega arith)
+fill_by_count (Slot p kind ∷ chunks) (text ∷ texts) same none =
+    let free = are_free (is_checked p kind) (has_checked chunks) none in
+    ((takes_any p kind text free.first).fills, fill_by_count chunks texts (omega arith) free.later)
 
-pub fault_by_count : (n : ℕ) (chunks : List Chunk) (texts : List (List ℕ)) → slot_count chunks ≡ length texts → has_unquoted chunks ≡ false →
+pub fault_by_count : (n : ℕ) (chunks : List Chunk) (texts : List (List ℕ)) → slot_count chunks ≡ length texts → has_checked chunks ≡ false →
     fill_fault n chunks texts ≡ None
 fault_by_count n [] [] same none = refl
 fault_by_count n [] (text ∷ texts) same none = absurd (omega arith)
 fault_by_count n (Markup bytes ∷ chunks) texts same none = fault_by_count n chunks texts same none
-fault_by_count n (Slot p ∷ chunks) [] same none = absurd (omega arith)
-fault_by_count n (Slot p ∷ chunks) (text ∷ texts) same none =
-    let may : may_fill p text ≡ true = may_any p text (has_unquoted chunks) none in
-    rw may (fault_by_count (n + 1) chunks texts (omega arith) (none_after p (has_unquoted chunks) none))
+fault_by_count n (Slot p kind ∷ chunks) [] same none = absurd (omega arith)
+fault_by_count n (Slot p kind ∷ chunks) (text ∷ texts) same none =
+    let free = are_free (is_checked p kind) (has_checked chunks) none in
+    rw ((takes_any p kind text free.first).faultless n) (fault_by_count (n + 1) chunks texts (omega arith) free.later)

@@ -1,13 +1,10 @@
 -- The pieces of two templates, one after the other, and their pages.
 use Rattle.std.proofs.Common.{ℕ, ◌≡◌, List, [], ◌∷◌, ◌++◌, map, refl, sym, ap, ◌∙◌, append_assoc}
 use Rattle.std.proofs.lemmas.List.{map-append}
-use Rattle.html_escape.specs.Encoders.{encoded}
-use Rattle.hesc_places.specs.Places.ReadBack.{read_back}
 use Rattle.html_tokenizer.specs.Tokenizer.Actions.{Action, read_byte}
 use Rattle.html_tokenizer.specs.Tokenizer.States.{Tokenizer, data_state}
 use Rattle.html_template.specs.Structure.{IsPageOf, IsReadAs}
-use Rattle.html_tokenizer.specs.Standing.{state_after_slot}
-use Rattle.html_template.specs.Templates.{Chunk, Given, Markup, Slot, Fill, encoder_for, page, part_of, actions_all, state_after_all}
+use Rattle.html_template.specs.Templates.{Chunk, Given, Markup, Slot, Fill, after_slot, handed, page, part_of, actions_all, state_after_all, written}
 use Rattle.html_tokenizer.specs.Tokenizer.Tokenization.{state_after, actions_of}
 use Rattle.html_template.proofs.Pieces.{state_after_all-append}
 
@@ -22,10 +19,10 @@ joined_page [] second [] others full = refl
 joined_page [] second (text ∷ texts) others full = absurd full
 joined_page (Markup bytes ∷ first) second texts others full =
     ap (λ x. bytes ++ x) (joined_page first second texts others full) ∙ sym (append_assoc bytes (page first texts) (page second others))
-joined_page (Slot p ∷ first) second [] others full = absurd full
-joined_page (Slot p ∷ first) second (text ∷ texts) others full =
-    ap (λ x. encoded (encoder_for p) text ++ x) (joined_page first second texts others full.1)
-    ∙ sym (append_assoc (encoded (encoder_for p) text) (page first texts) (page second others))
+joined_page (Slot p kind ∷ first) second [] others full = absurd full
+joined_page (Slot p kind ∷ first) second (text ∷ texts) others full =
+    ap (λ x. written p kind text ++ x) (joined_page first second texts others full.1)
+    ∙ sym (append_assoc (written p kind text) (page first texts) (page second others))
 
 actions_from : (t : Tokenizer) (first second : List Chunk) (texts others : List (List ℕ)) → Fill first texts →
     actions_all t (first ++ second) (texts ++ others) ≡ actions_all t first texts ++ actions_all (state_after_all t first) second others
@@ -35,10 +32,10 @@ actions_from t (Markup bytes ∷ first) second texts others full =
     let u : Tokenizer = state_after t bytes in
     ap (λ x. actions_of t bytes ++ x) (actions_from u first second texts others full)
     ∙ sym (append_assoc (actions_of t bytes) (actions_all u first texts) (actions_all (state_after_all u first) second others))
-actions_from t (Slot p ∷ first) second [] others full = absurd full
-actions_from t (Slot p ∷ first) second (text ∷ texts) others full =
-    let u : Tokenizer = state_after_slot p t in
-    let here : List Action = map (read_byte p) (read_back (encoder_for p) text) in
+actions_from t (Slot p kind ∷ first) second [] others full = absurd full
+actions_from t (Slot p kind ∷ first) second (text ∷ texts) others full =
+    let u : Tokenizer = after_slot p kind t in
+    let here : List Action = map (read_byte p) (handed p kind text) in
     ap (λ x. here ++ x) (actions_from u first second texts others full.1)
     ∙ sym (append_assoc here (actions_all u first texts) (actions_all (state_after_all u first) second others))
 
@@ -53,8 +50,8 @@ joined_fill : (first second : List Chunk) (texts others : List (List ℕ)) → F
 joined_fill [] second [] others full more = more
 joined_fill [] second (text ∷ texts) others full more = absurd full
 joined_fill (Markup bytes ∷ first) second texts others full more = joined_fill first second texts others full more
-joined_fill (Slot p ∷ first) second [] others full more = absurd full
-joined_fill (Slot p ∷ first) second (text ∷ texts) others full more = (full.0, joined_fill first second texts others full.1 more)
+joined_fill (Slot p kind ∷ first) second [] others full more = absurd full
+joined_fill (Slot p kind ∷ first) second (text ∷ texts) others full more = (full.0, joined_fill first second texts others full.1 more)
 
 joined_read : {first second : List Chunk} {texts others : List (List ℕ)} {front following : List ℕ} → Fill first texts →
     state_after_all data_state first ≡ data_state → IsReadAs first texts front → IsReadAs second others following →

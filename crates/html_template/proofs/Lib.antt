@@ -1,7 +1,11 @@
 pub mod TemplateLaw
+pub mod MayEnd
 pub mod Pieces
+pub mod Walks
 pub mod Structure
 pub mod FillAnswers
 pub mod FillByCount
 pub mod Joined
 pub mod TokenLaw
+pub mod Markup
+pub mod PageUrls

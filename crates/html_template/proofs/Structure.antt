@@ -2,14 +2,12 @@
 use Rattle.std.proofs.Common.{ℕ, ◌≡◌, false, List, [], ◌∷◌, ◌++◌, map, IsUtf8, refl, sym, ap, ◌∙◌}
 use Rattle.std.specs.List.{AllByRecursion}
 use Rattle.std.proofs.lemmas.List.Elements.{filter-append}
-use Rattle.hesc_places.specs.Places.ReadBack.{read_back}
 use Rattle.html_tokenizer.specs.declared.slot_place.SlotPlace.{SlotPlace}
 use Rattle.html_tokenizer.specs.declared.slot_place.SlotPlace.TheVariants.{Text, DoubleQuoted, SingleQuoted, Unquoted, ScriptSingle, ScriptDouble, StyleSingle, StyleDouble}
 use Rattle.html_tokenizer.specs.Tokenizer.Actions.{Action, read_byte}
 use Rattle.html_tokenizer.specs.Tokenizer.States.{Tokenizer, data_state}
 use Rattle.html_template.specs.Structure.{is_structure, structure, IsReadAs}
-use Rattle.html_tokenizer.specs.Standing.{state_after_slot}
-use Rattle.html_template.specs.Templates.{Chunk, Markup, Slot, Fill, encoder_for, page, actions_all, state_after_all}
+use Rattle.html_template.specs.Templates.{Chunk, Markup, Slot, Fill, after_slot, handed, page, actions_all, state_after_all}
 use Rattle.html_tokenizer.specs.Tokenizer.Tokenization.{state_after, actions_of}
 use Rattle.html_tokenizer.proofs.Passing.{actions_of-append, state_after-append}
 use Rattle.html_template.proofs.TemplateLaw.{pieces_pass}
@@ -39,11 +37,11 @@ structure_alone (Markup bytes ∷ chunks) t texts =
     structure-append (actions_of t bytes) (actions_all (state_after t bytes) chunks texts)
     ∙ ap (λ x. structure (actions_of t bytes) ++ x) (structure_alone chunks (state_after t bytes) texts)
     ∙ sym (structure-append (actions_of t bytes) (actions_all (state_after t bytes) chunks []))
-structure_alone (Slot p ∷ chunks) t [] = refl
-structure_alone (Slot p ∷ chunks) t (text ∷ texts) =
-    structure-append (map (read_byte p) (read_back (encoder_for p) text)) (actions_all (state_after_slot p t) chunks texts)
-    ∙ ap (λ x. x ++ structure (actions_all (state_after_slot p t) chunks texts)) (structure-text p (read_back (encoder_for p) text))
-    ∙ structure_alone chunks (state_after_slot p t) texts
+structure_alone (Slot p kind ∷ chunks) t [] = refl
+structure_alone (Slot p kind ∷ chunks) t (text ∷ texts) =
+    structure-append (map (read_byte p) (handed p kind text)) (actions_all (after_slot p kind t) chunks texts)
+    ∙ ap (λ x. x ++ structure (actions_all (after_slot p kind t) chunks texts)) (structure-text p (handed p kind text))
+    ∙ structure_alone chunks (after_slot p kind t) texts
 
 pub structure_of_page : (chunks : List Chunk) (texts : List (List ℕ)) → state_after_all data_state chunks ≡ data_state →
     Fill chunks texts → AllByRecursion IsUtf8 texts →

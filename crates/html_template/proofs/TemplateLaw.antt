@@ -1,7 +1,7 @@
 -- The law of templates: piece by piece.
 use Rattle.std.proofs.Common.{ℕ, ◌≡◌, Bool, true, false, if◌then◌else◌, List, [], ◌∷◌, IsUtf8, map, refl, sym, ap, ◌∙◌, ⊎_elim}
 use Rattle.std.specs.List.{AllByRecursion}
-use Rattle.std.proofs.lemmas.Bool.{cases_Bool}
+use Rattle.std.proofs.lemmas.Bool.{and_parts, cases_Bool}
 use Rattle.html_escape.specs.Encoders.{encoded}
 use Rattle.hesc_places.specs.Places.ReadBack.{read_back}
 use Rattle.html_tokenizer.specs.declared.slot_place.SlotPlace.{SlotPlace}
@@ -12,39 +12,61 @@ use Rattle.html_tokenizer.specs.declared.elements.OpenElement.{OpenElement}
 use Rattle.html_tokenizer.specs.declared.elements.OpenElement.TheVariants.{NoScript}
 use Rattle.html_tokenizer.specs.Tokenizer.Actions.{read_byte}
 use Rattle.html_tokenizer.specs.Tokenizer.Code.Escapes.{is_opaque}
-use Rattle.html_tokenizer.specs.Tokenizer.States.{State, Attribute, Ordinary, Tokenizer, In, BeforeValue, Refused, InCode, at, at_value, refused, data_state}
+use Rattle.html_tokenizer.specs.Tokenizer.States as state
+use Rattle.html_tokenizer.specs.Tokenizer.States.{State, Attribute, Ordinary, Url, Tokenizer, In, BeforeValue, Refused, InCode, at, at_value, refused, data_state}
 use Rattle.html_tokenizer.specs.declared.reader.Standing.{Standing}
-use Rattle.html_tokenizer.specs.declared.reader.Standing.TheVariants.{Barred, Nowhere, Stands}
-use Rattle.html_tokenizer.specs.Standing.{in_code, in_content, unless_forbidden, standing_in, standing, stands, state_after_slot}
-use Rattle.html_template.specs.Templates.{Chunk, Markup, Slot, encoder_for, state_after_all, page, actions_all, MayFill, Fill}
+use Rattle.html_tokenizer.specs.declared.reader.Standing.TheVariants.{Barred, InLink, InUrl, Nowhere, Stands}
+use Rattle.html_tokenizer.specs.Standing.{in_code, in_content, is_same, unless_forbidden, standing_in, standing}
+use Rattle.html_tokenizer.specs.UrlValues.{is_url}
+use Rattle.html_template.specs.declared.parts.SlotKind.{SlotKind}
+use Rattle.html_template.specs.declared.parts.SlotKind.TheVariants.{Text, UrlPart, Link}
+use Rattle.html_template.specs.declared.parts.SlotKind.TheVariants as kind
+use Rattle.html_template.specs.Slots.{FitsPlace, is_quoted, suits}
+use Rattle.html_template.specs.Templates.{Chunk, Markup, Slot, after_slot, encoder_for, handed, state_after_all, page, actions_all, MayFill, Fill, written}
 use Rattle.html_tokenizer.specs.Tokenizer.Tokenization.{state_after}
-use Rattle.html_tokenizer.proofs.Slots.Html.{text_stays, double_stays, single_stays, unquoted_stays, first_stays}
+use Rattle.html_tokenizer.proofs.Slots.Html.{Remains, text_stays, double_stays, double_stays_in, single_stays, single_stays_in, unquoted_stays, first_stays}
+use Rattle.html_tokenizer.proofs.UrlValues.Attributes.{byte_settled, reference_settled}
+use Rattle.html_tokenizer.proofs.UrlValues.Slots.Components.{component_stays, is_component_byte}
 use Rattle.html_tokenizer.proofs.Passing.{Passes, passes_itself, passes_both, stays_refused}
 use Rattle.html_tokenizer.proofs.Slots.Scripts.{script_stays, script_single_reads, script_double_reads}
+use Rattle.url.proofs.InputLemmas.{list_all_from_All}
+use Rattle.html_urls.proofs.Components.{component_bytes}
+use Rattle.html_urls.specs.Components.{component}
+use Rattle.html_urls.specs.declared.parts.UrlSlot.{UrlSlot}
+use Rattle.html_template.proofs.Walks.{same_place}
 use Rattle.html_tokenizer.proofs.Slots.Styles.{style_stays, style_single_reads, style_double_reads}
 
 no : false ≡ true → ⊥
 no h = cc
 
-no_place : (p : SlotPlace) (b : Bool) → stands p (if b then Barred else Nowhere) ≡ false
-no_place p true = refl
-no_place p false = refl
+no_place : (kind : SlotKind) (p : SlotPlace) (b : Bool) → suits kind p (if b then Barred else Nowhere) ≡ false
+no_place Text p true = refl
+no_place Text p false = refl
+no_place (UrlPart slot) p true = refl
+no_place (UrlPart slot) p false = refl
+no_place Link p true = refl
+no_place Link p false = refl
 
-no_code : (p : SlotPlace) (kind : Code) → stands p (in_code kind) ≡ false
-no_code p kind = no_place p (is_opaque kind)
+no_code : (kind : SlotKind) (p : SlotPlace) (code : Code) → suits kind p (in_code code) ≡ false
+no_code kind p code = no_place kind p (is_opaque code)
 
-in_any : (p : SlotPlace) (element : OpenElement) (standing : Standing) → stands p (in_content element standing) ≡ true → stands p standing ≡ true
-in_any p NoScript standing may = absurd (no may)
-in_any p other standing may = may
+in_any : (kind : SlotKind) (p : SlotPlace) (element : OpenElement) (standing : Standing) →
+    suits kind p (in_content element standing) ≡ true → suits kind p standing ≡ true
+in_any Text p NoScript standing may = absurd (no may)
+in_any (UrlPart slot) p NoScript standing may = absurd (no may)
+in_any Link p NoScript standing may = absurd (no may)
+in_any kind p other standing may = may
 
--- a slot stands in no attribute but an ordinary one
-slot_ordinary : (p : SlotPlace) (state : State) (content : Content) (attribute : Attribute) →
-    stands p (standing_in state content attribute) ≡ true → attribute ≡ Ordinary
+-- ---- a slot for a text
+
+-- it stands in no attribute but an ordinary one
+pub slot_ordinary : (p : SlotPlace) (state : State) (content : Content) (attribute : Attribute) →
+    suits Text p (standing_in state content attribute) ≡ true → attribute ≡ Ordinary
 slot_ordinary p (In q) content Ordinary may = refl
-slot_ordinary p (In q) content other may = absurd (no (in_any p content.element (unless_forbidden other q) may))
+slot_ordinary p (In q) content other may = absurd (no (in_any Text p content.element (unless_forbidden other q) may))
 slot_ordinary p BeforeValue content Ordinary may = refl
 slot_ordinary p BeforeValue content other may = absurd (no may)
-slot_ordinary p (InCode kind) content attribute may = absurd (no (sym (no_code p kind) ∙ may))
+slot_ordinary p (InCode code) content attribute may = absurd (no (sym (no_code Text p code) ∙ may))
 slot_ordinary p elsewhere content attribute may = absurd (no may)
 
 -- where a slot stands, in any content
@@ -52,13 +74,13 @@ abbrev at_place : State → Content → Standing
 at_place (In q) content = Stands q
 at_place other content = standing_in other content Ordinary
 
-stands_at_place : (p : SlotPlace) (state : State) (content : Content) → stands p (standing_in state content Ordinary) ≡ true → stands p (at_place state content) ≡ true
-stands_at_place p (In q) content may = in_any p content.element (Stands q) may
+stands_at_place : (p : SlotPlace) (state : State) (content : Content) → suits Text p (standing_in state content Ordinary) ≡ true → suits Text p (at_place state content) ≡ true
+stands_at_place p (In q) content may = in_any Text p content.element (Stands q) may
 stands_at_place p other content may = may
 
 -- what the encoder writes for a text in a slot leads to the state after the slot, and is read as the text
 ordinary_passes : (p : SlotPlace) (state : State) (content : Content) (text : List ℕ) →
-    stands p (at_place state content) ≡ true → MayFill p text → IsUtf8 text →
+    suits Text p (at_place state content) ≡ true → FitsPlace p text → IsUtf8 text →
     Passes (at state content) (encoded (encoder_for p) text) (map (read_byte p) (read_back (encoder_for p) text)) (at (In p) content)
 ordinary_passes place.Text (In place.Text) content text may full utf8 = text_stays content text
 ordinary_passes place.DoubleQuoted (In place.DoubleQuoted) content text may full utf8 = double_stays content text
@@ -69,41 +91,106 @@ ordinary_passes place.ScriptSingle (In place.ScriptSingle) content text may full
 ordinary_passes place.ScriptDouble (In place.ScriptDouble) content text may full utf8 = script_stays (script_double_reads content) text utf8
 ordinary_passes place.StyleSingle (In place.StyleSingle) content text may full utf8 = style_stays (style_single_reads content) text utf8
 ordinary_passes place.StyleDouble (In place.StyleDouble) content text may full utf8 = style_stays (style_double_reads content) text utf8
-ordinary_passes p (InCode kind) content text may full utf8 = absurd (no (sym (no_code p kind) ∙ may))
+ordinary_passes p (InCode code) content text may full utf8 = absurd (no (sym (no_code Text p code) ∙ may))
 ordinary_passes other elsewhere content text may full utf8 = absurd (no may)
 
-slot_passes : (p : SlotPlace) (state : State) (content : Content) (attribute : Attribute) (text : List ℕ) →
-    stands p (standing_in state content attribute) ≡ true → MayFill p text → IsUtf8 text →
-    Passes (at_value state content attribute) (encoded (encoder_for p) text) (map (read_byte p) (read_back (encoder_for p) text)) (at (In p) content)
-slot_passes p state content attribute text may full utf8 =
+text_passes : (p : SlotPlace) (state : State) (content : Content) (attribute : Attribute) (text : List ℕ) →
+    suits Text p (standing_in state content attribute) ≡ true → FitsPlace p text → IsUtf8 text →
+    Passes (at_value state content attribute) (encoded (encoder_for p) text) (map (read_byte p) (read_back (encoder_for p) text)) (at_value (In p) content attribute)
+text_passes p state content attribute text may full utf8 =
     let ordinary = slot_ordinary p state content attribute may in
     rw ordinary (ordinary_passes p state content text (stands_at_place p state content (rw ordinary at may)) full utf8)
+
+-- ---- a slot in a URL
+
+-- it stands in the value of a URL
+pub record IsInUrl (p : SlotPlace) (state : State) (attribute : Attribute) : Type 0 where
+  pub state_is : state ≡ In p
+  pub attribute_is : is_url attribute ≡ true
+
+pub part_in_url : (slot : UrlSlot) (p : SlotPlace) (state : State) (content : Content) (attribute : Attribute) →
+    suits (UrlPart slot) p (standing_in state content attribute) ≡ true → IsInUrl p state attribute
+part_in_url slot p (In q) content Url may =
+    record { state_is = ap In (sym (same_place p q (in_any (UrlPart slot) p content.element (InUrl q) may))); attribute_is = refl }
+part_in_url slot p (In q) content state.Link may =
+    record { state_is = ap In (sym (same_place p q (in_any (UrlPart slot) p content.element (InLink q) may))); attribute_is = refl }
+part_in_url slot p (In q) content other may = absurd (no (in_any (UrlPart slot) p content.element (unless_forbidden other q) may))
+part_in_url slot p BeforeValue content Ordinary may = absurd (no may)
+part_in_url slot p BeforeValue content other may = absurd (no may)
+part_in_url slot p (InCode code) content attribute may = absurd (no (sym (no_code (UrlPart slot) p code) ∙ may))
+part_in_url slot p elsewhere content attribute may = absurd (no may)
+
+-- and in quotes
+pub record IsInLink (p : SlotPlace) (state : State) (attribute : Attribute) : Type 0 where
+  pub state_is : state ≡ In p
+  pub attribute_is : is_url attribute ≡ true
+  pub quoted : is_quoted p ≡ true
+
+pub link_in_url : (p : SlotPlace) (state : State) (content : Content) (attribute : Attribute) →
+    suits Link p (standing_in state content attribute) ≡ true → IsInLink p state attribute
+link_in_url p (In q) content state.Link may =
+    let parts = and_parts (is_quoted p) (is_same p q) (in_any kind.Link p content.element (InLink q) may) in
+    record { state_is = ap In (sym (same_place p q parts.1)); attribute_is = refl; quoted = parts.0 }
+link_in_url p (In q) content other may = absurd (no (in_any kind.Link p content.element (unless_forbidden other q) may))
+link_in_url p BeforeValue content Ordinary may = absurd (no may)
+link_in_url p BeforeValue content other may = absurd (no may)
+link_in_url p (InCode code) content attribute may = absurd (no (sym (no_code kind.Link p code) ∙ may))
+link_in_url p elsewhere content attribute may = absurd (no may)
+
+url_remains_so : (attribute : Attribute) → is_url attribute ≡ true → Remains attribute
+url_remains_so attribute url = record { bytes = λ b. byte_settled attribute b url; references = reference_settled attribute url }
+
+-- what is written for a whole URL stays in quotes
+quoted_passes : (p : SlotPlace) (content : Content) (attribute : Attribute) (text : List ℕ) → is_quoted p ≡ true → is_url attribute ≡ true →
+    Passes (at_value (In p) content attribute) (encoded (encoder_for p) text) (map (read_byte p) (read_back (encoder_for p) text)) (at_value (In p) content attribute)
+quoted_passes place.DoubleQuoted content attribute text quoted url =
+    double_stays_in (url_remains_so attribute url) content text
+quoted_passes place.SingleQuoted content attribute text quoted url =
+    single_stays_in (url_remains_so attribute url) content text
+quoted_passes other content attribute text quoted url = absurd (no quoted)
+
+-- ---- a slot of any kind
+
+pub slot_passes : (p : SlotPlace) (kind : SlotKind) (state : State) (content : Content) (attribute : Attribute) (text : List ℕ) →
+    suits kind p (standing_in state content attribute) ≡ true → MayFill p kind text → IsUtf8 text →
+    Passes (at_value state content attribute) (written p kind text) (map (read_byte p) (handed p kind text)) (at_value (In p) content attribute)
+slot_passes p Text state content attribute text may full utf8 = text_passes p state content attribute text may full utf8
+slot_passes p (UrlPart slot) state content attribute text may full utf8 =
+    let here = part_in_url slot p state content attribute may in
+    rw here.state_is
+    (component_stays p content attribute (component text) (λ b. byte_settled attribute b here.attribute_is)
+    (list_all_from_All is_component_byte (component text) (component_bytes text)))
+slot_passes p Link state content attribute text may full utf8 =
+    let here = link_in_url p state content attribute may in
+    rw here.state_is (quoted_passes p content attribute text here.quoted here.attribute_is)
 
 all_refused : (chunks : List Chunk) → state_after_all refused chunks ≡ refused
 all_refused [] = refl
 all_refused (Markup bytes ∷ chunks) = ap (λ t. state_after_all t chunks) (stays_refused bytes) ∙ all_refused chunks
-all_refused (Slot p ∷ chunks) = all_refused chunks
+all_refused (Slot p Text ∷ chunks) = all_refused chunks
+all_refused (Slot p (UrlPart slot) ∷ chunks) = all_refused chunks
+all_refused (Slot p Link ∷ chunks) = all_refused chunks
 
 apart : refused ≡ data_state → ⊥
 apart is = let states : Refused ≡ In place.Text = ap (λ (t : Tokenizer). t.state) is in cc
 
--- a template that ends in the data state has each slot where one may stand
-slot_stands : (p : SlotPlace) (t : Tokenizer) (chunks : List Chunk) →
-    state_after_all (state_after_slot p t) chunks ≡ data_state → stands p (standing t) ≡ true
-slot_stands p t chunks ends =
+-- a template that ends in the data state has each slot where one of its kind may stand
+pub slot_suits : (p : SlotPlace) (kind : SlotKind) (t : Tokenizer) (chunks : List Chunk) →
+    state_after_all (after_slot p kind t) chunks ≡ data_state → suits kind p (standing t) ≡ true
+slot_suits p kind t chunks ends =
     ⊎_elim
-    (λ (may : stands p (standing t) ≡ true). may)
-    (λ (not : stands p (standing t) ≡ false). absurd (apart (sym (all_refused chunks) ∙ rw not at ends)))
-    (cases_Bool (stands p (standing t)))
+    (λ (may : suits kind p (standing t) ≡ true). may)
+    (λ (not : suits kind p (standing t) ≡ false). absurd (apart (sym (all_refused chunks) ∙ rw not at ends)))
+    (cases_Bool (suits kind p (standing t)))
 
 pub pieces_pass : (chunks : List Chunk) (t : Tokenizer) (texts : List (List ℕ)) → state_after_all t chunks ≡ data_state →
     Fill chunks texts → AllByRecursion IsUtf8 texts → Passes t (page chunks texts) (actions_all t chunks texts) data_state
 pieces_pass [] t texts ends fill utf8 = record { after = ends; actions = refl }
 pieces_pass (Markup bytes ∷ chunks) t texts ends fill utf8 =
     passes_both (passes_itself t bytes) (pieces_pass chunks (state_after t bytes) texts ends fill utf8)
-pieces_pass (Slot p ∷ chunks) t [] ends fill utf8 = absurd fill
-pieces_pass (Slot p ∷ chunks) t (text ∷ texts) ends fill utf8 =
-    let may = slot_stands p t chunks ends in
-    let here : state_after_slot p t ≡ at (In p) t.content = rw may refl in
-    passes_both (slot_passes p t.state t.content t.attribute text may fill.0 utf8.0)
-    (rw here (pieces_pass chunks (at (In p) t.content) texts (rw here at ends) fill.1 utf8.1))
+pieces_pass (Slot p kind ∷ chunks) t [] ends fill utf8 = absurd fill
+pieces_pass (Slot p kind ∷ chunks) t (text ∷ texts) ends fill utf8 =
+    let may = slot_suits p kind t chunks ends in
+    let here : after_slot p kind t ≡ at_value (In p) t.content t.attribute = rw may refl in
+    passes_both (slot_passes p kind t.state t.content t.attribute text may fill.0 utf8.0)
+    (rw here (pieces_pass chunks (at_value (In p) t.content t.attribute) texts (rw here at ends) fill.1 utf8.1))

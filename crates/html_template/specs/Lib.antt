@@ -1,6 +1,12 @@
 pub mod Encoders
+pub mod Slots
 pub mod Templates
+pub mod OpenUrls
 pub mod TemplateFaults
 pub mod FillFaults
 pub mod Structure
 pub mod TemplatePieces
+pub mod Walks
+pub mod PageUrls
+pub mod UrlTexts
+pub mod PlainTexts

@@ -1,38 +1,89 @@
--- What keeps parts from being a template.
-use Rattle.std.specs.Prelude.{◌≡◌, ⊤, ℕ, ◌+◌, if◌then◌else◌, List, [], ◌∷◌, Option, Some, None, Result, Ok, Err}
+-- The pieces of a template's parts, and what keeps parts from being a template.
+use Rattle.std.specs.Prelude.{◌≡◌, ⊤, ℕ, ◌+◌, if◌then◌else◌, List, [], ◌∷◌, Result, Ok, Err, true, false}
 use Rattle.html_template.specs.declared.faults.TemplateFault.{TemplateFault}
 use Rattle.html_template.specs.declared.faults.TemplateFault.TheVariants.{Malformed, NoPlace, Forbidden, Unfinished, Memory}
-use Rattle.html_template.specs.Templates.{Given, GivenMarkup, GivenSlot}
+use Rattle.html_template.specs.declared.open_url.OpenUrl.{OpenUrl}
+use Rattle.html_template.specs.declared.open_url.OpenUrl.TheVariants.{Outside}
+use Rattle.html_template.specs.declared.parts.SlotKind.TheVariants as kind
+use Rattle.html_template.specs.declared.open_url.PlacedSlot.{PlacedSlot}
+use Rattle.html_template.specs.OpenUrls.{url_markup, url_slot}
+use Rattle.html_template.specs.Templates.{Chunk, Markup, Slot, Given, GivenMarkup, GivenSlot, after_slot}
 use Rattle.html_tokenizer.specs.declared.reader.Standing.{Standing}
-use Rattle.html_tokenizer.specs.declared.reader.Standing.TheVariants.{Stands, Nowhere, Barred}
-use Rattle.html_tokenizer.specs.declared.slot_place.SlotPlace.{SlotPlace}
-use Rattle.html_tokenizer.specs.Standing.{is_refused, may_end, standing, state_after_slot}
-use Rattle.html_tokenizer.specs.Tokenizer.States.{Tokenizer}
+use Rattle.html_tokenizer.specs.declared.reader.Standing.TheVariants.{Stands, InUrl, InLink, Nowhere, Barred}
+use Rattle.html_tokenizer.specs.Standing.{is_refused, may_end, standing}
+use Rattle.html_tokenizer.specs.Tokenizer.States.{Tokenizer, data_state}
 use Rattle.html_tokenizer.specs.Tokenizer.Tokenization.{state_after}
 
--- at a slot that is this part
-abbrev pub slot_fault : ℕ → Standing → (SlotPlace → Option TemplateFault) → Option TemplateFault
-slot_fault number (Stands p) go_on = go_on p
-slot_fault number Barred go_on = Some (Forbidden number)
-slot_fault number Nowhere go_on = Some (NoPlace number)
+-- what was read of the parts: where the tokenizer is, the last part, if it is markup, and what is open of a URL with slots
+pub record Walk : Type 0 where
+  pub tokenizer : Tokenizer
+  pub markup : List ℕ
+  pub url : OpenUrl
 
--- the first fault of the parts from this number on, where the tokenizer is here
-abbrev pub fault_from : ℕ → Tokenizer → List Given → Option TemplateFault
-fault_from number t [] = if may_end t then None else Some Unfinished
-fault_from number t (GivenMarkup bytes ∷ parts) =
-    if is_refused (state_after t bytes).state then Some (Malformed number)
-    else fault_from (number + 1) (state_after t bytes) parts
-fault_from number t (GivenSlot ∷ parts) =
-    slot_fault number (standing t) (λ p. fault_from (number + 1) (state_after_slot p t) parts)
+abbrev pub at_beginning : Walk
+at_beginning = record { tokenizer = data_state; markup = []; url = Outside }
 
--- the first fault is answered, and there is a template where there is none; memory may run out before
-abbrev pub AnswersFault : {T : Type 0} → Option TemplateFault → Result T TemplateFault → Type 0
-AnswersFault fault (Ok template) = fault ≡ None
-AnswersFault fault (Err Memory) = ⊤
-AnswersFault fault (Err other) = fault ≡ Some other
+-- a slot that is this part, by where it stands
+abbrev pub slot_at : ℕ → List ℕ → OpenUrl → Standing → Result PlacedSlot TemplateFault
+slot_at number markup url (Stands p) = Ok (record { place = p; kind = kind.Text; url = Outside })
+slot_at number markup url (InUrl p) = url_slot number p false markup url
+slot_at number markup url (InLink p) = url_slot number p true markup url
+slot_at number markup url Barred = Err (Forbidden number)
+slot_at number markup url Nowhere = Err (NoPlace number)
 
--- after one part more the first fault is that of the others, or it is answered
-abbrev pub TakesPart : {T : Type 0} → ℕ → Tokenizer → Given → Tokenizer → Result T TemplateFault → Type 0
-TakesPart number old part new (Ok done) = (parts : List Given) → fault_from number old (part ∷ parts) ≡ fault_from (number + 1) new parts
-TakesPart number old part new (Err Memory) = ⊤
-TakesPart number old part new (Err other) = (parts : List Given) → fault_from number old (part ∷ parts) ≡ Some other
+-- the pieces of a template, or the first fault
+abbrev pub Told : Type 0
+Told = Result (List Chunk) TemplateFault
+
+-- a piece before others
+abbrev pub put : Chunk → Told → Told
+put chunk (Ok chunks) = Ok (chunk ∷ chunks)
+put chunk (Err fault) = Err fault
+
+-- goes on, unless there is a fault
+abbrev pub told_of : {T : Type 0} → Result T TemplateFault → (T → Told) → Told
+told_of (Ok found) go_on = go_on found
+told_of (Err fault) go_on = Err fault
+
+abbrev pub behind_markup : Walk → List ℕ → OpenUrl → Walk
+behind_markup walk bytes url = record { tokenizer = state_after walk.tokenizer bytes; markup = bytes; url = url }
+
+abbrev pub behind_slot : Walk → PlacedSlot → Walk
+behind_slot walk slot = record { tokenizer = after_slot slot.place slot.kind walk.tokenizer; markup = []; url = slot.url }
+
+-- the pieces of the parts from this number on
+abbrev pub pieces_from : ℕ → Walk → List Given → Told
+pieces_from number walk [] = if may_end walk.tokenizer then Ok [] else Err Unfinished
+pieces_from number walk (GivenMarkup bytes ∷ parts) =
+    if is_refused (state_after walk.tokenizer bytes).state then Err (Malformed number)
+    else told_of (url_markup number walk.url bytes) (λ url. put (Markup bytes) (pieces_from (number + 1) (behind_markup walk bytes url) parts))
+pieces_from number walk (GivenSlot ∷ parts) =
+    told_of (slot_at number walk.markup walk.url (standing walk.tokenizer))
+    (λ slot. put (Slot slot.place slot.kind) (pieces_from (number + 1) (behind_slot walk slot) parts))
+
+-- the pieces of the parts
+abbrev pub template_of : List Given → Told
+template_of parts = pieces_from 0 at_beginning parts
+
+-- after one part more the pieces are this one and those of the others, or its fault is the first
+abbrev pub TakesPart : {T : Type 0} → (T → Chunk) → ℕ → Walk → Given → Walk → Result T TemplateFault → Type 0
+TakesPart chunk number old part new (Ok taken) =
+    (parts : List Given) → pieces_from number old (part ∷ parts) ≡ put (chunk taken) (pieces_from (number + 1) new parts)
+TakesPart chunk number old part new (Err Memory) = ⊤
+TakesPart chunk number old part new (Err other) = (parts : List Given) → pieces_from number old (part ∷ parts) ≡ Err other
+
+-- pieces before those that are told
+abbrev pub put_all : List Chunk → Told → Told
+put_all [] told = told
+put_all (chunk ∷ chunks) told = put chunk (put_all chunks told)
+
+abbrev pub told_behind : List Chunk → ℕ → Walk → List Given → Told
+told_behind chunks number walk parts = put_all chunks (pieces_from number walk parts)
+
+-- after one part more the same is told, or its fault is
+abbrev pub TakesMore : {T : Type 0} → ℕ → List Chunk → Walk → Given → List Chunk → Walk → Result T TemplateFault → Type 0
+TakesMore number chunks walk part new_chunks new_walk (Ok done) =
+    (parts : List Given) → told_behind chunks number walk (part ∷ parts) ≡ told_behind new_chunks (number + 1) new_walk parts
+TakesMore number chunks walk part new_chunks new_walk (Err Memory) = ⊤
+TakesMore number chunks walk part new_chunks new_walk (Err other) =
+    (parts : List Given) → told_behind chunks number walk (part ∷ parts) ≡ Err other

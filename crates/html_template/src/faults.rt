@@ -10,6 +10,17 @@ pub enum TemplateFault {
     NoPlace(usize),
     /// This part is a slot whose text would be read in a second language, as in `onclick`.
     Forbidden(usize),
+    /// This part is markup of a URL that holds a slot, and in that URL it has white space, a control, a
+    /// `\`, or a reference other than `&amp;`; or it ends in a `%`, or in one and a byte, before a slot.
+    NotPlain(usize),
+    /// This part is a slot where the scheme or the host of a URL is still open, or in a URL with another
+    /// scheme than `http`, `https` and `mailto`; or the part before it is not the URL's beginning.
+    NotFixed(usize),
+    /// In this part a segment of a URL's path ends, or a slot stands in one, that with some text may
+    /// read as `.` or `..`: it has no other bytes than those of dots.
+    DotSegment(usize),
+    /// This part goes on with a URL that a slot began. Such a slot is the whole URL.
+    AfterLink(usize),
     /// The parts end within a tag, a reference, or an element whose content is read its own way.
     Unfinished,
     /// A growth was refused.
@@ -34,6 +45,12 @@ pub enum FillFault {
     WrongCount,
     /// This text is for a value without quotes, and empty.
     EmptyUnquoted(usize),
+    /// This text is for a segment of a URL's path that begins with it, and empty.
+    EmptySegment(usize),
+    /// This text is for such a segment, and `.` or `..`, which no encoding keeps from having its meaning.
+    DotSegment(usize),
+    /// This text is for a whole URL, and its scheme is none of `http`, `https` and `mailto`.
+    NotALink(usize),
     /// A growth was refused, or the length would pass the greatest `usize`.
     Memory,
 }

@@ -1,29 +1,74 @@
 //! Whether texts fill the slots of a template.
-ghost use Rattle.std.specs.Prelude.{◌≡◌, ◌↔◌, map, IsTrue, OnOk};
+ghost use Rattle.std.specs.Prelude.{◌≡◌, map, IfNone, OnOk, true};
 ghost use Rattle.std.specs.List.{AllByRecursion};
 ghost use Rattle.std.specs.Result.{result_err};
 ghost use Rattle.std.specs.Str.{IsUtf8};
-ghost use Rattle.html_template.specs.FillFaults.{fill_fault, has_unquoted, may_fill, slot_count};
+ghost use Rattle.html_template.specs.FillFaults.{empty_fault, fill_fault, has_checked, is_checked, segment_fault, slot_count, text_fault};
+ghost use Rattle.html_template.specs.Slots.{FitsPlace};
 ghost use Rattle.html_template.specs.Templates.{Fill, MayFill, chunk_of};
+ghost use Rattle.html_urls.specs.Slots as urls;
 
 use crate::faults::FillFault;
-use crate::stored::Stored;
+use crate::parts::SlotKind;
+use crate::stored::{Stored, StoredSlot};
 use crate::texts::Texts;
 use html_tokenizer::SlotPlace;
+use html_urls::{UrlSlot, is_link, may_fill};
 
-// Whether the text may fill a slot at this place.
-fn may_fill(place: SlotPlace, text: &str) -> bool
-    ensures may { IsTrue result ↔ MayFill place text.now }
-    ensures test { result ≡ may_fill place text.now }
+fn empty_fault(number: usize, place: SlotPlace, text: &str) -> Option<FillFault>
+    ensures fault { result ≡ empty_fault number place text.now }
+    ensures fits { IfNone result (FitsPlace place text.now) }
 {
-    place != SlotPlace::Unquoted || !text.is_empty()
+    if place == SlotPlace::Unquoted && text.is_empty() {
+        Some(FillFault::EmptyUnquoted(number))
+    } else {
+        None
+    }
+}
+
+fn segment_fault(number: usize, slot: UrlSlot, text: &str) -> Option<FillFault>
+    ensures fault { result ≡ segment_fault number slot text.now }
+    ensures fits { IfNone result (urls.may_fill slot text.now ≡ true) }
+{
+    if may_fill(slot, text) {
+        None
+    } else if text.is_empty() {
+        Some(FillFault::EmptySegment(number))
+    } else {
+        Some(FillFault::DotSegment(number))
+    }
+}
+
+// The fault of the text of this number in the slot.
+fn text_fault(number: usize, slot: &StoredSlot, text: &str) -> Option<FillFault>
+    ensures fault { result ≡ text_fault number slot.now.place slot.now.kind text.now }
+    ensures fits { IfNone result (MayFill slot.now.place slot.now.kind text.now) }
+{
+    match slot.kind {
+        SlotKind::Text => empty_fault(number, slot.place, text),
+        SlotKind::UrlPart(url_slot) => segment_fault(number, url_slot, text),
+        SlotKind::Link if is_link(text) => None,
+        SlotKind::Link => Some(FillFault::NotALink(number)),
+    }
+}
+
+// Whether some text may not fill the slot.
+fn is_checked(slot: &StoredSlot) -> bool
+    ensures { result ≡ is_checked slot.now.place slot.now.kind }
+{
+    match slot.kind {
+        SlotKind::Text => slot.place == SlotPlace::Unquoted,
+        SlotKind::UrlPart(url_slot) => url_slot.begins_segment,
+        SlotKind::Link => true,
+    }
 }
 
 /// What is known of pieces before there are texts.
 #[derive(Clone, Copy)]
 pub(crate) struct Summary {
     slots: usize,
-    has_unquoted: bool,
+    // Whether some text may not fill one of the slots.
+    has_checked: bool,
     /// The length of all markup.
     pub(crate) markup: usize,
 }
@@ -32,10 +77,10 @@ impl Summary {
     /// The summary of these pieces.
     pub(crate) fn of(pieces: &[Stored]) -> Summary
         ensures slots { result.slots ≡ slot_count (map chunk_of pieces.now) }
-        ensures unquoted { result.has_unquoted ≡ has_unquoted (map chunk_of pieces.now) }
+        ensures checked { result.has_checked ≡ has_checked (map chunk_of pieces.now) }
     {
         let mut slots: usize = 0;
-        let mut has_unquoted = false;
+        let mut has_checked = false;
         let mut markup: usize = 0;
         let mut rest = pieces;
         'pieces: while let [piece, others @ ..] = rest {
@@ -44,13 +89,13 @@ impl Summary {
                 Stored::Markup(piece) => markup = markup.saturating_add(piece.text.len()),
                 Stored::Slot(slot) => {
                     slots += 1;
-                    has_unquoted = has_unquoted || slot.place == SlotPlace::Unquoted;
+                    has_checked = has_checked || is_checked(slot);
                 }
             }
         }
         Summary {
             slots,
-            has_unquoted,
+            has_checked,
             markup,
         }
     }
@@ -64,7 +109,7 @@ pub(crate) fn check<T: Texts>(
     texts: &T,
 ) -> Result<(), FillFault>
     requires slots { summary.slots ≡ slot_count (map chunk_of pieces.now) }
-    requires unquoted { summary.has_unquoted ≡ has_unquoted (map chunk_of pieces.now) }
+    requires checked { summary.has_checked ≡ has_checked (map chunk_of pieces.now) }
     ensures full { OnOk result (Fill (map chunk_of pieces.now) (T.list texts.now)) }
     ensures utf8 { OnOk result (AllByRecursion IsUtf8 (T.list texts.now)) }
     ensures faults { result_err result
@@ -72,7 +117,7 @@ pub(crate) fn check<T: Texts>(
 {
     // For the proof alone that all are UTF-8: no code is left of a sum that no one reads.
     let _length = total_length(texts);
-    if !summary.has_unquoted && texts.count() == summary.slots {
+    if !summary.has_checked && texts.count() == summary.slots {
         return Ok(());
     }
     check_each(pieces, texts)
@@ -116,8 +161,8 @@ fn check_each<T: Texts>(pieces: &[Stored], texts: &T) -> Result<(), FillFault>
         let Some((text, more)) = left.take_first() else {
             return Err(FillFault::WrongCount);
         };
-        if !may_fill(slot.place, text) {
-            return Err(FillFault::EmptyUnquoted(texts.count() - left.count()));
+        if let Some(fault) = text_fault(texts.count() - left.count(), slot, text) {
+            return Err(fault);
         }
         left = more;
     }

@@ -1,22 +1,26 @@
 //! The laws of templates.
-ghost use Rattle.std.specs.Prelude.{◌≡◌, ◌++◌, ℕ, List, [], map};
+ghost use Rattle.std.specs.Prelude.{◌≡◌, ◌++◌, ℕ, List, [], Ok, map};
 ghost use Rattle.std.specs.List.{AllByRecursion};
 ghost use Rattle.std.specs.Str.{IsUtf8};
 ghost use Rattle.html_tokenizer.specs.Tokenizer.States.{data_state};
 ghost use Rattle.html_tokenizer.specs.Tokenizer.Tokenization.{actions_of};
 ghost use Rattle.html_tokenizer.specs.Tokens.{skeleton, tokens};
+ghost use Rattle.html_template.specs.PageUrls.{AllAlike, urls_of, whole_urls};
 ghost use Rattle.html_template.specs.Structure.{IsPageOf, IsReadAs, structure};
+ghost use Rattle.html_template.specs.TemplateFaults.{template_of};
 ghost use Rattle.html_template.specs.Templates.{
+  Chunk,
   Fill,
   Given,
   actions_all,
+  given,
   kept,
   page,
   state_after_all,
   texts_of,
 };
 
-use crate::parts::Piece;
+use crate::parts::{Part, Piece};
 pub use html_tokenizer::laws::agreement_law;
 
 /// A page of a template whose slots all stand where a text may stand: whatever follows it, the
@@ -99,4 +103,24 @@ pub fn token_law(pieces: &[Piece], texts: &[&str], others: &[&str])
         (page (map kept pieces.now) (texts_of texts.now))))
         ≡ skeleton (tokens (actions_of data_state
         (page (map kept pieces.now) (texts_of others.now)))) }
+{}
+
+/// The URLs of two pages of one template, which are the values of their attributes that hold one, as
+/// the tokenizer reads them: they are as many, and one by one each two lead alike, or are the texts of
+/// a slot that is a whole URL. These texts are links, and each is met once, in the order of the slots.
+///
+/// Two URLs lead alike if on any page of the web, and on none, both are refused or have one scheme,
+/// user, password, host and port, as many segments and as many strings between `&`.
+///
+/// For instance `<a href="/?q=`, a slot and `&amp;p=1">` has for `a` and for `b&p=2` the URLs
+/// `/?q=a&p=1` and `/?q=b%26p%3D2&p=1`: both have two strings.
+#[tactic(auto, using(crate::proofs::PageUrls::Law::urls_alike))]
+pub fn url_law(parts: &[Part], texts: &[&str], others: &[&str])
+    requires utf8 { AllByRecursion IsUtf8 (texts_of texts.now) }
+    requires others_utf8 { AllByRecursion IsUtf8 (texts_of others.now) }
+    ensures { (chunks : List Chunk) → template_of (map given parts.now) ≡ Ok chunks
+        → Fill chunks (texts_of texts.now) → Fill chunks (texts_of others.now)
+        → AllAlike (whole_urls chunks (texts_of texts.now)) (whole_urls chunks (texts_of others.now))
+        (urls_of (page chunks (texts_of texts.now)))
+        (urls_of (page chunks (texts_of others.now))) }
 {}

@@ -2,20 +2,26 @@
 //!
 //! A [`Template`] is made of markup and slots. It finds out by itself where each slot stands, and so
 //! which encoder writes its texts, and refuses what it cannot read. Whatever texts fill it, the page
-//! is tokenized as the template is, with each text handed to its slot whole.
+//! is tokenized as the template is, with each text handed to its slot whole, in a part of a URL as its
+//! component. No text changes a URL's scheme or host, or how many segments and how many strings between
+//! `&` it has, unless its slot is the whole URL: then it has to be a link.
 #![tactic(auto)]
 
 mod faults;
 mod fill;
 pub mod laws;
+mod open_url;
 mod page;
 mod parts;
 mod stored;
 mod template;
 mod texts;
+mod walk;
 
 pub use crate::faults::{FillFault, TemplateFault};
-pub use crate::parts::{Part, Piece};
+pub use crate::open_url::{OpenUrl, PlacedSlot};
+pub use crate::parts::{Part, Piece, SlotKind};
 pub use crate::template::Template;
 pub use crate::texts::Texts;
 pub use html_tokenizer::{Code, Content, SlotPlace};
+pub use html_urls::{OpenPart, UrlPlace, UrlSlot};

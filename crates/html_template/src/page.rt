@@ -2,10 +2,11 @@
 ghost use Rattle.std.specs.Prelude.{◌≡◌, [], ◌<◌, ◌≤◌, ◌+◌, ◌^◌, ◌++◌, length, map, IfSome, IsOk, IsSome, OnOk};
 ghost use Rattle.std.specs.String.{string_bytes};
 ghost use Rattle.hesc_engine.specs.Forms.{Appended, string_room};
-ghost use Rattle.html_template.specs.Templates.{chunk_of, page};
+ghost use Rattle.html_template.specs.Templates.{chunk_of, page, written};
 
 use crate::fill::total_length;
-use crate::stored::Stored;
+use crate::parts::SlotKind;
+use crate::stored::{Stored, StoredSlot};
 use crate::texts::Texts;
 use hesc_core::forms::{Parts, append_parts, append_to_string};
 use hesc_core::rules::{Escape, Unchanged};
@@ -13,6 +14,7 @@ use hesc_core::{CountOverflow, Rule, Sink};
 use hesc_engine::engine::run_made;
 use hesc_engine::forms::made::Made;
 use hesc_engine::sinks::stack::StackSink;
+use html_urls::{component_length, put_component};
 use std::alloc::{AllocError, Allocator};
 
 /// The most bytes of a page that is made on the stack.
@@ -118,21 +120,32 @@ fn page_length<T: Texts>(pieces: &[Stored], texts: &T) -> Option<usize>
     let mut left = *texts;
     'pieces: while let [piece, others @ ..] = rest {
         rest = others;
-        let class = match piece {
+        let slot = match piece {
             Stored::Markup(markup) => {
                 count = count.checked_add(markup.text.len())?;
                 continue 'pieces;
             }
-            Stored::Slot(slot) => slot.class,
+            Stored::Slot(slot) => slot,
         };
         let Some((text, more)) = left.take_first() else {
             continue 'pieces;
         };
-        let added = Escape(class).total(text)?;
-        count = count.checked_add(added)?;
+        count = count.checked_add(text_length(slot, text)?)?;
         left = more;
     }
     Some(count)
+}
+
+// The length of what is written for the text.
+fn text_length(slot: &StoredSlot, text: &str) -> Option<usize>
+    ensures count { IfSome result (λ count. count
+        ≡ length (written slot.now.place slot.now.kind text.now)) }
+    ensures fits { length (written slot.now.place slot.now.kind text.now) < 2 ^ 64 → IsSome result }
+{
+    match slot.kind {
+        SlotKind::UrlPart(_) => component_length(text),
+        SlotKind::Text | SlotKind::Link => Escape(slot.class).total(text),
+    }
 }
 
 fn put_pieces<T: Texts, S: Sink>(pieces: &[Stored], texts: &T, sink: &mut S) -> Result<(), S::Fault>
@@ -148,7 +161,7 @@ fn put_pieces<T: Texts, S: Sink>(pieces: &[Stored], texts: &T, sink: &mut S) -> 
     let mut left = *texts;
     'pieces: while let [piece, others @ ..] = rest {
         rest = others;
-        let class = match piece {
+        let slot = match piece {
             Stored::Markup(markup) => match markup.as_stretch() {
                 Some(segment) => {
                     sink.put_stretch(segment)?;
@@ -159,15 +172,19 @@ fn put_pieces<T: Texts, S: Sink>(pieces: &[Stored], texts: &T, sink: &mut S) -> 
                     continue 'pieces;
                 }
             },
-            Stored::Slot(slot) => slot.class,
+            Stored::Slot(slot) => slot,
         };
         let Some((text, more)) = left.take_first() else {
             continue 'pieces;
         };
-        // Most texts stay as they are.
-        match Made::of(&Escape(class), text) {
-            Some(made) => run_made(&made, sink)?,
-            None => put_kept(&Escape(class), text, sink)?,
+        if let SlotKind::UrlPart(_) = slot.kind {
+            put_component(text, sink)?;
+        } else {
+            // Most texts stay as they are.
+            match Made::of(&Escape(slot.class), text) {
+                Some(made) => run_made(&made, sink)?,
+                None => put_kept(&Escape(slot.class), text, sink)?,
+            }
         }
         left = more;
     }

@@ -1,5 +1,6 @@
 //! What a template is made of, and what its laws speak of.
 use html_tokenizer::SlotPlace;
+use html_urls::UrlSlot;
 
 /// A part of a template.
 #[derive(Clone, Copy, Debug)]
@@ -10,11 +11,22 @@ pub enum Part<'a> {
     Slot,
 }
 
-/// A part that has been read: of a slot it is known where it stands.
+/// What the text of a slot is.
+#[derive(Clone, Copy, Debug, PartialEq, Eq)]
+pub enum SlotKind {
+    /// A text, which is encoded for its place.
+    Text,
+    /// The value of a part of a URL, which is written as a component.
+    UrlPart(UrlSlot),
+    /// A whole URL, which has to be a link and is encoded for its place.
+    Link,
+}
+
+/// A part that has been read: of a slot it is known where it stands, and what its text is.
 #[derive(Clone, Copy, Debug)]
 pub enum Piece<'a> {
     /// Markup, which stands in each page as it is.
     Markup(&'a str),
     /// A slot at this place.
-    Slot(SlotPlace),
+    Slot(SlotPlace, SlotKind),
 }

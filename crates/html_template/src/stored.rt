@@ -4,6 +4,7 @@ ghost use Rattle.hesc_specs.specs.Text.Escaped.{escaped};
 ghost use Rattle.html_escape.specs.Encoders.{encoded};
 ghost use Rattle.html_template.specs.Encoders.{encoder_for};
 
+use crate::parts::SlotKind;
 use hesc_core::{Class, Replacement, Segment};
 use html_tokenizer::SlotPlace;
 
@@ -58,17 +59,19 @@ impl<'a> StoredMarkup<'a> {
 #[derive(Clone, Copy)]
 pub(crate) struct StoredSlot {
     pub(crate) place: SlotPlace,
+    pub(crate) kind: SlotKind,
     pub(crate) class: Class,
     pub(crate) ghost encodes: { (text : List ℕ) → escaped class text ≡ encoded (encoder_for place) text },
 }
 
 impl StoredSlot {
-    /// A slot at this place.
-    pub(crate) fn new(place: SlotPlace) -> StoredSlot
-        ensures { result.place ≡ place }
+    /// A slot of this kind at this place.
+    pub(crate) fn new(place: SlotPlace, kind: SlotKind) -> StoredSlot
+        ensures place { result.place ≡ place }
+        ensures kind { result.kind ≡ kind }
     {
         let class = class_for(place);
-        StoredSlot { place, class }
+        StoredSlot { place, kind, class }
     }
 }
 

@@ -1,12 +1,15 @@
 //! Templates.
-ghost use Rattle.std.specs.Prelude.{◌≡◌, ◌++◌, ◌∷◌, [], ◌≤◌, ℕ, List, None, IfOk, IsOk, OnOk, length, map};
+ghost use Rattle.std.specs.Prelude.{◌≡◌, ◌++◌, ◌∷◌, [], ◌≤◌, ℕ, List, None, IfErr, IfOk, IsOk, Ok, OnOk, length, map};
 ghost use Rattle.std.specs.String.{string_bytes};
 ghost use Rattle.hesc_engine.specs.Forms.{Appended, string_room};
-ghost use Rattle.html_template.specs.FillFaults.{AnswersFill, fill_fault, has_unquoted, slot_count};
-ghost use Rattle.html_tokenizer.specs.Tokenizer.Phases.{tokenizer_of};
+ghost use Rattle.html_template.specs.FillFaults.{AnswersFill, fill_fault, has_checked, slot_count};
 ghost use Rattle.html_tokenizer.specs.Tokenizer.States.{data_state};
 ghost use Rattle.html_template.specs.Structure.{IsPageOf, IsReadAs};
-ghost use Rattle.html_template.specs.TemplateFaults.{AnswersFault, TakesPart, fault_from};
+ghost use Rattle.html_template.specs.Walks.{walk_of};
+ghost use Rattle.html_template.specs.declared.faults.TemplateFault.TheVariants.{Memory};
+ghost use Rattle.html_template.specs.OpenUrls.{Answers};
+ghost use Rattle.html_template.specs.PageUrls.{LeadsAsAny};
+ghost use Rattle.html_template.specs.TemplateFaults.{TakesMore, template_of};
 ghost use Rattle.html_template.specs.Templates.{
   Fill,
   Given,
@@ -24,7 +27,7 @@ use crate::page::{Page, append_page};
 use crate::parts::Part;
 use crate::stored::{Stored, StoredMarkup, StoredSlot};
 use crate::texts::Texts;
-use html_tokenizer::{Reader, Standing};
+use crate::walk::Walk;
 use std::alloc::{Allocator, Global};
 
 /// A page with slots, each of which stands where a text may stand.
@@ -33,8 +36,9 @@ pub struct Template<'a, A: Allocator = Global> {
     pieces: Vec<Stored<'a>, A>,
     summary: Summary,
     ghost slots: { summary.slots ≡ slot_count (map chunk_of pieces.items) },
-    ghost unquoted: { summary.has_unquoted ≡ has_unquoted (map chunk_of pieces.items) },
+    ghost checked: { summary.has_checked ≡ has_checked (map chunk_of pieces.items) },
     ghost sound: { state_after_all data_state (map chunk_of pieces.items) ≡ data_state },
+    ghost told: { template_of (map part_of (map chunk_of pieces.items)) ≡ Ok (map chunk_of pieces.items) },
 }
 
 impl<'a, A: Allocator + Copy> Template<'a, A> {
@@ -45,20 +49,20 @@ impl<'a, A: Allocator + Copy> Template<'a, A> {
     ///
     /// Of `<p title="`, a slot and `">` it stands in a value in double quotes; of `<p `, a slot and `>`
     /// the fault is `NoPlace(1)`.
-    #[tactic(auto, using(crate::proofs::Pieces::parts_more, crate::proofs::Pieces::parts_all))]
+    #[tactic(auto, using(crate::proofs::Pieces::unfinished, crate::proofs::Pieces::all_told, crate::proofs::Pieces::is_template))]
     pub fn new(alloc: A, parts: &[Part<'a>]) -> Result<Template<'a, A>, TemplateFault>
         ensures parts { IfOk result (λ template.
             map part_of (pieces_of template) ≡ map given parts.now) }
-        ensures faults { AnswersFault (fault_from 0 data_state (map given parts.now)) result }
+        ensures told { Answers pieces_of (template_of (map given parts.now)) result }
     {
-        let mut reader = Reader::new(alloc);
-        let mut pieces = Vec::new(alloc);
+        let mut walk = Walk::new(alloc);
+        let mut pieces = Vec::with_capacity(alloc, parts.len())?;
         let mut rest = parts;
         'parts: while let [part, others @ ..] = rest {
-            take_part(&mut reader, &mut pieces, *part, parts.len() - rest.len())?;
+            take_part(&mut walk, &mut pieces, *part, parts.len() - rest.len())?;
             rest = others;
         }
-        if !reader.may_end() {
+        if !walk.may_end() {
             return Err(TemplateFault::Unfinished);
         }
         let summary = Summary::of(&pieces);
@@ -68,7 +72,8 @@ impl<'a, A: Allocator + Copy> Template<'a, A> {
     /// Appends the page of these texts, one for each slot. On a fault `output` is as it was.
     ///
     /// Whatever follows the page, it is tokenized as the template is, with each text handed to its
-    /// slot whole. After a page it makes a page of the joined parts.
+    /// slot whole. Its URLs and those of any page of the template are alike, as `laws::url_law` says.
+    /// After a page it makes a page of the joined parts.
     ///
     /// Of `<p title="`, a slot and `">`, the page of `a"` is `<p title="a&quot;">`.
     pub fn append<B: Allocator>(
@@ -85,6 +90,7 @@ impl<'a, A: Allocator + Copy> Template<'a, A> {
             → IsOk result }
         ensures read { OnOk result (IsReadAs (pieces_of self.now) (texts_of texts.now)
             (page (pieces_of self.now) (texts_of texts.now))) }
+        ensures urls { OnOk result (LeadsAsAny (pieces_of self.now) (texts_of texts.now)) }
         ensures joins { OnOk result ((parts : List Given) (before : List (List ℕ))
             → IsPageOf parts before (string_bytes output.old)
             → IsPageOf (parts ++ map part_of (pieces_of self.now)) (before ++ texts_of texts.now)
@@ -97,7 +103,7 @@ impl<'a, A: Allocator + Copy> Template<'a, A> {
     ///
     /// Of `<p title="`, a slot and `">`, the page of `a"` is `<p title="a&quot;">`.
     #[inline(always)]
-    #[tactic(auto, using(crate::proofs::Structure::is_read_as, crate::proofs::Joined::page_after))]
+    #[tactic(auto, using(crate::proofs::Structure::is_read_as, crate::proofs::PageUrls::Law::leads_as_any, crate::proofs::Joined::page_after))]
     pub fn append_texts<T: Texts, B: Allocator>(
         &self,
         output: &mut String<B>,
@@ -112,6 +118,7 @@ impl<'a, A: Allocator + Copy> Template<'a, A> {
             → IsOk result }
         ensures read { OnOk result (IsReadAs (pieces_of self.now) (T.list texts.now)
             (page (pieces_of self.now) (T.list texts.now))) }
+        ensures urls { OnOk result (LeadsAsAny (pieces_of self.now) (T.list texts.now)) }
         ensures joins { OnOk result ((parts : List Given) (before : List (List ℕ))
             → IsPageOf parts before (string_bytes output.old)
             → IsPageOf (parts ++ map part_of (pieces_of self.now)) (before ++ T.list texts.now)
@@ -130,36 +137,37 @@ impl<'a, A: Allocator + Copy> Template<'a, A> {
     }
 }
 
-// Reads one part more, which has this number.
-#[tactic(auto, using(crate::proofs::Pieces::after_markup, crate::proofs::Pieces::after_slot, crate::proofs::Pieces::part_more))]
-fn take_part<'a, A: Allocator>(
-    reader: &mut Reader<A>,
+// Takes one part more, which has this number.
+#[inline(always)]
+fn take_part<'a, A: Allocator + Copy>(
+    walk: &mut Walk<'a, A>,
     pieces: &mut Vec<Stored<'a>, A>,
     part: Part<'a>,
     number: usize,
 ) -> Result<(), TemplateFault>
-    ensures read { OnOk result (state_after_all data_state (map chunk_of pieces.old.items)
-        ≡ tokenizer_of reader.old
-        → state_after_all data_state (map chunk_of pieces.new.items) ≡ tokenizer_of reader.new) }
-    ensures same { OnOk result (map part_of (map chunk_of pieces.new.items)
-        ≡ map part_of (map chunk_of pieces.old.items) ++ given part.entry ∷ []) }
-    ensures faults { TakesPart number (tokenizer_of reader.old) (given part.entry)
-        (tokenizer_of reader.new) result }
+    ensures { TakesMore number (map chunk_of pieces.old.items) (walk_of walk.old) (given part.entry)
+        (map chunk_of pieces.new.items) (walk_of walk.new) result }
 {
-    let piece = match part {
-        Part::Markup(text) => {
-            reader.read(text.as_bytes())?;
-            if reader.is_refused() {
-                return Err(TemplateFault::Malformed(number));
-            }
-            Stored::Markup(StoredMarkup::new(text))
-        }
-        Part::Slot => match reader.slot() {
-            Standing::Stands(place) => Stored::Slot(StoredSlot::new(place)),
-            Standing::Barred => return Err(TemplateFault::Forbidden(number)),
-            Standing::Nowhere => return Err(TemplateFault::NoPlace(number)),
+    match part {
+        Part::Markup(text) => match walk.take_markup(text, number) {
+            Ok(()) => push_piece(pieces, Stored::Markup(StoredMarkup::new(text))),
+            Err(fault) => Err(fault),
         },
-    };
+        Part::Slot => match walk.take_slot(number) {
+            Ok(slot) => push_piece(pieces, Stored::Slot(StoredSlot::new(slot.place, slot.kind))),
+            Err(fault) => Err(fault),
+        },
+    }
+}
+
+#[inline(always)]
+fn push_piece<'a, A: Allocator>(
+    pieces: &mut Vec<Stored<'a>, A>,
+    piece: Stored<'a>,
+) -> Result<(), TemplateFault>
+    ensures pushed { OnOk result (pieces.new.items ≡ pieces.old.items ++ piece.entry ∷ []) }
+    ensures memory { IfErr result (λ fault. fault ≡ Memory) }
+{
     match pieces.push(piece) {
         Ok(()) => Ok(()),
         Err(_) => Err(TemplateFault::Memory),

@@ -1,7 +1,6 @@
 -- What keeps bytes from being the source of a template.
-use Rattle.std.specs.Prelude.{◌≡◌, ⊤, ℕ, ◌+◌, false, List, ◌++◌, Some, Result, Ok, Err, length}
-use Rattle.html_tokenizer.specs.Tokenizer.States.{data_state}
-use Rattle.html_template.specs.TemplateFaults.{fault_from}
+use Rattle.std.specs.Prelude.{◌≡◌, ⊤, ℕ, ◌+◌, false, List, ◌++◌, Result, Ok, Err, length}
+use Rattle.html_template.specs.TemplateFaults.{template_of}
 use Rattle.html_template.specs.Templates.{Given}
 use Rattle.html_template_source.specs.declared.faults.SourceFault.{SourceFault}
 use Rattle.html_template_source.specs.declared.faults.SourceFault.TheVariants.{Unclosed, BadName, NoTemplate, Memory}
@@ -38,5 +37,5 @@ AnswersSource source (Ok done) = ⊤
 AnswersSource source (Err (Unclosed place)) = IsUnclosed source place
 AnswersSource source (Err (BadName place)) = HasBadName source place
 AnswersSource source (Err (NoTemplate fault)) =
-    (parts : List Given) × (names : List (List ℕ)) × IsSourceOf parts names source × (fault_from 0 data_state parts ≡ Some fault)
+    (parts : List Given) × (names : List (List ℕ)) × IsSourceOf parts names source × (template_of parts ≡ Err fault)
 AnswersSource source (Err Memory) = ⊤

@@ -3,6 +3,7 @@ ghost use Rattle.std.specs.Prelude.{◌≡◌, None, IfOk, OnOk, map};
 ghost use Rattle.std.specs.Option.{option_or};
 ghost use Rattle.std.specs.String.{string_bytes};
 ghost use Rattle.hesc_engine.specs.Forms.{Appended};
+ghost use Rattle.html_template.specs.PageUrls.{LeadsAsAny};
 ghost use Rattle.html_template.specs.Structure.{IsReadAs};
 ghost use Rattle.html_template.specs.Templates.{page, part_of, texts_of};
 ghost use Rattle.html_template_source.specs.Bindings.{
@@ -66,7 +67,8 @@ impl<'a, A: Allocator + Copy> NamedTemplate<'a, A> {
     /// was: first come faults of the bindings, one by one, then of the slots.
     ///
     /// Whatever follows the page, it is tokenized as the template is, with each text handed to its
-    /// slots whole.
+    /// slots whole, in a part of a URL as its component. Its URLs and those of any page of the
+    /// template are alike, as `html_template::laws::url_law` says.
     ///
     /// Of `<p>{{name}}</p>`, the page of `a<b` for `name` is `<p>a&lt;b</p>`.
     pub fn append<B: Allocator>(
@@ -83,6 +85,8 @@ impl<'a, A: Allocator + Copy> NamedTemplate<'a, A> {
             (map (text_of (bindings_of bindings.now)) (names_of self.now))
             (page (chunks_of self.now)
             (map (text_of (bindings_of bindings.now)) (names_of self.now)))) }
+        ensures urls { OnOk result (LeadsAsAny (chunks_of self.now)
+            (map (text_of (bindings_of bindings.now)) (names_of self.now))) }
     {
         if self.names.are_in_order(bindings) {
             return self.append_placed(output, bindings, None);
@@ -106,6 +110,8 @@ impl<'a, A: Allocator + Copy> NamedTemplate<'a, A> {
             (map (text_of (bindings_of bindings.now)) (names_of self.now))
             (page (chunks_of self.now)
             (map (text_of (bindings_of bindings.now)) (names_of self.now)))) }
+        ensures urls { OnOk result (LeadsAsAny (chunks_of self.now)
+            (map (text_of (bindings_of bindings.now)) (names_of self.now))) }
     {
         let mut places = [NOWHERE; BLOCK];
         if let Some(fault) = find_fault(&self.names, bindings, &mut places) {
@@ -134,6 +140,8 @@ impl<'a, A: Allocator + Copy> NamedTemplate<'a, A> {
             (map (text_of (bindings_of bindings.now)) (names_of self.now))
             (page (chunks_of self.now)
             (map (text_of (bindings_of bindings.now)) (names_of self.now)))) }
+        ensures urls { OnOk result (LeadsAsAny (chunks_of self.now)
+            (map (text_of (bindings_of bindings.now)) (names_of self.now))) }
     {
         let Ok(mut places) = vec![in self.alloc; NOWHERE; self.names.distinct.len()] else {
             return Err(BindFault::Memory);
@@ -163,6 +171,8 @@ impl<'a, A: Allocator + Copy> NamedTemplate<'a, A> {
             (map (text_of (bindings_of bindings.now)) (names_of self.now))
             (page (chunks_of self.now)
             (map (text_of (bindings_of bindings.now)) (names_of self.now)))) }
+        ensures urls { OnOk result (LeadsAsAny (chunks_of self.now)
+            (map (text_of (bindings_of bindings.now)) (names_of self.now))) }
     {
         let texts = Bound {
             numbers: &self.names.numbers,

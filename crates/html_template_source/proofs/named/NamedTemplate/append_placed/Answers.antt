@@ -2,8 +2,9 @@ use Rattle.std.proofs.Common.{◌≡◌, ◌++◌, ◌∙◌, Bor, List, ℕ, Op
 use Rattle.std.proofs.lemmas.List.{length-map}
 use Rattle.std.specs.String.{string_bytes}
 use Rattle.html_template.specs.declared.faults.FillFault.{FillFault}
-use Rattle.html_template.specs.declared.faults.FillFault.TheVariants.{WrongCount, EmptyUnquoted, Memory}
+use Rattle.html_template.specs.declared.faults.FillFault.TheVariants.{WrongCount, EmptyUnquoted, EmptySegment, DotSegment, NotALink, Memory}
 use Rattle.html_template.specs.FillFaults.{AnswersFill, fill_fault}
+use Rattle.html_template.specs.PageUrls.{LeadsAsAny}
 use Rattle.html_template.specs.Structure.{IsReadAs}
 use Rattle.html_template.specs.Templates.{page, texts_of}
 use Rattle.html_template_source.specs.Bindings.{Binding, bindings_of, filled, text_of}
@@ -26,6 +27,9 @@ same_texts places bindings distinct numbers got is placed below =
 first_fill : (T : Type 0) (first : Option FillFault) (fault : FillFault) → (fault ≡ Memory → ⊥) → AnswersFill {T = T} first (Err fault) → first ≡ Some fault
 first_fill T first WrongCount other is = is
 first_fill T first (EmptyUnquoted n) other is = is
+first_fill T first (EmptySegment n) other is = is
+first_fill T first (DotSegment n) other is = is
+first_fill T first (NotALink n) other is = is
 first_fill T first Memory other is = absurd (other refl)
 
 pub returns-in-Ok-clause-appended : goal.returns-in-Ok-clause-appended
@@ -50,6 +54,13 @@ returns-in-Ok-clause-read g c =
     c.deref.ensures.value c.requires.placed c.args.self.now.names.below)
     c.in-Ok.ensures.read
 
+pub returns-in-Ok-clause-urls : goal.returns-in-Ok-clause-urls
+returns-in-Ok-clause-urls g c =
+    subst (LeadsAsAny (chunks_of c.args.self.now))
+    (same_texts c.args.places (bindings_of c.args.bindings.now) c.args.self.now.names.distinct.items c.args.self.now.names.numbers.items c.deref.result.now
+    c.deref.ensures.value c.requires.placed c.args.self.now.names.below)
+    c.in-Ok.ensures.urls
+
 pub returns-in_default : goal.returns-in_default
 returns-in_default g c = record {
   appended = c.in-Err.ensures.appended;
@@ -59,4 +70,5 @@ returns-in_default g c = record {
       c.deref.ensures.value c.requires.placed c.args.self.now.names.below))
       ∙ first_fill (Unit {0}) _ c.in-Err.fault c.in_default.not-Memory c.in-Err.ensures.faults);
   read = tt;
+  urls = tt;
 }

@@ -1,0 +1,13 @@
+pub mod AllAlike
+pub mod Completing
+pub mod LaterMarkup
+pub mod Law
+pub mod MarkupSteps
+pub mod Opening
+pub mod Pending
+pub mod Placed
+pub mod SameMarkup
+pub mod SlotSteps
+pub mod Splitting
+pub mod TextSlots
+pub mod UrlSlots

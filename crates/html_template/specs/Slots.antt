@@ -1,0 +1,55 @@
+-- A slot: how a text is written in it and what the tokenizer reads there, and which texts may fill it.
+use Rattle.std.specs.Prelude.{◌≡◌, ◌≢◌, ⊤, ℕ, Bool, true, false, ◌&&◌, if◌then◌else◌, List, length}
+use Rattle.html_escape.specs.Encoders.{encoded}
+use Rattle.hesc_places.specs.Places.ReadBack.{read_back}
+use Rattle.html_tokenizer.specs.declared.reader.Standing.{Standing}
+use Rattle.html_tokenizer.specs.declared.reader.Standing.TheVariants.{Stands, InUrl, InLink}
+use Rattle.html_tokenizer.specs.declared.slot_place.SlotPlace.{SlotPlace}
+use Rattle.html_tokenizer.specs.declared.slot_place.SlotPlace.TheVariants.{DoubleQuoted, SingleQuoted, Unquoted}
+use Rattle.html_tokenizer.specs.Standing.{is_same, standing}
+use Rattle.html_tokenizer.specs.Tokenizer.States.{In, Tokenizer, at_value, refused}
+use Rattle.html_urls.specs.Components.{component}
+use Rattle.html_urls.specs.Links.{is_link}
+use Rattle.html_urls.specs.Slots as urls
+use Rattle.html_template.specs.Encoders.{encoder_for}
+use Rattle.html_template.specs.declared.parts.SlotKind.{SlotKind}
+use Rattle.html_template.specs.declared.parts.SlotKind.TheVariants.{Text, UrlPart, Link}
+
+-- a part of a URL is written as a component, which needs no encoding in any value; else the encoder of its place writes the text
+abbrev pub written : SlotPlace → SlotKind → List ℕ → List ℕ
+written p (UrlPart slot) text = component text
+written p other text = encoded (encoder_for p) text
+
+-- what the tokenizer is handed of the text
+abbrev pub handed : SlotPlace → SlotKind → List ℕ → List ℕ
+handed p (UrlPart slot) text = component text
+handed p other text = read_back (encoder_for p) text
+
+-- a value without quotes is not empty
+abbrev pub FitsPlace : SlotPlace → List ℕ → Type 0
+FitsPlace Unquoted text = length text ≢ 0
+FitsPlace other text = ⊤
+
+-- a text that begins a segment of a path is not empty, and neither `.` nor `..`; a whole URL is a link
+abbrev pub MayFill : SlotPlace → SlotKind → List ℕ → Type 0
+MayFill p Text text = FitsPlace p text
+MayFill p (UrlPart slot) text = urls.may_fill slot text ≡ true
+MayFill p Link text = is_link text ≡ true
+
+-- the value of an attribute in quotes
+abbrev pub is_quoted : SlotPlace → Bool
+is_quoted DoubleQuoted = true
+is_quoted SingleQuoted = true
+is_quoted other = false
+
+-- a slot of this kind may stand so
+abbrev pub suits : SlotKind → SlotPlace → Standing → Bool
+suits Text p (Stands q) = is_same p q
+suits (UrlPart slot) p (InUrl q) = is_same p q
+suits (UrlPart slot) p (InLink q) = is_same p q
+suits Link p (InLink q) = is_quoted p && is_same p q
+suits kind p other = false
+
+-- the tokenizer after a slot, by the template alone
+abbrev pub after_slot : SlotPlace → SlotKind → Tokenizer → Tokenizer
+after_slot p kind t = if suits kind p (standing t) then at_value (In p) t.content t.attribute else refused

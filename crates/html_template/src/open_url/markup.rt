@@ -1,0 +1,196 @@
+//! The markup of a URL: where it begins and ends, and what it adds to the URL.
+ghost use Rattle.std.specs.Prelude.{◌≡◌, ◌≤◌, ◌<◌, ◌+◌, ◌++◌, ◌∷◌, [], IfOk, IfSome, IsTrue, None, OnOk, bytes_eq, codes, drop, length, option_map, take};
+ghost use Rattle.std.specs.List.{position_or_len};
+ghost use Rattle.std.specs.Option.{ForSome};
+ghost use Rattle.html_tokenizer.specs.Tokenizer.Tags.{is_space};
+ghost use Rattle.html_tokenizer.specs.UrlValues as spec;
+ghost use Rattle.html_template.specs.OpenUrls as open_urls;
+ghost use Rattle.html_template.specs.PlainTexts.{bytes_of};
+ghost use Rattle.html_template.specs.UrlTexts.{Takes};
+
+use html_tokenizer::SlotPlace;
+use html_urls::is_plain;
+use std::alloc::{AllocError, Allocator};
+
+fn is_space(byte: u8) -> bool
+    ensures { result ≡ is_space byte }
+{
+    matches!(byte, b'\t' | b'\n' | b'\x0c' | b' ' | b'\r')
+}
+
+// Whether a value at this place begins after the byte.
+fn begins_value(place: SlotPlace, byte: u8) -> bool
+    ensures { result ≡ spec.begins_value place byte }
+{
+    match place {
+        SlotPlace::DoubleQuoted => byte == b'"',
+        SlotPlace::SingleQuoted => byte == b'\'',
+        _ => byte == b'=' || is_space(byte),
+    }
+}
+
+/// Whether a value at this place ends before the byte.
+pub(crate) fn ends_value(place: SlotPlace, byte: u8) -> bool
+    ensures { result ≡ spec.ends_value place byte }
+{
+    match place {
+        SlotPlace::DoubleQuoted => byte == b'"',
+        SlotPlace::SingleQuoted => byte == b'\'',
+        _ => is_space(byte) || byte == b'>',
+    }
+}
+
+/// What stands after the last byte that a value at this place begins after.
+#[tactic(auto, using(crate::proofs::Markup::none_at_end, crate::proofs::Markup::none_one_before, crate::proofs::Markup::last_before, crate::proofs::Markup::none_at_all))]
+pub(crate) fn after_last(place: SlotPlace, markup: &[u8]) -> Option<&[u8]>
+    ensures { option_map (λ bytes. bytes.now) result
+        ≡ spec.after_last (spec.begins_value place) markup.now }
+{
+    let mut start = markup.len();
+    'bytes: while start > 0 {
+        if begins_value(place, markup[start - 1]) {
+            return Some(&markup[start..]);
+        }
+        start -= 1;
+    }
+    None
+}
+
+/// How many of the bytes are of a value at this place.
+pub(crate) fn value_length(place: SlotPlace, markup: &[u8]) -> usize
+    ensures value { result ≡ position_or_len (spec.ends_value place) markup.now }
+    ensures within { result ≤ length markup.now }
+{
+    let mut rest = markup;
+    'bytes: while let [byte, others @ ..] = rest {
+        if ends_value(place, *byte) {
+            return markup.len() - rest.len();
+        }
+        rest = others;
+    }
+    markup.len()
+}
+
+/// What markup adds to a URL.
+#[derive(Drop)]
+pub(crate) enum PlainText<'m, A: Allocator> {
+    /// The markup itself.
+    Same(&'m [u8]),
+    /// Markup with a `&`, as it is read.
+    Read(Vec<u8, A>),
+}
+
+impl<A: Allocator> PlainText<'_, A> {
+    /// Its bytes.
+    pub(crate) fn as_bytes(&self) -> &[u8]
+        ensures { result.now ≡ bytes_of self.now }
+    {
+        match self {
+            PlainText::Same(bytes) => bytes,
+            PlainText::Read(bytes) => bytes,
+        }
+    }
+}
+
+/// What the markup adds to a URL, if it is plain.
+#[tactic(auto, using(crate::proofs::Markup::read_as_it_is))]
+pub(crate) fn plain_text<'m, A: Allocator>(
+    alloc: A,
+    markup: &'m [u8],
+) -> Result<Option<PlainText<'m, A>>, AllocError>
+    ensures { IfOk result (λ text. option_map bytes_of text ≡ open_urls.plain_text markup.now) }
+{
+    let text = if markup.contains(&b'&') {
+        match read_text(alloc, markup)? {
+            Some(text) => PlainText::Read(text),
+            None => return Ok(None),
+        }
+    } else {
+        PlainText::Same(markup)
+    };
+    if is_plain(text.as_bytes()) {
+        Ok(Some(text))
+    } else {
+        Ok(None)
+    }
+}
+
+// Reads the references of the markup.
+#[tactic(auto, using(crate::proofs::Markup::nothing_read))]
+fn read_text<A: Allocator>(alloc: A, markup: &[u8]) -> Result<Option<Vec<u8, A>>, AllocError>
+    ensures { IfOk result (λ text. option_map (λ bytes. bytes.items) text
+        ≡ spec.url_text markup.now) }
+{
+    let mut read = UrlText {
+        text: Vec::with_capacity(alloc, markup.len())?,
+        ampersand: None,
+    };
+    let mut rest = markup;
+    'bytes: while let [byte, others @ ..] = rest {
+        if !read.take(*byte)? {
+            return Ok(None);
+        }
+        rest = others;
+    }
+    if read.ampersand.is_none() {
+        Ok(Some(read.text))
+    } else {
+        Ok(None)
+    }
+}
+
+// The text so far, and where a `&` stands in it of which it is open what it is.
+#[derive(Drop)]
+struct UrlText<A: Allocator> {
+    text: Vec<u8, A>,
+    ampersand: Option<usize>,
+    ghost within: { ForSome ampersand (λ start. start < length text.items) },
+}
+
+impl<A: Allocator> UrlText<A> {
+    // Takes one byte more of the markup, unless it makes another reference than `&amp;`.
+    #[tactic(auto, using(crate::proofs::Markup::byte_kept, crate::proofs::Markup::ampersand_held, crate::proofs::Markup::letter_held, crate::proofs::Markup::equals_read, crate::proofs::Markup::ended_reference, crate::proofs::Markup::other_read))]
+    fn take(&mut self, byte: u8) -> Result<bool, AllocError>
+        ensures { IfOk result (λ is_taken. Takes is_taken self.old.ampersand self.old.text.items byte
+            self.new.ampersand self.new.text.items) }
+    {
+        match self.ampersand {
+            None if byte == b'&' => {
+                let start = self.text.len();
+                self.add(byte, Some(start))?;
+            }
+            None => self.add(byte, None)?,
+            Some(start) if byte.is_ascii_alphanumeric() => self.add(byte, Some(start))?,
+            Some(start) if byte == b';' => return Ok(self.end_reference(start)),
+            Some(_) if byte == b'=' => self.add(byte, None)?,
+            Some(_) => return Ok(false),
+        }
+        Ok(true)
+    }
+
+    // Adds the byte, behind which it is open what this `&` is.
+    fn add(&mut self, byte: u8, ampersand: Option<usize>) -> Result<(), AllocError>
+        requires { IfSome ampersand (λ start. start ≤ length self.old.text.items) }
+        ensures text { OnOk result (self.new.text.items ≡ self.old.text.items ++ byte ∷ []) }
+        ensures ampersand { OnOk result (self.new.ampersand ≡ ampersand) }
+    {
+        self.text.push(byte)?;
+        self.ampersand = ampersand;
+        Ok(())
+    }
+
+    // At a `;` behind this `&`: whether it is `&amp;`, which is a `&`.
+    fn end_reference(&mut self, start: usize) -> bool
+        requires { start < length self.old.text.items }
+        ensures is { result ≡ bytes_eq (drop (start + 1) self.old.text.items) (codes "amp") }
+        ensures text { IsTrue result → self.new.text.items ≡ take (start + 1) self.old.text.items }
+        ensures ampersand { IsTrue result → self.new.ampersand ≡ None }
+    {
+        if &self.text[start + 1..] != b"amp".as_slice() {
+            return false;
+        }
+        self.text.truncate(start + 1);
+        self.ampersand = None;
+        true
+    }
+}
