@@ -1,7 +1,10 @@
 //! The callers of templates.
 
+use html_template::FillFault;
 use std::test::Fail;
 use uses::form_page::{Draft, FormTemplate};
+use uses::home_page::{Stranger, StrangerTemplates};
+use uses::link_list::{Found, LinkList};
 use uses::price_list::{Item, ListTemplates};
 use uses::search_page::{search_page, search_template};
 
@@ -40,7 +43,7 @@ fn a_draft_stays_in_its_form(rt: HostRuntime) -> Result<(), Fail> {
     };
     assert!(rt;
         page.as_str()
-            == "<form method=post action=\"/notes/7&quot;&lt;/script&gt;\"><input name=title value=\"&quot; autofocus onfocus=&quot;\"><input name=tags value='&#x27; a'><textarea name=text>\n&lt;/textarea&gt;</textarea></form><script>restore(\"7\\\"\\x3C/script>\");</script>"
+            == "<form method=post action=\"/notes/7%22%3C%2Fscript%3E\"><input name=title value=\"&quot; autofocus onfocus=&quot;\"><input name=tags value='&#x27; a'><textarea name=text>\n&lt;/textarea&gt;</textarea></form><script>restore(\"7\\\"\\x3C/script>\");</script>"
     );
     Ok(())
 }
@@ -69,5 +72,79 @@ fn no_text_leaves_its_row(rt: HostRuntime) -> Result<(), Fail> {
         page.as_str()
             == "<!DOCTYPE html><title>&lt;/title&gt;</title><table><tr><td>&lt;/table&gt;<td data-price=\"1&quot;&gt;\">&#8364;</tr><tr><td>tea<td data-price=\"2\">&#8364;</tr></table>"
     );
+    Ok(())
+}
+
+#[test]
+fn no_text_leaves_its_part_of_a_link(rt: HostRuntime) -> Result<(), Fail> {
+    let found = [
+        Found {
+            id: "../../logout",
+            name: "</li>",
+        },
+        Found {
+            id: "7",
+            name: "tea",
+        },
+    ];
+    let Ok(list) = LinkList::new(rt.alloc()) else {
+        assert!(rt; false);
+        return Ok(());
+    };
+    let Ok(page) = list.page(rt.alloc(), "1&admin=1#\"", &found) else {
+        assert!(rt; false);
+        return Ok(());
+    };
+    assert!(rt;
+        page.as_str()
+            == "<li><a href=\"/items/..%2F..%2Flogout?q=1%26admin%3D1%23%22\">&lt;/li&gt;</a></li><li><a href=\"/items/7?q=1%26admin%3D1%23%22\">tea</a></li>"
+    );
+    Ok(())
+}
+
+#[test]
+fn an_id_that_is_dots_or_empty_is_a_fault(rt: HostRuntime) -> Result<(), Fail> {
+    let Ok(list) = LinkList::new(rt.alloc()) else {
+        assert!(rt; false);
+        return Ok(());
+    };
+    for (id, fault) in [
+        ("..", FillFault::DotSegment(0)),
+        ("", FillFault::EmptySegment(0)),
+    ] {
+        let found = [Found { id, name: "tea" }];
+        let page = list.page(rt.alloc(), "", &found);
+        assert!(rt; page.as_deref() == Err(&fault), "{id}");
+    }
+    Ok(())
+}
+
+// A name, a URL, and the page.
+static STRANGERS: [(&str, &str, &str); 5] = [
+    (
+        "<b>",
+        "https://a.example/?b&c\"",
+        "<a rel=\"nofollow\" href=\"https://a.example/?b&amp;c&quot;\">&lt;b&gt;</a>",
+    ),
+    (
+        "a",
+        "//a.example",
+        "<a rel=\"nofollow\" href=\"//a.example\">a</a>",
+    ),
+    ("</b>", "javascript:f()", "<b>&lt;/b&gt;</b>"),
+    ("a", " java\tscript:f()", "<b>a</b>"),
+    ("a", "data:text/html,b", "<b>a</b>"),
+];
+
+#[test]
+fn a_stranger_has_a_link_or_a_name_alone(rt: HostRuntime) -> Result<(), Fail> {
+    let Ok(templates) = StrangerTemplates::new(rt.alloc()) else {
+        assert!(rt; false);
+        return Ok(());
+    };
+    for (name, url, wanted) in STRANGERS {
+        let page = templates.page(rt.alloc(), Stranger { name, url });
+        assert!(rt; page.as_deref() == Ok(wanted), "{url}");
+    }
     Ok(())
 }

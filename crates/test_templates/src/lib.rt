@@ -1,11 +1,14 @@
 //! Tests of templates: which are taken and which refused, memory that is refused, and hostile texts in
-//! every place, read back by the grammars of places. The examples of the documents are here too.
+//! every place and part of a URL, read back by the grammars of places and the parser of URLs. The examples
+//! of the documents are here too.
 #![tactic(auto)]
 
 #[cfg(test)]
 mod examples;
 #[cfg(test)]
 mod hostile;
+#[cfg(test)]
+mod links;
 #[cfg(test)]
 mod markup;
 #[cfg(test)]

@@ -3,5 +3,5 @@ mod code;
 mod contents;
 mod doctypes;
 mod long;
-mod otherwise;
+pub(crate) mod otherwise;
 mod references;

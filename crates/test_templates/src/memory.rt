@@ -270,8 +270,8 @@ fn a_fault_of_many_names_is_told_before_memory_is_asked_for(rt: HostRuntime) -> 
     Ok(())
 }
 
-// Markup, and how many bytes of it a reader holds at once: the longest name, beginning of an address,
-// type of a script, reference or escape.
+// Markup, and how many bytes of it a reader holds at once: the longest name, type of a script, reference
+// or escape.
 static HELD: [(Long, usize); 15] = [
     (("", "a.", MILLION / 2, ""), 0),
     (("<!--", "- ", MILLION / 2, "-->"), 0),
@@ -281,7 +281,7 @@ static HELD: [(Long, usize); 15] = [
     (("", "<a href=\"https://a.b/c\">", MILLION / 24, ""), 5),
     (("", "&amp;", MILLION / 5, ""), 3),
     (("<p title=\"", "a", MILLION, "\">"), 5),
-    (("<a href=\"", "a", 1000, "/\">"), 1000),
+    (("<a href=\"", "a", MILLION, "/\">"), 4),
     (("<p ", "a", MILLION, "=b>"), MILLION),
     (("<", "p", MILLION, ">"), MILLION),
     (("&#", "0", MILLION, "65;"), MILLION + 3),

@@ -1,6 +1,7 @@
 //! A page with a slot in every place, and its reading.
 use hesc_places::{End, Place, read_place};
 use html_template::{Part, Template};
+use html_urls::append_component;
 use std::alloc::{AllocError, Global};
 use std::process::Abort;
 use std::test::Fail;
@@ -48,13 +49,21 @@ pub fn parts(alloc: Global) -> Result<Vec<Part<'static>>, AllocError> {
     Ok(parts)
 }
 
-// What is read of a text: a value without quotes and a style's string have U+FFFD for NUL.
-fn read_back(alloc: Global, place: Place, text: &str) -> Result<String, AllocError> {
+/// The slot that stands in a URL.
+pub const IN_URL: usize = 11;
+
+// What is read of a text in the slot of that number: a URL has its component, and a value without quotes
+// and a style's string have U+FFFD for NUL.
+fn read_back(alloc: Global, number: usize, place: Place, text: &str) -> Result<String, AllocError> {
     let replaces = matches!(
         place,
         Place::UnquotedAttribute(_) | Place::StyleSingle | Place::StyleDouble
     );
     let mut read = String::new(alloc);
+    if number == IN_URL {
+        append_component(&mut read, text)?;
+        return Ok(read);
+    }
     if !replaces || !text.as_bytes().contains(&0) {
         read.push_str(text)?;
         return Ok(read);
@@ -72,14 +81,14 @@ fn read_back(alloc: Global, place: Place, text: &str) -> Result<String, AllocErr
 /// Whether the page has its markup, and between it each text, as its place is read.
 pub fn holds(alloc: Global, page: &str, texts: &[&str]) -> Result<bool, AllocError> {
     let mut rest = page.as_bytes();
-    for ((markup, place), text) in SLOTS.iter().zip(texts.iter()) {
+    for (number, ((markup, place), text)) in SLOTS.iter().zip(texts.iter()).enumerate() {
         let Some(following) = rest.strip_prefix(markup.as_bytes()) else {
             return Ok(false);
         };
         let Some(found) = read_place(alloc, *place, following)? else {
             return Ok(false);
         };
-        let wanted = read_back(alloc, *place, *text)?;
+        let wanted = read_back(alloc, number, *place, *text)?;
         let Some((_, more)) = following.split_at_checked(found.end) else {
             return Ok(false);
         };

@@ -1,7 +1,9 @@
 //! The examples of the tables in the README of `html_template`, in their order: what is taken, what is
 //! refused, and what to write instead. A line end of a row stands there as `⏎`.
-use html_template::TemplateFault::{Forbidden, Malformed, NoPlace, Unfinished};
-use html_template::{FillFault, Part, Template};
+use html_template::TemplateFault::{
+    AfterLink, DotSegment, Forbidden, Malformed, NoPlace, NotFixed, NotPlain, Unfinished,
+};
+use html_template::{FillFault, Part, Template, TemplateFault};
 use html_template_source::SourceFault::NoTemplate;
 use html_template_source::{BindFault, NamedTemplate, SourceFault};
 use html_tokenizer::{Reader, SlotPlace, Standing};
@@ -49,7 +51,7 @@ static PLACES: [(&str, SlotPlace); 8] = [
 ];
 
 // Templates that are taken.
-static TAKEN: [&str; 33] = [
+static TAKEN: [&str; 35] = [
     "<!doctype HTML><p>{{a}}</p>",
     "<!DOCTYPE html PUBLIC \"-//W3C//DTD HTML 4.01//EN\" 'http://www.w3.org/TR/html4/strict.dtd'>",
     "<!DOCTYPE html SYSTEM \"about:legacy-compat\">",
@@ -65,6 +67,8 @@ static TAKEN: [&str; 33] = [
     "<a href=\"?a=1&copy={{a}}\">",
     "<a href=\"/u/{{a}}\">",
     "<a href=\"https://a.example/{{a}}\">",
+    "<a href=\"{{a}}\">",
+    "<img src='{{a}}'>",
     "<title>{{a}}</title><textarea>{{b}}</textarea>",
     "<title>a < <b>{{a}}</b></title>",
     "<meta charset=\"utf-8\">",
@@ -352,19 +356,133 @@ static META: [(&str, &str); 7] = [
     ),
 ];
 
-// URLs whose scheme is fixed before the slot.
-static SCHEMES: [&str; 7] = [
+// URLs whose scheme and host are fixed before the first slot.
+static FIXED: [&str; 11] = [
     "<a href=\"/u/{{a}}\">",
+    "<a href=\"/{{a}}\">",
+    "<a href=\"./{{a}}\">",
+    "<a href=\"../u/{{a}}\">",
+    "<img src=\"https://a.example/{{a}}\">",
     "<a href=\"?q={{a}}\">",
     "<a href=\"#{{a}}\">",
-    "<img src=\"https://a.example/{{a}}\">",
     "<a href=\"http://a.example?q={{a}}\">",
-    "<a href=\"mailto:{{a}}\">",
-    "<a href=\"tel:{{a}}\">",
+    "<a href=\"mailto:b@c.example?subject={{a}}\">",
+    "<a href=\"/items/{{id}}\">",
+    "<a href=\"/u/{{a}}/{{b}}.html?q={{c}}&amp;r={{d}}#{{e}}\">",
+];
+
+// Markup of a URL that is refused, its fault, and what to write instead.
+static URLS: [(&str, TemplateFault, &str); 26] = [
+    (
+        "<a href=\"/b c/{{a}}\">",
+        NotPlain(0),
+        "<a href=\"/b%20c/{{a}}\">",
+    ),
+    ("<a href=\"/\\{{a}}\">", NotPlain(0), "<a href=\"/{{a}}\">"),
+    (
+        "<a href=\"&#47;{{a}}\">",
+        NotPlain(0),
+        "<a href=\"/{{a}}\">",
+    ),
+    (
+        "<a href=\"?b&c&d={{a}}\">",
+        NotPlain(0),
+        "<a href=\"?b&amp;c&amp;d={{a}}\">",
+    ),
+    (
+        "<a href=\"/b/%2{{a}}\">",
+        NotPlain(0),
+        "<a href=\"/b/{{a}}\">",
+    ),
+    (
+        "<a href=\"/u/{{a}}/b c\">",
+        NotPlain(2),
+        "<a href=\"/u/{{a}}/b%20c\">",
+    ),
+    (
+        "<a href=\"https://{{a}}/\">",
+        NotFixed(1),
+        "<a href=\"https://b.example/{{a}}\">",
+    ),
+    (
+        "<a href=\"https://b.example{{a}}\">",
+        NotFixed(1),
+        "<a href=\"https://b.example/{{a}}\">",
+    ),
+    ("<a href=\"//{{a}}\">", NotFixed(1), "<a href=\"/{{a}}\">"),
+    (
+        "<a href=\"//b.example/{{a}}\">",
+        NotFixed(1),
+        "<a href=\"https://b.example/{{a}}\">",
+    ),
+    (
+        "<a href=\"HTTPS://b.example/{{a}}\">",
+        NotFixed(1),
+        "<a href=\"https://b.example/{{a}}\">",
+    ),
+    ("<a href=\"u{{a}}\">", NotFixed(1), "<a href=\"./u{{a}}\">"),
+    (
+        "<a href=\"javascript:f?{{a}}\">",
+        NotFixed(1),
+        "<a href=\"/u?{{a}}\">",
+    ),
+    (
+        "<a href=\"mailto:{{a}}\">",
+        NotFixed(1),
+        "<a href=\"mailto:?to={{a}}\">",
+    ),
+    ("<a href=\"tel:{{a}}\">", NotFixed(1), "<a>{{a}}</a>"),
+    (
+        "<iframe src=\"{{a}}\"></iframe>",
+        NotFixed(1),
+        "<iframe src=\"https://b.example/{{a}}\"></iframe>",
+    ),
+    (
+        "<svg><a href=\"{{a}}\">b</a></svg>",
+        NotFixed(1),
+        "<a href=\"{{a}}\"><svg></svg></a>",
+    ),
+    ("<a href={{a}}>", Forbidden(1), "<a href=\"{{a}}\">"),
+    ("<a href=\"{{a}}/b\">", AfterLink(2), "<a href=\"{{a}}\">"),
+    (
+        "<a href=\"{{a}}{{b}}\">",
+        AfterLink(3),
+        "<a href=\"{{a}}\">",
+    ),
+    (
+        "<img srcset=\"/u/{{a}} 2x\">",
+        Forbidden(1),
+        "<img src=\"/u/{{a}}\">",
+    ),
+    (
+        "<a ping=\"/u/{{a}}\">",
+        Forbidden(1),
+        "<a href=\"/u/{{a}}\">",
+    ),
+    (
+        "<a href=\"/b/.{{a}}\">",
+        DotSegment(1),
+        "<a href=\"/b/c.{{a}}\">",
+    ),
+    (
+        "<a href=\"/b/{{a}}{{c}}\">",
+        DotSegment(3),
+        "<a href=\"/b/{{a}}-{{c}}\">",
+    ),
+    (
+        "<a href=\"/b/{{a}}/../c\">",
+        DotSegment(2),
+        "<a href=\"/b/c\">",
+    ),
+    (
+        "<a href=\"/b/{{a}}.\">",
+        DotSegment(2),
+        "<a href=\"/b/{{a}}.html\">",
+    ),
 ];
 
 // Sources, and the fault of each.
-static FAULTS: [(&str, SourceFault); 39] = [
+static FAULTS: [(&str, SourceFault); 46] = [
     ("<xmp>", NoTemplate(Malformed(0))),
     ("<p {{a}}>", NoTemplate(NoPlace(1))),
     ("<!-- {{a}} -->", NoTemplate(NoPlace(1))),
@@ -379,8 +497,9 @@ static FAULTS: [(&str, SourceFault); 39] = [
     ("<p onclick=\"f('{{a}}')\">", NoTemplate(Forbidden(1))),
     ("<p style=\"{{a}}\">", NoTemplate(Forbidden(1))),
     ("<iframe srcdoc=\"{{a}}\">", NoTemplate(Forbidden(1))),
-    ("<a href=\"{{a}}\">", NoTemplate(Forbidden(1))),
-    ("<a href=\"https://{{a}}/\">", NoTemplate(Forbidden(1))),
+    ("<img srcset=\"{{a}} 2x\">", NoTemplate(Forbidden(1))),
+    ("<a ping=\"/u/{{a}}\">", NoTemplate(Forbidden(1))),
+    ("<a href={{a}}>", NoTemplate(Forbidden(1))),
     (
         "<script type=\"application/json\">{\"b\": \"{{a}}\"}</script>",
         NoTemplate(Forbidden(1)),
@@ -421,6 +540,12 @@ static FAULTS: [(&str, SourceFault); 39] = [
         "<meta http-equiv=\"refresh\" content=\"{{a}}\">",
         NoTemplate(Forbidden(1)),
     ),
+    ("<a href=\"/b c/{{a}}\">", NoTemplate(NotPlain(0))),
+    ("<a href=\"https://{{a}}/\">", NoTemplate(NotFixed(1))),
+    ("<a href=\"tel:{{a}}\">", NoTemplate(NotFixed(1))),
+    ("<script src=\"{{a}}\"></script>", NoTemplate(NotFixed(1))),
+    ("<a href=\"/b/.{{a}}\">", NoTemplate(DotSegment(1))),
+    ("<a href=\"{{a}}/b\">", NoTemplate(AfterLink(2))),
     ("<p title=\"{{a}}", NoTemplate(Unfinished)),
     ("<template>{{a}}", NoTemplate(Unfinished)),
     ("<svg>{{a}}", NoTemplate(Unfinished)),
@@ -453,9 +578,20 @@ fn slots_stand_in_their_places(rt: HostRuntime) -> Result<(), AllocError> {
 }
 
 #[test]
+fn urls_are_refused_and_written_otherwise(rt: HostRuntime) {
+    for &(source, refusal, instead) in &URLS {
+        assert!(rt;
+            fault(rt.alloc(), source) == Some(NoTemplate(refusal)),
+            "{source}"
+        );
+        assert!(rt; fault(rt.alloc(), instead) == None, "{instead}");
+    }
+}
+
+#[test]
 fn what_is_listed_is_taken(rt: HostRuntime) {
     are_taken(&rt, rt.alloc(), &TAKEN);
-    are_taken(&rt, rt.alloc(), &SCHEMES);
+    are_taken(&rt, rt.alloc(), &FIXED);
 }
 
 #[test]
@@ -522,6 +658,28 @@ fn texts_have_their_faults(rt: HostRuntime) {
         panic!(rt; "the slot stands in a value");
     };
     assert!(rt; template.append(&mut page, &[""]) == Err(FillFault::EmptyUnquoted(0)));
+    assert!(rt; page.as_str() == "");
+}
+
+#[test]
+fn texts_of_urls_have_their_faults(rt: HostRuntime) {
+    let segment = [
+        Part::Markup("<a href=\"/u/"),
+        Part::Slot,
+        Part::Markup("\">"),
+    ];
+    let Ok(template) = Template::new(rt.alloc(), &segment) else {
+        panic!(rt; "the slot stands in a path");
+    };
+    let mut page = String::new(rt.alloc());
+    assert!(rt; template.append(&mut page, &[""]) == Err(FillFault::EmptySegment(0)));
+    assert!(rt; template.append(&mut page, &[".."]) == Err(FillFault::DotSegment(0)));
+    let link = [Part::Markup("<a href=\""), Part::Slot, Part::Markup("\">")];
+    let Ok(template) = Template::new(rt.alloc(), &link) else {
+        panic!(rt; "the slot is a whole URL");
+    };
+    let fault = template.append(&mut page, &["javascript:f()"]);
+    assert!(rt; fault == Err(FillFault::NotALink(0)));
     assert!(rt; page.as_str() == "");
 }
 

@@ -3,7 +3,7 @@ use html_template::{FillFault, TemplateFault};
 use html_template_source::{BindFault, NamedTemplate, SourceFault};
 use std::test::Fail;
 
-static SOURCES: [(&str, Option<SourceFault>); 12] = [
+static SOURCES: [(&str, Option<SourceFault>); 14] = [
     ("", None),
     ("{ } }} <p title=\"{{a_1}}\">{{B}}{{a_1}}</p>", None),
     ("<p>{{a", Some(SourceFault::Unclosed(3))),
@@ -17,9 +17,14 @@ static SOURCES: [(&str, Option<SourceFault>); 12] = [
         Some(SourceFault::NoTemplate(TemplateFault::NoPlace(1))),
     ),
     (
-        "<p>{{a}}<a href='{{b}}'>",
+        "<p>{{a}}<a href={{b}}>",
         Some(SourceFault::NoTemplate(TemplateFault::Forbidden(3))),
     ),
+    (
+        "<p>{{a}}<iframe src='{{b}}'>",
+        Some(SourceFault::NoTemplate(TemplateFault::NotFixed(3))),
+    ),
+    ("<p>{{a}}<a href='{{b}}'>", None),
     (
         "{{a}}<xmp>",
         Some(SourceFault::NoTemplate(TemplateFault::Malformed(2))),

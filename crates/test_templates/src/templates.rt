@@ -1,6 +1,6 @@
 //! Templates that are taken and refused, and pages. What is expected comes from the HTML Standard,
 //! ECMAScript and CSS, never from the code.
-use html_template::TemplateFault::{Forbidden, Malformed, NoPlace, Unfinished};
+use html_template::TemplateFault::{Forbidden, Malformed, NoPlace, NotFixed, NotPlain, Unfinished};
 use html_template::{FillFault, Part, Template, TemplateFault};
 use std::alloc::Allocator;
 use std::test::Fail;
@@ -35,7 +35,7 @@ pub(crate) fn page<'a, A: Allocator + Copy>(
     }
 }
 
-static PAGES: [(&str, &str, &str, &str); 24] = [
+static PAGES: [(&str, &str, &str, &str); 25] = [
     ("", "<b>&", "", "&lt;b&gt;&amp;"),
     ("<P>", "</P>", "</P >", "<P>&lt;/P&gt;</P >"),
     (
@@ -77,7 +77,7 @@ static PAGES: [(&str, &str, &str, &str); 24] = [
         "<a href=\"?a&b=",
         "&c",
         "&copy=d\">",
-        "<a href=\"?a&b=&amp;c&copy=d\">",
+        "<a href=\"?a&b=%26c&copy=d\">",
     ),
     (
         "<script>f('\\x41",
@@ -119,7 +119,7 @@ static PAGES: [(&str, &str, &str, &str); 24] = [
         "<a href=\"/u/",
         "javascript:x",
         "\">",
-        "<a href=\"/u/javascript:x\">",
+        "<a href=\"/u/javascript%3Ax\">",
     ),
     (
         "<a href='https://a.example/",
@@ -128,7 +128,18 @@ static PAGES: [(&str, &str, &str, &str); 24] = [
         "<a href='https://a.example/x'>",
     ),
     ("<a href=?", "x", ">", "<a href=?x>"),
-    ("<a href=\"mailto:", "x", "\">", "<a href=\"mailto:x\">"),
+    (
+        "<a href=\"mailto:a@b.example?subject=",
+        "x&y",
+        "\">",
+        "<a href=\"mailto:a@b.example?subject=x%26y\">",
+    ),
+    (
+        "<a href=\"",
+        "https://a.example/?b&c",
+        "\">",
+        "<a href=\"https://a.example/?b&amp;c\">",
+    ),
     (
         "<script type=module>f('",
         "x",
@@ -147,7 +158,7 @@ fn pages(rt: HostRuntime) {
     }
 }
 
-static REFUSALS: [(&str, &str, TemplateFault); 47] = [
+static REFUSALS: [(&str, &str, TemplateFault); 49] = [
     ("<", ">", NoPlace(1)),
     ("<p", ">", NoPlace(1)),
     ("<p ", "=1>", NoPlace(1)),
@@ -166,13 +177,15 @@ static REFUSALS: [(&str, &str, TemplateFault); 47] = [
     ("<p onclick=\"f('", "')\">", Forbidden(1)),
     ("<p STYLE='", "'>", Forbidden(1)),
     ("<p srcdoc=", ">", Forbidden(1)),
-    ("<a href=\"", "\">", Forbidden(1)),
+    ("<link href=\"", "\">", NotFixed(1)),
     ("<a HREF=", ">", Forbidden(1)),
-    ("<a xlink:href='java", "'>", Forbidden(1)),
-    ("<form action=\"https:", "\">", Forbidden(1)),
-    ("<form action=\"https://a.example", "\">", Forbidden(1)),
-    ("<img src=\"data:image/png,", "\">", Forbidden(1)),
-    ("<a href=\"&#x2f;", "\">", Forbidden(1)),
+    ("<a xlink:href='java", "'>", NotFixed(1)),
+    ("<form action=\"https:", "\">", NotFixed(1)),
+    ("<form action=\"https://a.example", "\">", NotFixed(1)),
+    ("<img src=\"data:image/png,", "\">", NotFixed(1)),
+    ("<a href=\"mailto:", "\">", NotFixed(1)),
+    ("<a href=\"tel:", "\">", NotFixed(1)),
+    ("<a href=\"&#x2f;", "\">", NotPlain(0)),
     (
         "<script type=\"application/json\">{\"a\": \"",
         "\"}</script>",

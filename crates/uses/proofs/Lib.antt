@@ -1,1 +1,3 @@
+pub mod HomePieces
+pub mod LinkRows
 pub mod PriceRows

@@ -1,6 +1,8 @@
 pub mod Cards
 pub mod Cells
 pub mod FormPages
+pub mod HomePages
+pub mod LinkLists
 pub mod OwnRows
 pub mod PriceLists
 pub mod SearchPages

@@ -5,6 +5,8 @@ pub mod back;
 pub mod card;
 pub mod cell;
 pub mod form_page;
+pub mod home_page;
+pub mod link_list;
 pub mod posted;
 pub mod price_list;
 pub mod rows;

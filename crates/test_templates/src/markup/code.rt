@@ -1,7 +1,7 @@
 //! Scripts, styles and the text of an `iframe`: where they take a slot, where the rest is opaque, and where
 //! they end. What is expected comes from the HTML Standard, ECMAScript and CSS, never from the code.
 use crate::markup::otherwise::{Row, hold};
-use html_template::TemplateFault::{Forbidden, Malformed, NoPlace, Unfinished};
+use html_template::TemplateFault::{Forbidden, Malformed, NoPlace, NotFixed, Unfinished};
 
 // After an end of a script a slot stands in text.
 static SCRIPTS: [Row; 36] = [
@@ -132,7 +132,7 @@ fn strings(rt: HostRuntime) {
 
 static FRAMES: [Row; 7] = [
     ("<iframe title=\"", "\"></iframe>", None),
-    ("<iframe src=\"", "\"></iframe>", Some(Forbidden(1))),
+    ("<iframe src=\"", "\"></iframe>", Some(NotFixed(1))),
     ("<iframe srcdoc='", "'></iframe>", Some(Forbidden(1))),
     ("<iframe>", "</iframe>", Some(Forbidden(1))),
     ("<iframe><b><!-- </b></IFRAME>", "", None),

@@ -2,7 +2,7 @@
 //! refused there. What is expected comes from the HTML Standard, never from the code.
 use crate::templates::fault;
 use html_template::TemplateFault;
-use html_template::TemplateFault::{Forbidden, Malformed, NoPlace, Unfinished};
+use html_template::TemplateFault::{Forbidden, Malformed, NoPlace, NotFixed, Unfinished};
 use std::alloc::{AllocError, Global};
 use std::process::Abort;
 use std::test::Fail;
@@ -81,11 +81,11 @@ static SVG: [Row; 27] = [
     ),
     ("<svg><title>", "</TITLE><g><a/></g></svg>", None),
     ("<svg><use href=\"#a\"/><use href=\"#", "\"/></svg>", None),
-    ("<svg><use href=\"", "\"/></svg>", Some(Forbidden(1))),
+    ("<svg><use href=\"", "\"/></svg>", Some(NotFixed(1))),
     (
         "<svg><use xlink:href='",
         "'></use></svg>",
-        Some(Forbidden(1)),
+        Some(NotFixed(1)),
     ),
     ("<svg onload=\"", "\"/>", Some(Forbidden(1))),
     ("<svg><text>&lt;", "</text><!-- <script> --></svg>", None),
@@ -140,7 +140,7 @@ static MATH: [Row; 24] = [
         "</annotation></math>",
         None,
     ),
-    ("<math href=\"", "\"></math>", Some(Forbidden(1))),
+    ("<math href=\"", "\"></math>", Some(NotFixed(1))),
     ("<math><mi>", "</mi>", Some(Unfinished)),
     ("<math><mi/></svg>", "", Some(Unfinished)),
     // A browser passes over this `</math>`.

@@ -1,7 +1,7 @@
 //! Character references, and a `&` that begins none. What is expected comes from the HTML Standard
 //! (13.2.5.72 to 13.2.5.80 and the names of 13.5), never from the code.
 use crate::markup::otherwise::{Row, hold};
-use html_template::TemplateFault::{Forbidden, Malformed, NoPlace};
+use html_template::TemplateFault::{Forbidden, Malformed, NoPlace, NotPlain};
 
 static TEXTS: [Row; 43] = [
     ("Q & A", "", None),
@@ -60,7 +60,7 @@ static VALUES: [Row; 41] = [
     ("<a href=\"?a=1&copy=", "\">", None),
     ("<a href=\"?a=1&amp=", "\">", None),
     ("<a href=\"?a=1&copyx=", "\">", None),
-    ("<a href=\"?a=1&copy;", "\">", None),
+    ("<a href=\"?a=1&copy;", "\">", Some(NotPlain(0))),
     ("<a href=\"?a=1&copy\">", "", Some(Malformed(0))),
     ("<a href=\"?a=1&copy ", "\">", Some(Malformed(0))),
     ("<a href=\"?a=1&copy&", "\">", Some(Malformed(0))),
@@ -95,12 +95,12 @@ static VALUES: [Row; 41] = [
     ("<a title=&copy=1>", "", Some(Malformed(0))),
     ("<a title=&b=1>", "", Some(Malformed(0))),
     ("<a title=&\"", ">", Some(Malformed(0))),
-    ("<a href=\"& ", "\">", Some(Forbidden(1))),
-    ("<a href=\"java&Tab;script:", "\">", Some(Forbidden(1))),
+    ("<a href=\"& ", "\">", Some(NotPlain(0))),
+    ("<a href=\"java&Tab;script:", "\">", Some(NotPlain(0))),
     (
         "<a href=\"https&colon;//a.example/",
         "\">",
-        Some(Forbidden(1)),
+        Some(NotPlain(0)),
     ),
     (
         "<script type=\"module& \">f('",
