@@ -34,10 +34,10 @@ parts_with scheme (Some base) body query f g = step (is_empty body)
     step true = refl
     step false = all_with scheme (Some base) body query f g
 
-by_scheme_with : (split : Option (List ℕ × List ℕ)) (base : Option Parts) (body : List ℕ) (query : Option (List ℕ)) (f g : List ℕ) → parse_by_scheme split base body query (Some g) ≡ on_ok (with_fragment g) (parse_by_scheme split base body query (Some f))
-by_scheme_with (Some split) base body query f g = parts_with (lowercase split.0) (base_for_scheme base (lowercase split.0)) split.1 query f g
-by_scheme_with None None body query f g = refl
-by_scheme_with None (Some base) body query f g = step (cannot_be_a_base base && not (is_empty body && not (is_some query) && true))
+pub scheme_with_fragment : (split : Option (List ℕ × List ℕ)) (base : Option Parts) (body : List ℕ) (query : Option (List ℕ)) (f g : List ℕ) → parse_by_scheme split base body query (Some g) ≡ on_ok (with_fragment g) (parse_by_scheme split base body query (Some f))
+scheme_with_fragment (Some split) base body query f g = parts_with (lowercase split.0) (base_for_scheme base (lowercase split.0)) split.1 query f g
+scheme_with_fragment None None body query f g = refl
+scheme_with_fragment None (Some base) body query f g = step (cannot_be_a_base base && not (is_empty body && not (is_some query) && true))
   where
     step : (refused : Bool) →
         cond refused (Err RelativeUrlWithCannotBeABaseBase) (parse_parts base.scheme (Some base) body query (Some g))
@@ -59,8 +59,8 @@ fragment_law base front text rest place =
     let question = split_once 63 before in
     let read = λ (hash : List ℕ × Option (List ℕ)). parse_by_scheme (split_scheme (split_once 63 hash.0).0) base (split_once 63 hash.0).0 (split_once 63 hash.0).1 hash.1 in
     let parsed = parse_by_scheme (split_scheme question.0) base question.0 question.1 (Some f) in
-    let changed = by_scheme_with (split_scheme question.0) base question.0 question.1 f (f ++ (c ++ after)) in
-    let same = by_scheme_with (split_scheme question.0) base question.0 question.1 f f in
+    let changed = scheme_with_fragment (split_scheme question.0) base question.0 question.1 f (f ++ (c ++ after)) in
+    let same = scheme_with_fragment (split_scheme question.0) base question.0 question.1 f f in
     let go_on = fragment_goes_on text rest in
     let goes_on : (url : Parts) → go_on (with_fragment f url) ≡ with_fragment (f ++ (c ++ after)) url =
     λ url. ap (λ x. record url { fragment = Some x }) (sym (encode_around FRAGMENT refl refl f text after) ∙ ap (percent_encode FRAGMENT) (append_assoc f c after)) in

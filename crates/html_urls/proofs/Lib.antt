@@ -9,5 +9,6 @@ pub mod Paths
 pub mod Places
 pub mod Queries
 pub mod Filled
+pub mod Shapes
 pub mod SlotsTaken
 pub mod Splits

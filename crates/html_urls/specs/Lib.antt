@@ -7,4 +7,5 @@ pub mod OpenParts
 pub mod Parts
 pub mod Places
 pub mod SlotFaults
+pub mod Shapes
 pub mod Slots

@@ -3,7 +3,7 @@
 //! A URL is the bytes of a front, a text as a component, and the bytes of a rest. It is read by
 //! `parse_url`, the URL Standard's parser, against the bases that a law names: none and any web page,
 //! at least.
-ghost use Rattle.std.specs.Prelude.{◌≡◌, ◌<◌, ◌⊎◌, ◌++◌, ◌∷◌, [], All, IfOk, IfSome, None, Ok, Option, Some, codes, is_some, length, map, true};
+ghost use Rattle.std.specs.Prelude.{◌≡◌, ◌<◌, ◌⊎◌, ◌++◌, ◌∷◌, ℕ, [], All, IfOk, IfSome, List, None, Ok, Option, Some, codes, is_some, length, map, true};
 ghost use Rattle.form_urlencoded.specs.Form.{decode, parse};
 ghost use Rattle.percent_encoding.specs.Percent.{percent_decode};
 ghost use Rattle.url.specs.Ascii.{slash};
@@ -33,6 +33,7 @@ ghost use Rattle.html_urls.specs.Parts.Segments.{
   segments_before,
 };
 ghost use Rattle.html_urls.specs.Places.{EndsIn, Fits, LeavesOpen, SuitsPlace, goes_on, place_of};
+ghost use Rattle.html_urls.specs.Shapes.{HasShape, fill, shape_of};
 ghost use Rattle.html_urls.specs.Slots.{FillUrl, given, texts_of, url_of};
 
 use crate::parts::UrlPart;
@@ -204,6 +205,20 @@ pub fn url_template_law(parts: &[UrlPart<'_>], texts: &[&str], others: &[&str])
     ensures strings { (base : Option Parts) → IsWebBase base
         → string_count (parse_url base (url_of (map given parts.now) (texts_of texts.now)))
         ≡ string_count (parse_url base (url_of (map given parts.now) (texts_of others.now))) }
+{}
+
+/// The URL of texts that fill the slots of a URL is one shape with the texts in its slots, the same
+/// shape for all such texts, or it is refused with all of them. The shape is what the parser makes of
+/// the parts: markup as it writes it, and the slots.
+///
+/// For instance `/items/`, a slot, `?q=` and a slot have, on a page of `https://h/`, the path `/items/`
+/// and a slot, and the query `q=` and a slot.
+pub fn url_shape_law(parts: &[UrlPart<'_>])
+    ensures one { (base : Option Parts) → IsWebBase base → HasShape base (map given parts.now) }
+    ensures shape { (base : Option Parts) (texts : List (List ℕ)) → IsWebBase base
+        → FillUrl (map given parts.now) texts
+        → parse_url base (url_of (map given parts.now) texts)
+        ≡ fill (shape_of base (map given parts.now)) texts }
 {}
 
 /// The URL of a text that is a link has the scheme `http`, `https` or `mailto`, on each page whose own

@@ -24,7 +24,7 @@ use Rattle.html_urls.proofs.Filled.Marks.{SameMarks, same_later}
 abbrev pub IsCount : (Parsed Parts → Option ℕ) → Type 0
 IsCount count = (at : UrlPlace) (text other_text rest other : List ℕ) → SameMarks rest other → (parsed : Parsed Parts) → count (on_ok (goes_on at text rest) parsed) ≡ count (on_ok (goes_on at other_text other) parsed)
 
-one_url : (base : Option Parts) (front : List ℕ) (p : OpenPart) (slot : UrlSlot) (text rest : List ℕ) → IsWebBase base → StandsIn front p slot.place → slot_at p ≡ Some slot → may_fill slot text ≡ true → Good (after_text p) rest →
+pub one_url : (base : Option Parts) (front : List ℕ) (p : OpenPart) (slot : UrlSlot) (text rest : List ℕ) → IsWebBase base → StandsIn front p slot.place → slot_at p ≡ Some slot → may_fill slot text ≡ true → Good (after_text p) rest →
     parse_url base (front ++ (component text ++ rest)) ≡ on_ok (goes_on slot.place text rest) (parse_url base front)
 one_url base front p slot text rest web stands here may good =
     ap (parse_url base) (sym (append_assoc front (component text) rest))

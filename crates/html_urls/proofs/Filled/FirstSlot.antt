@@ -135,7 +135,7 @@ path_front (x ∷ xs) s p plain whole path is =
 
 -- ---- what the front ends in
 
-kept_front : (front : List ℕ) → All IsVisible front → kept front ≡ front
+pub kept_front : (front : List ℕ) → All IsVisible front → kept front ≡ front
 unfolding trim_c0_control_and_space
 kept_front [] visible = kept_nothing
 kept_front (x ∷ xs) visible =
@@ -147,7 +147,7 @@ pub record StandsIn (front : List ℕ) (p : OpenPart) (at : UrlPlace) : Type 0 w
   pub ends : EndsIn at front
   pub known : in_path p ≡ true → Open p (last_segment (kept front))
 
-plain_visible : (front : List ℕ) → All (λ b. is_plain_byte b ≡ true) front → All IsVisible front
+pub plain_visible : (front : List ℕ) → All (λ b. is_plain_byte b ≡ true) front → All IsVisible front
 plain_visible front plain = All-weaker (λ b. is_plain_byte b ≡ true) IsVisible (λ b passes. grind (arith, nat_tests)) front plain
 
 path_text : (xs : List ℕ) → All (λ b. is_plain_byte b ≡ true) xs → has_byte 35 xs ≡ false → has_byte 63 xs ≡ false → IsPathText xs

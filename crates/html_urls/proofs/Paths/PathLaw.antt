@@ -5,6 +5,7 @@ use Rattle.percent_encoding.specs.Percent.{percent_encode}
 use Rattle.percent_encoding.proofs.PercentLemmas.{percent_encode_nonempty}
 use Rattle.url.specs.declared.sets.TheConstants.{PATH}
 use Rattle.url.specs.declared.scheme.SchemeType.TheVariants.{SpecialNotFile}
+use Rattle.url.specs.Head.{without_tail}
 use Rattle.url.specs.Input.{split_once}
 use Rattle.url.specs.Path.{dot_count, parse_path}
 use Rattle.url.specs.Parts.{Parts}
@@ -127,3 +128,22 @@ path_law base front text rest web place fits =
     ap read_hash whole_hash ∙ ap (λ r. read r hash.1) whole_question ∙ at.goes_on body (query_of rest) (fragment_of rest)
     ∙ grow at.start text rest (parse_path SpecialNotFile at.path at.body) (parse_path SpecialNotFile at.path (at.body ++ (c ++ body))) grown
     ∙ sym (ap (on_ok (path_goes_on text rest)) (ap read_hash front_hash ∙ ap (λ r. read r None) front_question ∙ at.alone None None))
+
+-- the URL of a front that ends in its path has neither a query nor a fragment
+pub path_bare : (base : Option Parts) (front : List ℕ) → IsWebBase base → EndsInPath front → parse_url base front ≡ on_ok without_tail (parse_url base front)
+unfolding parse_url
+path_bare base front web place =
+    let before = kept front in
+    let at = opened base before (codes "a") web (path_without 92 refl before place.plain) place.fixed (λ _. omega arith) in
+    let path = parse_path SpecialNotFile at.path at.body in
+    let read = λ (r : List ℕ × Option (List ℕ)) (fragment : Option (List ℕ)). parse_by_scheme (split_scheme r.0) base r.0 r.1 fragment in
+    let read_hash = λ (r : List ℕ × Option (List ℕ)). read (split_once 63 r.0) r.1 in
+    let whole =
+    ap read_hash (split_once_none 35 before (path_without 35 refl before place.plain))
+    ∙ ap (λ r. read r None) (split_once_none 63 before (path_without 63 refl before place.plain))
+    ∙ at.alone None None in
+    whole ∙ by_start path at.start ∙ sym (ap (on_ok without_tail) whole)
+  where
+    by_start : (path : List ℕ) (start : Parsed Parts) → and_then start (λ url. Ok (with_tail (with_path url path) None None)) ≡ on_ok without_tail (and_then start (λ url. Ok (with_tail (with_path url path) None None)))
+    by_start path (Ok url) = refl
+    by_start path (Err e) = refl

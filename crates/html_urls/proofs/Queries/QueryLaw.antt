@@ -38,10 +38,10 @@ parts_with scheme (Some base) body q r f g =
     elim (is_empty body) as (λ empty. cond empty (Ok (with_tail base (Some r) g)) (parse_all scheme (Some base) body (Some r) g) ≡ on_ok (with_query r g) (cond empty (Ok (with_tail base (Some q) f)) (parse_all scheme (Some base) body (Some q) f)))
     [ true ↦ refl | false ↦ all_with scheme (Some base) body q r f g ]
 
-by_scheme_with : (split : Option (List ℕ × List ℕ)) (base : Option Parts) (body q r : List ℕ) (f g : Option (List ℕ)) → parse_by_scheme split base body (Some r) g ≡ on_ok (with_query r g) (parse_by_scheme split base body (Some q) f)
-by_scheme_with (Some split) base body q r f g = parts_with (lowercase split.0) (base_for_scheme base (lowercase split.0)) split.1 q r f g
-by_scheme_with None None body q r f g = refl
-by_scheme_with None (Some base) body q r f g = step (cannot_be_a_base base) (is_empty body)
+pub scheme_with_query : (split : Option (List ℕ × List ℕ)) (base : Option Parts) (body q r : List ℕ) (f g : Option (List ℕ)) → parse_by_scheme split base body (Some r) g ≡ on_ok (with_query r g) (parse_by_scheme split base body (Some q) f)
+scheme_with_query (Some split) base body q r f g = parts_with (lowercase split.0) (base_for_scheme base (lowercase split.0)) split.1 q r f g
+scheme_with_query None None body q r f g = refl
+scheme_with_query None (Some base) body q r f g = step (cannot_be_a_base base) (is_empty body)
   where
     step : (cannot empty : Bool) →
         cond (cannot && not (empty && false && is_some g)) (Err RelativeUrlWithCannotBeABaseBase) (parse_parts base.scheme (Some base) body (Some r) g)
@@ -84,8 +84,8 @@ query_law base front text rest place =
     let whole = ap read_hash whole_hash ∙ ap (λ r. read r tail.1) whole_question in
     let alone = ap read_hash front_hash ∙ ap (λ r. read r None) front_question in
     let parsed = read (path, Some q) None in
-    let changed = by_scheme_with (split_scheme path) base path q (q ++ (c ++ tail.0)) None tail.1 in
-    let same = by_scheme_with (split_scheme path) base path q q None None in
+    let changed = scheme_with_query (split_scheme path) base path q (q ++ (c ++ tail.0)) None tail.1 in
+    let same = scheme_with_query (split_scheme path) base path q q None None in
     let go_on = query_goes_on text rest in
     let goes_on : (url : Parts) → go_on (with_query q None url) ≡ with_query (q ++ (c ++ tail.0)) tail.1 url =
     λ url. ap (λ x. record url { query = Some x; fragment = option_map (percent_encode FRAGMENT) tail.1 })

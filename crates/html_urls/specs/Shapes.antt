@@ -1,0 +1,102 @@
+-- What the parser makes of a URL with slots: a URL whose path, query and fragment are markup and slots.
+use Rattle.std.specs.Prelude.{◌≡◌, ℕ, List, [], ◌∷◌, ◌++◌, Option, Some, None, Ok, unwrap_or, option_map}
+use Rattle.percent_encoding.specs.declared.ascii_set.AsciiSet.{AsciiSet}
+use Rattle.percent_encoding.specs.Percent.{percent_encode}
+use Rattle.url.specs.declared.sets.TheConstants.{FRAGMENT, PATH}
+use Rattle.url.specs.Ascii.{number_sign, question_mark}
+use Rattle.url.specs.Input.{split_once}
+use Rattle.url.specs.Parser.{Parsed, and_then, parse_url}
+use Rattle.url.specs.Parts.{Parts, kind_of, query_set}
+use Rattle.html_urls.specs.Slots.{FillUrl, Given, Markup, Slot, url_of}
+
+-- of the head, the scheme, the user, the password, the host and the port count
+pub record Shape : Type 0 where
+  pub head : Parts
+  pub path : List Given
+  pub query : Option (List Given)
+  pub fragment : Option (List Given)
+
+-- the texts that are left behind these parts
+abbrev pub texts_after : List Given → List (List ℕ) → List (List ℕ)
+texts_after [] texts = texts
+texts_after (Markup bytes ∷ parts) texts = texts_after parts texts
+texts_after (Slot ∷ parts) [] = texts_after parts []
+texts_after (Slot ∷ parts) (text ∷ texts) = texts_after parts texts
+
+-- the shape with the texts in its slots: those of the path, then those of the query, then those of the fragment
+abbrev pub filled : Shape → List (List ℕ) → Parts
+filled shape texts =
+    let of_query = texts_after shape.path texts in
+    let of_fragment = texts_after (unwrap_or shape.query []) of_query in
+    record shape.head {
+      path = url_of shape.path texts;
+      query = option_map (λ parts. url_of parts of_query) shape.query;
+      fragment = option_map (λ parts. url_of parts of_fragment) shape.fragment;
+    }
+
+-- or the same refusal
+abbrev pub fill : Parsed Shape → List (List ℕ) → Parsed Parts
+fill shape texts = and_then shape (λ found. Ok (filled found texts))
+
+-- one shape, or one refusal, for all texts that fill the slots
+abbrev pub HasShape : Option Parts → List Given → Type 0
+HasShape base parts = (shape : Parsed Shape) × ((texts : List (List ℕ)) → FillUrl parts texts → parse_url base (url_of parts texts) ≡ fill shape texts)
+
+-- ---- the shape (URL Standard, 4.4 URL parsing: path state, query state, fragment state)
+
+-- the markup before the first slot, and the parts from that slot on
+abbrev pub front_of : List Given → List ℕ
+front_of [] = []
+front_of (Markup bytes ∷ parts) = bytes ++ front_of parts
+front_of (Slot ∷ parts) = []
+
+abbrev pub from_slot : List Given → List Given
+from_slot [] = []
+from_slot (Markup bytes ∷ parts) = from_slot parts
+from_slot (Slot ∷ parts) = Slot ∷ parts
+
+-- the parts before the first such byte of the markup, and those after it, if there is one
+abbrev pub split_markup : List ℕ → List ℕ × Option (List ℕ) → List Given → List Given × Option (List Given) → List Given × Option (List Given)
+split_markup bytes (before, Some after) parts later = (Markup before ∷ [], Some (Markup after ∷ parts))
+split_markup bytes (before, None) parts later = (Markup bytes ∷ later.0, later.1)
+
+abbrev pub split_parts : ℕ → List Given → List Given × Option (List Given)
+split_parts mark [] = ([], None)
+split_parts mark (Markup bytes ∷ parts) = split_markup bytes (split_once mark bytes) parts (split_parts mark parts)
+split_parts mark (Slot ∷ parts) = (Slot ∷ (split_parts mark parts).0, (split_parts mark parts).1)
+
+-- the first `#` begins the fragment, and the first `?` before it the query
+abbrev pub before_fragment_parts : List Given → List Given
+before_fragment_parts parts = (split_parts number_sign parts).0
+
+abbrev pub path_parts : List Given → List Given
+path_parts parts = (split_parts question_mark (before_fragment_parts parts)).0
+
+abbrev pub query_parts : List Given → Option (List Given)
+query_parts parts = (split_parts question_mark (before_fragment_parts parts)).1
+
+abbrev pub fragment_parts : List Given → Option (List Given)
+fragment_parts parts = (split_parts number_sign parts).1
+
+-- the markup percent-encoded
+abbrev pub encoded : AsciiSet → List Given → List Given
+encoded set [] = []
+encoded set (Markup bytes ∷ parts) = Markup (percent_encode set bytes) ∷ encoded set parts
+encoded set (Slot ∷ parts) = Slot ∷ encoded set parts
+
+-- the query of the parts; where they have none, that of the URL, which it has of its base
+abbrev pub query_shape : Parts → Option (List Given) → Option (List Given)
+query_shape url (Some own) = Some (encoded (query_set (kind_of url)) own)
+query_shape url None = option_map (λ query. Markup query ∷ []) url.query
+
+-- the shape of the parts, where this is the URL of the markup before the first slot: its path goes on with what of the parts is the path's
+abbrev pub shape_from : List Given → Parts → Shape
+shape_from parts url = record {
+  head = url;
+  path = Markup url.path ∷ encoded PATH (from_slot (path_parts parts));
+  query = query_shape url (query_parts parts);
+  fragment = option_map (encoded FRAGMENT) (fragment_parts parts);
+}
+
+abbrev pub shape_of : Option Parts → List Given → Parsed Shape
+shape_of base parts = and_then (parse_url base (front_of parts)) (λ url. Ok (shape_from parts url))
