@@ -1,8 +1,16 @@
+pub mod Decoding
+pub mod EncodedForms
+pub mod EncodedPairs
+pub mod EncodedSplits
 pub mod Filling
 pub mod Fills
 pub mod Fronts
+pub mod Pairs
 pub mod PathShapes
+pub mod Pieces
 pub mod PlainParts
 pub mod ShapeLaw
+pub mod SlotScheme
 pub mod Tails
 pub mod TailShapes
+pub mod UrlPairs

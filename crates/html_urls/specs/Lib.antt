@@ -1,10 +1,12 @@
 pub mod Components
+pub mod Decoded
 pub mod Heads
 pub mod Hosts
 pub mod Inputs
 pub mod Links
 pub mod OpenParts
 pub mod Parts
+pub mod Pieces
 pub mod Places
 pub mod SlotFaults
 pub mod Shapes

@@ -1,5 +1,5 @@
 -- Which texts are taken as whole URLs (URL Standard, 4.4 URL parsing: scheme start state, scheme state, no scheme state).
-use Rattle.std.specs.Prelude.{◌≡◌, ℕ, Bool, true, not, ◌||◌, ◌==◌, List, take, slice_index, codes, bytes_eq}
+use Rattle.std.specs.Prelude.{◌≡◌, ◌⊎◌, ℕ, Bool, true, not, ◌||◌, ◌==◌, List, take, slice_index, codes, bytes_eq, IsSomeAnd, Option}
 use Rattle.std.specs.List.{position_or_len}
 use Rattle.url.specs.Ascii.{colon, number_sign, question_mark, slash}
 use Rattle.url.specs.Input.{lowercase}
@@ -24,3 +24,7 @@ is_link text = not (slice_index text (mark_at text) == colon) || is_link_scheme 
 -- the URL has one of these schemes
 abbrev pub HasLinkScheme : Parts → Type 0
 HasLinkScheme url = is_link_scheme url.scheme ≡ true
+
+-- the URL has one of these schemes, or that of the page
+abbrev pub HasLinkOrPageScheme : Option Parts → Parts → Type 0
+HasLinkOrPageScheme base url = HasLinkScheme url ⊎ IsSomeAnd base (λ page. url.scheme ≡ page.scheme)

@@ -3,18 +3,19 @@
 //! A URL is the bytes of a front, a text as a component, and the bytes of a rest. It is read by
 //! `parse_url`, the URL Standard's parser, against the bases that a law names: none and any web page,
 //! at least.
-ghost use Rattle.std.specs.Prelude.{◌≡◌, ◌<◌, ◌⊎◌, ◌++◌, ◌∷◌, ℕ, [], All, IfOk, IfSome, List, None, Ok, Option, Some, codes, is_some, length, map, true};
-ghost use Rattle.form_urlencoded.specs.Form.{decode, parse};
+ghost use Rattle.std.specs.Prelude.{◌≡◌, ◌<◌, ◌⊎◌, ◌++◌, ◌∷◌, ℕ, [], All, IfOk, IfSome, List, None, Ok, Option, Some, codes, is_some, length, map, true, unwrap_or};
+ghost use Rattle.form_urlencoded.specs.Form.{ampersand, decode, parse, split};
 ghost use Rattle.percent_encoding.specs.Percent.{percent_decode};
 ghost use Rattle.url.specs.Ascii.{slash};
 ghost use Rattle.url.specs.Parser.{parse_url};
 ghost use Rattle.url.specs.Parts.{Parts};
 ghost use Rattle.url.specs.Relative.{segments};
 ghost use Rattle.html_urls.specs.Components.{component};
+ghost use Rattle.html_urls.specs.Decoded.{AreBytes, ClosesPair, IsOfBytes, closes_escapes, decoded_by, pairs_of};
 ghost use Rattle.html_urls.specs.Heads.{head_of, on_ok};
 ghost use Rattle.html_urls.specs.Hosts.{IsWebBase};
 ghost use Rattle.html_urls.specs.Inputs.{KeepsEnd, kept};
-ghost use Rattle.html_urls.specs.Links.{HasLinkScheme, is_link};
+ghost use Rattle.html_urls.specs.Links.{HasLinkOrPageScheme, HasLinkScheme, is_link};
 ghost use Rattle.html_urls.specs.Parts.Pairs.{BeginsPair, EndsPair, HasPairs, IsName, string_count};
 ghost use Rattle.html_urls.specs.Parts.Paths.{EndsInPath, FitsSegment, IsPathText, path_after};
 ghost use Rattle.html_urls.specs.Parts.Queries.{EndsInQuery, query_after};
@@ -32,9 +33,10 @@ ghost use Rattle.html_urls.specs.Parts.Segments.{
   segment_count,
   segments_before,
 };
+ghost use Rattle.html_urls.specs.Pieces.{HasMarkup, filled_pieces, pieces};
 ghost use Rattle.html_urls.specs.Places.{EndsIn, Fits, LeavesOpen, SuitsPlace, goes_on, place_of};
-ghost use Rattle.html_urls.specs.Shapes.{HasShape, fill, shape_of};
-ghost use Rattle.html_urls.specs.Slots.{FillUrl, given, texts_of, url_of};
+ghost use Rattle.html_urls.specs.Shapes.{HasShape, fill, path_parts, query_parts, shape_of, texts_after};
+ghost use Rattle.html_urls.specs.Slots.{FillUrl, Given, given, texts_of, url_of};
 
 use crate::parts::UrlPart;
 use crate::place::UrlPlace;
@@ -209,7 +211,8 @@ pub fn url_template_law(parts: &[UrlPart<'_>], texts: &[&str], others: &[&str])
 
 /// The URL of texts that fill the slots of a URL is one shape with the texts in its slots, the same
 /// shape for all such texts, or it is refused with all of them. The shape is what the parser makes of
-/// the parts: markup as it writes it, and the slots.
+/// the parts: markup as it writes it, and the slots. Where there is a slot, the scheme is `http`,
+/// `https`, `mailto` or that of the page.
 ///
 /// For instance `/items/`, a slot, `?q=` and a slot have, on a page of `https://h/`, the path `/items/`
 /// and a slot, and the query `q=` and a slot.
@@ -219,15 +222,83 @@ pub fn url_shape_law(parts: &[UrlPart<'_>])
         → FillUrl (map given parts.now) texts
         → parse_url base (url_of (map given parts.now) texts)
         ≡ fill (shape_of base (map given parts.now)) texts }
+    ensures scheme { (base : Option Parts) (text : List ℕ) (texts : List (List ℕ)) → IsWebBase base
+        → FillUrl (map given parts.now) (text ∷ texts)
+        → IfOk (parse_url base (url_of (map given parts.now) (text ∷ texts)))
+        (HasLinkOrPageScheme base) }
+{}
+
+/// No text divides a segment of a path or a string of a query: where these are markup and slots, their
+/// pieces are those of the markup, each with its texts in its slots.
+///
+/// For instance `/items/`, a slot and `/edit` have three segments, `items`, the text and `edit`, behind
+/// an empty one.
+pub fn pieces_law()
+    ensures segments { (path : List Given) (texts : List (List ℕ))
+        → segments (url_of path texts) ≡ filled_pieces (pieces slash path) texts }
+    ensures strings { (query : List Given) (texts : List (List ℕ))
+        → split ampersand (url_of query texts) ≡ filled_pieces (pieces ampersand query) texts }
+{}
+
+/// Markup and slots are decoded to the markup, decoded, and the texts as they are, where no markup
+/// before a slot ends in `%`, or in `%` and one hexadecimal digit.
+///
+/// For instance `a%20`, a slot and `b` with the text `1/2` are decoded to `a 1/2b`.
+pub fn decoded_pieces_law()
+    ensures percent { (parts : List Given) (texts : List (List ℕ)) → AreBytes texts
+        → closes_escapes parts ≡ true
+        → percent_decode (url_of parts texts) ≡ decoded_by percent_decode parts texts }
+    ensures form { (parts : List Given) (texts : List (List ℕ)) → AreBytes texts
+        → closes_escapes parts ≡ true
+        → decode (url_of parts texts) ≡ decoded_by decode parts texts }
+{}
+
+/// A query of markup and slots has one pair for each string, where each has markup: the name and the
+/// value, decoded, with the texts as they are.
+///
+/// For instance `q=`, a slot, `&r=` and a slot have, with any two texts, the pairs `q` and the first
+/// text, and `r` and the second.
+pub fn pairs_law()
+    ensures count { (query : List Given) (texts : List (List ℕ))
+        → All HasMarkup (pieces ampersand query)
+        → length (parse (url_of query texts)) ≡ length (pieces ampersand query) }
+    ensures pairs { (query : List Given) (texts : List (List ℕ)) → AreBytes texts
+        → All HasMarkup (pieces ampersand query)
+        → All ClosesPair (pieces ampersand query)
+        → parse (url_of query texts) ≡ pairs_of (pieces ampersand query) texts }
+{}
+
+/// The same of a URL with slots: the pairs of its query are those of the query that its parts have
+/// behind their first `?`, each text in its place, whatever texts fill the slots.
+///
+/// For instance the URL of `/items/`, a slot, `?q=` and a slot has one pair, `q` and the second text.
+pub fn url_pairs_law(parts: &[UrlPart<'_>], texts: &[&str])
+    requires { FillUrl (map given parts.now) (texts_of texts.now) }
+    ensures count { (base : Option Parts) (query : List Given) → IsWebBase base
+        → query_parts (map given parts.now) ≡ Some query
+        → All HasMarkup (pieces ampersand query)
+        → IfOk (parse_url base (url_of (map given parts.now) (texts_of texts.now)))
+        (λ url. length (parse (unwrap_or url.query [])) ≡ length (pieces ampersand query)) }
+    ensures pairs { (base : Option Parts) (query : List Given) → IsWebBase base
+        → query_parts (map given parts.now) ≡ Some query
+        → AreBytes (texts_of texts.now)
+        → IsOfBytes query
+        → All HasMarkup (pieces ampersand query)
+        → All ClosesPair (pieces ampersand query)
+        → IfOk (parse_url base (url_of (map given parts.now) (texts_of texts.now)))
+        (λ url. parse (unwrap_or url.query [])
+        ≡ pairs_of (pieces ampersand query)
+        (texts_after (path_parts (map given parts.now)) (texts_of texts.now))) }
 {}
 
 /// The URL of a text that is a link has the scheme `http`, `https` or `mailto`, on each page whose own
-/// scheme is one of these. Its host may be any.
+/// scheme is one of these, and on any other page one of these or that of the page. Its host may be any.
 ///
 /// For instance `//a.example` is a link, and has the scheme of the page; ` javascript:x` and
 /// `java\tscript:x` are none.
 pub fn link_law(text: &str)
     requires { is_link text.now ≡ true }
-    ensures { (base : Option Parts) → IfSome base HasLinkScheme
+    ensures link { (base : Option Parts) → IfSome base HasLinkScheme
         → IfOk (parse_url base text.now) HasLinkScheme }
+    ensures page { (base : Option Parts) → IfOk (parse_url base text.now) (HasLinkOrPageScheme base) }
 {}

@@ -1,5 +1,5 @@
 -- A text that is a whole URL.
-use Rattle.std.proofs.Common.{◌≡◌, ℕ, suc, ◌+◌, ◌-◌, ◌<◌, ◌≤◌, true, false, cond, not, ◌&&◌, ◌==◌, nat_lt, List, [], ◌∷◌, ◌++◌, length, get_or, take, drop, reverse, filter, codes, bytes_eq, Option, Some, None, IfSome, IfOk, All, sym, refl, ap, ◌∙◌, subst, ⊎_elim, append_assoc, append-nil, take-append-drop, one-add, lt_of_not-le, arith}
+use Rattle.std.proofs.Common.{◌≡◌, ℕ, suc, ◌+◌, ◌-◌, ◌<◌, ◌≤◌, true, false, cond, not, ◌&&◌, ◌==◌, nat_lt, List, [], ◌∷◌, ◌++◌, length, get_or, take, drop, reverse, filter, codes, bytes_eq, Option, Some, None, IfSome, IfOk, IsSomeAnd, All, sym, refl, ap, ◌∙◌, subst, ◌⊎◌, inl, inr, ⊎_elim, append_assoc, append-nil, take-append-drop, one-add, lt_of_not-le, arith}
 use Rattle.std.specs.List.{prefix_len, suffix_len, list_all}
 use Rattle.std.specs.Char.{is_ascii_alphabetic, to_ascii_lowercase}
 use Rattle.std.proofs.lemmas.Bool.{cond-true, cond-false, cond_both, cases_Bool, eq-eqb, lt-ltb}
@@ -14,7 +14,7 @@ use Rattle.url.specs.Parts.{Parts}
 use Rattle.url.specs.Parser.{split_scheme, parse_url}
 use Rattle.url.proofs.InputLemmas.{Passes, All-take-prefix_len, All-drop_from_reads, All_from_list_all, split_around, filter_all}
 use Rattle.html_urls.specs.Inputs.{IsVisible}
-use Rattle.html_urls.specs.Links.{is_mark, mark_at, is_link_scheme, is_link}
+use Rattle.html_urls.specs.Links.{HasLinkOrPageScheme, HasLinkScheme, is_mark, mark_at, is_link_scheme, is_link}
 use Rattle.html_urls.proofs.Links.SchemeOf.{parsed_scheme}
 
 -- ---- the visible bytes
@@ -186,10 +186,10 @@ known_scheme text cleaned rest (Some split) link same is =
     let visible = visible_from_lower (take (mark_at text) text) (link_scheme_visible (lowercase (take (mark_at text) text)) known) in
     subst (λ s. is_link_scheme (lowercase s) ≡ true) (sym (seen_all (take (mark_at text) text) visible) ∙ before) known
 
--- THE LINK LAW: behind a page with one of the schemes, the URL of a text that is taken has one of them
-pub link_law : (base : Option Parts) (text : List ℕ) → is_link text ≡ true → IfSome base (λ page. is_link_scheme page.scheme ≡ true) → IfOk (parse_url base text) (λ url. is_link_scheme url.scheme ≡ true)
+-- what holds of the three schemes and of that of the page holds of the scheme of a text that is taken
+link_scheme : (P : List ℕ → Type 0) → ((scheme : List ℕ) → is_link_scheme scheme ≡ true → P scheme) → (base : Option Parts) (text : List ℕ) → is_link text ≡ true → IfSome base (λ page. P page.scheme) → IfOk (parse_url base text) (λ url. P url.scheme)
 unfolding parse_url
-link_law base text link page =
+link_scheme P holds base text link page =
     let cleaned = strip_tabs_and_new_lines (trim_c0_control_and_space text) in
     let hash = split_once 35 cleaned in
     let question = split_once 63 hash.0 in
@@ -198,9 +198,26 @@ link_law base text link page =
     let rest = after_question ++ after_hash in
     let whole : cleaned ≡ question.0 ++ rest = at_hash ∙ ap (λ l. l ++ after_hash) at_question ∙ append_assoc question.0 after_question after_hash in
     let own = longer (split_scheme question.0) question.0 cleaned rest whole (own_scheme question.0) in
-    parsed_scheme (λ scheme. is_link_scheme scheme ≡ true) (split_scheme question.0) base question.0 question.1 hash.1
-    (known_scheme text cleaned rest (split_scheme question.0) link (seen_cleaned text) own) page
+    parsed_scheme P (split_scheme question.0) base question.0 question.1 hash.1
+    (own_holds (split_scheme question.0) (known_scheme text cleaned rest (split_scheme question.0) link (seen_cleaned text) own)) page
   where
+    own_holds : (split : Option (List ℕ × List ℕ)) → IfSome split (λ s. is_link_scheme (lowercase s.0) ≡ true) → IfSome split (λ s. P (lowercase s.0))
+    own_holds None known = tt
+    own_holds (Some split) known = holds (lowercase split.0) known
+
     longer : (split : Option (List ℕ × List ℕ)) (bytes cleaned rest : List ℕ) → cleaned ≡ bytes ++ rest → IfSome split (IsSchemeOf bytes) → IfSome split (λ s. All (Passes is_scheme_byte) s.0 × (cleaned ≡ s.0 ++ 58 ∷ (s.1 ++ rest)))
     longer None bytes cleaned rest whole is = tt
     longer (Some split) bytes cleaned rest whole is = (is.0, whole ∙ ap (λ l. l ++ rest) is.1 ∙ append_assoc split.0 (58 ∷ split.1) rest)
+
+-- THE LINK LAW: behind a page with one of the schemes, the URL of a text that is taken has one of them
+pub link_law : (base : Option Parts) (text : List ℕ) → is_link text ≡ true → IfSome base HasLinkScheme → IfOk (parse_url base text) HasLinkScheme
+link_law base text link page = link_scheme (λ scheme. is_link_scheme scheme ≡ true) (λ scheme known. known) base text link page
+
+-- behind any page it has one of them, or that of the page
+pub page_law : (base : Option Parts) (text : List ℕ) → is_link text ≡ true → IfOk (parse_url base text) (HasLinkOrPageScheme base)
+page_law base text link =
+    link_scheme (λ scheme. (is_link_scheme scheme ≡ true) ⊎ IsSomeAnd base (λ page. scheme ≡ page.scheme)) (λ scheme known. inl known) base text link (own base)
+  where
+    own : (base : Option Parts) → IfSome base (λ page. (is_link_scheme page.scheme ≡ true) ⊎ IsSomeAnd base (λ base. page.scheme ≡ base.scheme))
+    own None = tt
+    own (Some page) = inr refl

@@ -21,7 +21,7 @@ onto_append : (b : ℕ) (first : List (List ℕ)) (others : List (List ℕ)) →
 onto_append b [] others some = absurd (omega arith)
 onto_append b (piece ∷ pieces) others some = refl
 
-split_some : (s : ℕ) (xs : List ℕ) → 0 < length (split s xs)
+pub split_some : (s : ℕ) (xs : List ℕ) → 0 < length (split s xs)
 unfolding split
 split_some s [] = omega arith
 split_some s (x ∷ xs) =

@@ -4,34 +4,31 @@ use Rattle.std.proofs.lemmas.Bool.{both_ways, cases_Bool}
 use Rattle.url.specs.Input.{split_once}
 use Rattle.url.specs.Parts.{Parts}
 use Rattle.url.specs.Parser.{parse_url}
+use Rattle.html_urls.specs.declared.open_part.OpenPart.{OpenPart}
+use Rattle.html_urls.specs.declared.parts.UrlFault.TheVariants as fault
+use Rattle.html_urls.specs.declared.parts.UrlSlot.{UrlSlot}
 use Rattle.html_urls.specs.declared.place.UrlPlace.{UrlPlace}
 use Rattle.html_urls.specs.declared.place.UrlPlace.TheVariants as place
 use Rattle.html_urls.specs.Components.{component}
 use Rattle.html_urls.specs.Heads.{on_ok}
 use Rattle.html_urls.specs.Hosts.{IsWebBase}
-use Rattle.html_urls.specs.Places.{EndsIn, goes_on}
-use Rattle.html_urls.specs.Shapes.{fill, from_slot, front_of}
-use Rattle.html_urls.specs.Slots.{Given, Slot, url_of}
-use Rattle.html_urls.proofs.Filled.FirstSlot.{kept_front, plain_visible}
-use Rattle.html_urls.proofs.Shapes.PlainParts.{ArePlain, front_plain}
-use Rattle.html_urls.specs.declared.open_part.OpenPart.{OpenPart}
-use Rattle.html_urls.specs.declared.parts.UrlFault.TheVariants as fault
-use Rattle.html_urls.specs.declared.parts.UrlSlot.{UrlSlot}
 use Rattle.html_urls.specs.Inputs.{kept}
 use Rattle.html_urls.specs.OpenParts.{after_text, open_of, slot_at}
-use Rattle.html_urls.specs.Slots.{FillSlots, FillUrl, Markup, first_slots, is_plain, later_slots, slots_of, told_of}
+use Rattle.html_urls.specs.Places.{EndsIn, goes_on}
+use Rattle.html_urls.specs.Shapes.{fill, from_slot, front_of}
+use Rattle.html_urls.specs.Slots.{FillSlots, FillUrl, Given, Markup, Slot, first_slots, is_plain, later_slots, slots_of, told_of, url_of}
 use Rattle.html_urls.proofs.Filled.Counts.{one_url}
-use Rattle.html_urls.proofs.Filled.FirstSlot.{both_fill, front_stands}
+use Rattle.html_urls.proofs.Filled.FirstSlot.{both_fill, front_stands, kept_front, plain_visible}
 use Rattle.html_urls.proofs.Filled.LaterSlots.{later_good, refusal}
-use Rattle.html_urls.proofs.Shapes.PlainParts.{found_slot, first_plain, later_plain}
-use Rattle.html_urls.proofs.Shapes.TailShapes.{HasThatShape, fragment_shape, front_fragment, front_query, markup_shape, query_shapes}
 use Rattle.html_urls.proofs.Shapes.PathShapes.{path_shape, split_none}
+use Rattle.html_urls.proofs.Shapes.PlainParts.{ArePlain, first_plain, found_slot, front_plain, later_plain}
+use Rattle.html_urls.proofs.Shapes.TailShapes.{HasThatShape, fragment_shape, front_fragment, front_query, markup_shape, query_shapes}
 
 -- the first slot, and what is open there
-abbrev Reached : List ℕ → List Given → List UrlSlot → Type 0
+abbrev pub Reached : List ℕ → List Given → List UrlSlot → Type 0
 Reached front parts slots = (p : OpenPart) × (later : List Given) × (number : ℕ) × (from_slot parts ≡ Slot ∷ later) × (open_of (front ++ front_of parts) ≡ Some p) × (later_slots number p (Slot ∷ later) ≡ Ok slots)
 
-reached : (parts : List Given) (number : ℕ) (front : List ℕ) (slots : List UrlSlot) → first_slots number front parts ≡ Ok slots → (from_slot parts ≡ []) ⊎ Reached front parts slots
+pub reached : (parts : List Given) (number : ℕ) (front : List ℕ) (slots : List UrlSlot) → first_slots number front parts ≡ Ok slots → (from_slot parts ≡ []) ⊎ Reached front parts slots
 reached [] number front slots told = inl refl
 reached (Markup bytes ∷ parts) number front slots told =
     ⊎_elim

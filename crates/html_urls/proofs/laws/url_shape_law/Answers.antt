@@ -2,6 +2,7 @@ use Rattle.std.proofs.Common.{map}
 use Rattle.html_urls.specs.Shapes.{shape_of}
 use Rattle.html_urls.specs.Slots.{given}
 use Rattle.html_urls.proofs.Shapes.ShapeLaw.{shape_law}
+use Rattle.html_urls.proofs.Shapes.SlotScheme.{slot_scheme}
 use Rattle.html_urls.proofs.laws.url_shape_law.Goals as goal
 
 pub returns : goal.returns
@@ -10,4 +11,5 @@ returns c =
     record {
       one = λ base web. (shape_of base parts, λ texts fills. shape_law base parts texts web fills);
       shape = λ base texts web fills. shape_law base parts texts web fills;
+      scheme = λ base text texts web fills. slot_scheme base parts text texts web fills;
     }

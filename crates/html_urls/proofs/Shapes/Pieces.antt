@@ -1,0 +1,106 @@
+-- No text divides a segment or a string: the pieces of the URL of the texts are those of the markup.
+use Rattle.std.proofs.Common.{◌≡◌, ℕ, ◌<◌, true, false, ◌==◌, List, [], ◌∷◌, ◌++◌, length, All, sym, refl, ap, ◌∙◌, ⊎_elim, append-nil, arith}
+use Rattle.std.proofs.lemmas.Bool.{cases_Bool, cond-false, ne_eqb}
+use Rattle.std.proofs.lemmas.List.Elements.{All-head, All-tail}
+use Rattle.form_urlencoded.specs.Form.{onto_first, split}
+use Rattle.html_urls.specs.Components.{component, is_component_byte}
+use Rattle.html_urls.specs.Inputs.{IsNot}
+use Rattle.html_urls.specs.Pieces.{filled_pieces, onto_piece, onto_pieces, pieces}
+use Rattle.html_urls.specs.Slots.{Given, Markup, Slot, url_of}
+use Rattle.html_urls.proofs.Components.{component_without}
+use Rattle.html_urls.proofs.Queries.PairLaw.{split_some}
+
+-- ---- pieces of bytes
+
+abbrev pub onto_front : List ℕ → List (List ℕ) → List (List ℕ)
+onto_front front [] = front ∷ []
+onto_front front (piece ∷ more) = (front ++ piece) ∷ more
+
+abbrev joined : List (List ℕ) → List (List ℕ) → List (List ℕ)
+joined [] later = later
+joined (piece ∷ []) later = onto_front piece later
+joined (piece ∷ next ∷ more) later = piece ∷ joined (next ∷ more) later
+
+onto_nothing : (later : List (List ℕ)) → 0 < length later → onto_front [] later ≡ later
+onto_nothing [] some = absurd (omega arith)
+onto_nothing (piece ∷ more) some = refl
+
+onto_once_more : (b : ℕ) (front : List ℕ) (later : List (List ℕ)) → onto_first b (onto_front front later) ≡ onto_front (b ∷ front) later
+onto_once_more b front [] = refl
+onto_once_more b front (piece ∷ more) = refl
+
+pub split_front : (mark : ℕ) (xs ys : List ℕ) → All (IsNot mark) xs → split mark (xs ++ ys) ≡ onto_front xs (split mark ys)
+unfolding split
+split_front mark [] ys none = sym (onto_nothing (split mark ys) (split_some mark ys))
+split_front mark (x ∷ xs) ys none =
+    cond-false _ _ _ (ne_eqb x mark (All-head (IsNot mark) x xs none))
+    ∙ ap (onto_first x) (split_front mark xs ys (All-tail (IsNot mark) x xs none))
+    ∙ onto_once_more x xs (split mark ys)
+
+empty_first : (pieces later : List (List ℕ)) → 0 < length pieces → [] ∷ joined pieces later ≡ joined ([] ∷ pieces) later
+empty_first [] later some = absurd (omega arith)
+empty_first (piece ∷ more) later some = refl
+
+onto_joined : (b : ℕ) (pieces later : List (List ℕ)) → 0 < length pieces → onto_first b (joined pieces later) ≡ joined (onto_first b pieces) later
+onto_joined b [] later some = absurd (omega arith)
+onto_joined b (piece ∷ []) later some = onto_once_more b piece later
+onto_joined b (piece ∷ next ∷ more) later some = refl
+
+split_joins : (mark : ℕ) (xs ys : List ℕ) → split mark (xs ++ ys) ≡ joined (split mark xs) (split mark ys)
+unfolding split
+split_joins mark [] ys = sym (onto_nothing (split mark ys) (split_some mark ys))
+split_joins mark (x ∷ xs) ys =
+    let later = split_joins mark xs ys in
+    ⊎_elim
+    (λ (here : (x == mark) ≡ true). rw here (ap (λ l. [] ∷ l) later ∙ empty_first (split mark xs) (split mark ys) (split_some mark xs)))
+    (λ (other : (x == mark) ≡ false). rw other (ap (onto_first x) later ∙ onto_joined x (split mark xs) (split mark ys) (split_some mark xs)))
+    (cases_Bool (x == mark))
+
+-- ---- pieces of parts
+
+onto_piece_some : (part : Given) (l : List (List Given)) → 0 < length (onto_piece part l)
+onto_piece_some part [] = omega arith
+onto_piece_some part (piece ∷ more) = omega arith
+
+onto_pieces_some : (l : List (List ℕ)) (later : List (List Given)) → 0 < length later → 0 < length (onto_pieces l later)
+onto_pieces_some [] later some = some
+onto_pieces_some (bytes ∷ []) later some = onto_piece_some (Markup bytes) later
+onto_pieces_some (bytes ∷ next ∷ more) later some = omega arith
+
+pub pieces_some : (mark : ℕ) (parts : List Given) → 0 < length (pieces mark parts)
+pieces_some mark [] = omega arith
+pieces_some mark (Markup bytes ∷ parts) = onto_pieces_some (split mark bytes) (pieces mark parts) (pieces_some mark parts)
+pieces_some mark (Slot ∷ parts) = onto_piece_some Slot (pieces mark parts)
+
+markup_filled : (bytes : List ℕ) (l : List (List Given)) (texts : List (List ℕ)) → 0 < length l → onto_front bytes (filled_pieces l texts) ≡ filled_pieces (onto_piece (Markup bytes) l) texts
+markup_filled bytes [] texts some = absurd (omega arith)
+markup_filled bytes (piece ∷ more) texts some = refl
+
+all_filled : (strings : List (List ℕ)) (l : List (List Given)) (texts : List (List ℕ)) → 0 < length l → joined strings (filled_pieces l texts) ≡ filled_pieces (onto_pieces strings l) texts
+all_filled [] l texts some = refl
+all_filled (bytes ∷ []) l texts some = markup_filled bytes l texts some
+all_filled (bytes ∷ next ∷ more) l texts some =
+    let later = all_filled (next ∷ more) l texts some in
+    let alone = sym (append-nil bytes) in
+    λ i. alone i ∷ later i
+
+no_text : (l : List (List Given)) → 0 < length l → filled_pieces l [] ≡ filled_pieces (onto_piece Slot l) []
+no_text [] some = absurd (omega arith)
+no_text (piece ∷ more) some = refl
+
+one_text : (text : List ℕ) (l : List (List Given)) (texts : List (List ℕ)) → 0 < length l → onto_front (component text) (filled_pieces l texts) ≡ filled_pieces (onto_piece Slot l) (text ∷ texts)
+one_text text [] texts some = absurd (omega arith)
+one_text text (piece ∷ more) texts some = refl
+
+-- THE PIECES LAW
+pub pieces_law : (mark : ℕ) → is_component_byte mark ≡ false → (parts : List Given) (texts : List (List ℕ)) → split mark (url_of parts texts) ≡ filled_pieces (pieces mark parts) texts
+unfolding split
+pieces_law mark other [] texts = refl
+pieces_law mark other (Markup bytes ∷ parts) texts =
+    split_joins mark bytes (url_of parts texts) ∙ ap (joined (split mark bytes)) (pieces_law mark other parts texts)
+    ∙ all_filled (split mark bytes) (pieces mark parts) texts (pieces_some mark parts)
+pieces_law mark other (Slot ∷ parts) [] = pieces_law mark other parts [] ∙ no_text (pieces mark parts) (pieces_some mark parts)
+pieces_law mark other (Slot ∷ parts) (text ∷ texts) =
+    split_front mark (component text) (url_of parts texts) (component_without mark other text)
+    ∙ ap (onto_front (component text)) (pieces_law mark other parts texts)
+    ∙ one_text text (pieces mark parts) texts (pieces_some mark parts)
