@@ -1,5 +1,5 @@
 pub mod Decoding
-pub mod EncodedForms
+pub mod EncodedDecoding
 pub mod EncodedPairs
 pub mod EncodedSplits
 pub mod Filling
@@ -11,6 +11,7 @@ pub mod Pieces
 pub mod PlainParts
 pub mod ShapeLaw
 pub mod SlotScheme
-pub mod Tails
+pub mod SlotSegments
 pub mod TailShapes
+pub mod Tails
 pub mod UrlPairs

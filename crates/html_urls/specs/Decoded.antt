@@ -2,6 +2,7 @@
 use Rattle.std.specs.Prelude.{◌≡◌, ◌<◌, ◌^◌, ℕ, Bool, true, false, not, ◌&&◌, ◌||◌, ◌==◌, List, [], ◌∷◌, ◌++◌, All, unwrap_or}
 use Rattle.std.specs.Char.{is_digit}
 use Rattle.form_urlencoded.specs.Form.{decode, equals_sign}
+use Rattle.percent_encoding.specs.Percent.{percent_decode}
 use Rattle.url.specs.Ascii.{percent_sign}
 use Rattle.html_urls.specs.Shapes.{split_parts, texts_after}
 use Rattle.html_urls.specs.Slots.{Given, Markup, Slot, url_of}
@@ -26,6 +27,14 @@ decoded_by decoding [] texts = []
 decoded_by decoding (Markup bytes ∷ parts) texts = decoding bytes ++ decoded_by decoding parts texts
 decoded_by decoding (Slot ∷ parts) [] = decoded_by decoding parts []
 decoded_by decoding (Slot ∷ parts) (text ∷ texts) = text ++ decoded_by decoding parts texts
+
+abbrev pub ClosesEscapes : List Given → Type 0
+ClosesEscapes parts = closes_escapes parts ≡ true
+
+-- each segment with its texts, decoded
+abbrev pub decoded_segments : List (List Given) → List (List ℕ) → List (List ℕ)
+decoded_segments [] texts = []
+decoded_segments (segment ∷ more) texts = decoded_by percent_decode segment texts ∷ decoded_segments more (texts_after segment texts)
 
 -- the texts are of bytes, and the markup is
 abbrev pub AreBytes : List (List ℕ) → Type 0

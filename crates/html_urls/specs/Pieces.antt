@@ -1,7 +1,8 @@
 -- The segments of a path and the strings of a query, where these are markup and slots.
 use Rattle.std.specs.Prelude.{◌≡◌, ℕ, Bool, true, false, List, [], ◌∷◌}
 use Rattle.form_urlencoded.specs.Form.{split}
-use Rattle.html_urls.specs.Shapes.{texts_after}
+use Rattle.html_urls.specs.Parts.Segments.{last_segment}
+use Rattle.html_urls.specs.Shapes.{from_slot, front_of, path_parts, texts_after}
 use Rattle.html_urls.specs.Slots.{Given, Markup, Slot, url_of}
 
 -- the part stands before the first piece
@@ -35,3 +36,7 @@ has_markup (Slot ∷ parts) = has_markup parts
 
 abbrev pub HasMarkup : List Given → Type 0
 HasMarkup piece = has_markup piece ≡ true
+
+-- the open segment of the markup before the first slot, and what of the parts is the path's behind it
+abbrev pub open_path : List Given → List Given
+open_path parts = Markup (last_segment (front_of parts)) ∷ from_slot (path_parts parts)

@@ -5,13 +5,14 @@
 //! at least.
 ghost use Rattle.std.specs.Prelude.{◌≡◌, ◌<◌, ◌⊎◌, ◌++◌, ◌∷◌, ℕ, [], All, IfOk, IfSome, List, None, Ok, Option, Some, codes, is_some, length, map, true, unwrap_or};
 ghost use Rattle.form_urlencoded.specs.Form.{ampersand, decode, parse, split};
-ghost use Rattle.percent_encoding.specs.Percent.{percent_decode};
+ghost use Rattle.percent_encoding.specs.Percent.{percent_decode, percent_encode};
+ghost use Rattle.url.specs.declared.sets.TheConstants.{PATH};
 ghost use Rattle.url.specs.Ascii.{slash};
 ghost use Rattle.url.specs.Parser.{parse_url};
 ghost use Rattle.url.specs.Parts.{Parts};
 ghost use Rattle.url.specs.Relative.{segments};
 ghost use Rattle.html_urls.specs.Components.{component};
-ghost use Rattle.html_urls.specs.Decoded.{AreBytes, ClosesPair, IsOfBytes, closes_escapes, decoded_by, pairs_of};
+ghost use Rattle.html_urls.specs.Decoded.{AreBytes, ClosesEscapes, ClosesPair, IsOfBytes, closes_escapes, decoded_by, decoded_segments, pairs_of};
 ghost use Rattle.html_urls.specs.Heads.{head_of, on_ok};
 ghost use Rattle.html_urls.specs.Hosts.{IsWebBase};
 ghost use Rattle.html_urls.specs.Inputs.{KeepsEnd, kept};
@@ -33,9 +34,9 @@ ghost use Rattle.html_urls.specs.Parts.Segments.{
   segment_count,
   segments_before,
 };
-ghost use Rattle.html_urls.specs.Pieces.{HasMarkup, filled_pieces, pieces};
+ghost use Rattle.html_urls.specs.Pieces.{HasMarkup, filled_pieces, open_path, pieces};
 ghost use Rattle.html_urls.specs.Places.{EndsIn, Fits, LeavesOpen, SuitsPlace, goes_on, place_of};
-ghost use Rattle.html_urls.specs.Shapes.{HasShape, fill, path_parts, query_parts, shape_of, texts_after};
+ghost use Rattle.html_urls.specs.Shapes.{HasShape, fill, front_of, path_parts, query_parts, shape_of, texts_after};
 ghost use Rattle.html_urls.specs.Slots.{FillUrl, Given, given, texts_of, url_of};
 
 use crate::parts::UrlPart;
@@ -268,8 +269,33 @@ pub fn pairs_law()
         → parse (url_of query texts) ≡ pairs_of (pieces ampersand query) texts }
 {}
 
-/// The same of a URL with slots: the pairs of its query are those of the query that its parts have
-/// behind their first `?`, each text in its place, whatever texts fill the slots.
+/// The segments of the path of a URL with slots, where the front ends in the path: some that are the
+/// same for all texts, and then those of the parts from the open one on, each text in its place. Decoded
+/// they are the markup, decoded, and the texts as they are.
+///
+/// For instance the URL of `/items/`, a slot and `/edit` has behind `items` the text and `edit`.
+pub fn url_segments_law(parts: &[UrlPart<'_>])
+    requires { EndsInPath (front_of (map given parts.now)) }
+    ensures segments { (base : Option Parts) → IsWebBase base
+        → (before : List (List ℕ))
+        × ((texts : List (List ℕ)) → FillUrl (map given parts.now) texts
+        → IfOk (parse_url base (url_of (map given parts.now) texts))
+        (λ url. segments url.path
+        ≡ before
+        ++ map (percent_encode PATH)
+        (filled_pieces (pieces slash (open_path (map given parts.now))) texts))) }
+    ensures decoded { (base : Option Parts) → IsWebBase base
+        → IsOfBytes (open_path (map given parts.now))
+        → All ClosesEscapes (pieces slash (open_path (map given parts.now)))
+        → (before : List (List ℕ))
+        × ((texts : List (List ℕ)) → FillUrl (map given parts.now) texts → AreBytes texts
+        → IfOk (parse_url base (url_of (map given parts.now) texts))
+        (λ url. map percent_decode (segments url.path)
+        ≡ before ++ decoded_segments (pieces slash (open_path (map given parts.now))) texts)) }
+{}
+
+/// The pairs of the query of a URL with slots are those of the query that its parts have behind their
+/// first `?`, each text in its place, whatever texts fill the slots.
 ///
 /// For instance the URL of `/items/`, a slot, `?q=` and a slot has one pair, `q` and the second text.
 pub fn url_pairs_law(parts: &[UrlPart<'_>], texts: &[&str])

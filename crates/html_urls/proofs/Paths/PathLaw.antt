@@ -1,5 +1,5 @@
 -- A text in the path.
-use Rattle.std.proofs.Common.{◌≡◌, ℕ, ◌<◌, true, false, List, [], ◌∷◌, ◌++◌, length, Option, None, Ok, Err, codes, All, sym, refl, ap, ◌∙◌, subst, append_assoc, arith}
+use Rattle.std.proofs.Common.{◌≡◌, ℕ, ◌<◌, true, false, List, [], ◌∷◌, ◌++◌, length, Option, None, Ok, Err, IfOk, codes, All, sym, refl, ap, ◌∙◌, subst, append_assoc, arith}
 use Rattle.std.proofs.lemmas.List.Elements.{All-nil, All-head, All-tail, All-append, All-weaker}
 use Rattle.percent_encoding.specs.Percent.{percent_encode}
 use Rattle.percent_encoding.proofs.PercentLemmas.{percent_encode_nonempty}
@@ -21,7 +21,7 @@ use Rattle.html_urls.specs.Parts.Rests.{path_of, query_of, fragment_of}
 use Rattle.html_urls.specs.Parts.Segments.{last_segment, HasNoDotSegments}
 use Rattle.html_urls.proofs.Components.{component_without, encode_around}
 use Rattle.html_urls.proofs.Splits.{kept_around, split_clear}
-use Rattle.html_urls.proofs.Paths.PathSegments.{last_after, path_grows}
+use Rattle.html_urls.proofs.Paths.PathSegments.{after_front, last_after, path_alone, path_grows}
 use Rattle.html_urls.proofs.Paths.Opening.{Reads, from_base, folder_of, all_left, all_right, rooted_reads, root_reads, absolute_reads}
 use Rattle.html_urls.proofs.Paths.FirstSegment.{folder_reads}
 
@@ -129,21 +129,46 @@ path_law base front text rest web place fits =
     ∙ grow at.start text rest (parse_path SpecialNotFile at.path at.body) (parse_path SpecialNotFile at.path (at.body ++ (c ++ body))) grown
     ∙ sym (ap (on_ok (path_goes_on text rest)) (ap read_hash front_hash ∙ ap (λ r. read r None) front_question ∙ at.alone None None))
 
--- the URL of a front that ends in its path has neither a query nor a fragment
-pub path_bare : (base : Option Parts) (front : List ℕ) → IsWebBase base → EndsInPath front → parse_url base front ≡ on_ok without_tail (parse_url base front)
+-- ---- the URL of the front alone
+
+-- what the parser makes of a front that ends in its path: its path ends with the open segment
+abbrev Alone : Option Parts → List ℕ → Type 0
+Alone base front = (start : Parsed Parts) × (before : List ℕ) × (parse_url base front ≡ and_then start (λ url. Ok (with_tail (with_path url (before ++ 47 ∷ percent_encode PATH (last_segment (kept front)))) None None)))
+
+alone : (base : Option Parts) (front : List ℕ) → IsWebBase base → EndsInPath front → Alone base front
 unfolding parse_url
-path_bare base front web place =
-    let before = kept front in
-    let at = opened base before (codes "a") web (path_without 92 refl before place.plain) place.fixed (λ _. omega arith) in
-    let path = parse_path SpecialNotFile at.path at.body in
+alone base front web place =
+    let whole = kept front in
+    let at = opened base whole (codes "a") web (path_without 92 refl whole place.plain) place.fixed (λ _. omega arith) in
+    let path = path_alone at.path at.body at.plain (ap dot_count at.last ∙ place.resolved) in
+    let before = (after_front at.path [] at.body (All-nil (IsNot 47)) at.plain).0 in
     let read = λ (r : List ℕ × Option (List ℕ)) (fragment : Option (List ℕ)). parse_by_scheme (split_scheme r.0) base r.0 r.1 fragment in
-    let read_hash = λ (r : List ℕ × Option (List ℕ)). read (split_once 63 r.0) r.1 in
-    let whole =
-    ap read_hash (split_once_none 35 before (path_without 35 refl before place.plain))
-    ∙ ap (λ r. read r None) (split_once_none 63 before (path_without 63 refl before place.plain))
-    ∙ at.alone None None in
-    whole ∙ by_start path at.start ∙ sym (ap (on_ok without_tail) whole)
+    let read_hash = λ (r : List ℕ × Option (List ℕ)). read (split_once 63 r.0) r.1 in (
+      at.start,
+      before,
+      ap read_hash (split_once_none 35 whole (path_without 35 refl whole place.plain))
+          ∙ ap (λ r. read r None) (split_once_none 63 whole (path_without 63 refl whole place.plain))
+          ∙ at.alone None None
+          ∙ ap (λ p. and_then at.start (λ url. Ok (with_tail (with_path url p) None None))) (path ∙ ap (λ l. before ++ 47 ∷ percent_encode PATH l) at.last),
+    )
+
+-- it has neither a query nor a fragment
+pub path_bare : (base : Option Parts) (front : List ℕ) → IsWebBase base → EndsInPath front → parse_url base front ≡ on_ok without_tail (parse_url base front)
+path_bare base front web place =
+    let (start, before, whole) = alone base front web place in
+    whole ∙ by_start (before ++ 47 ∷ percent_encode PATH (last_segment (kept front))) start ∙ sym (ap (on_ok without_tail) whole)
   where
     by_start : (path : List ℕ) (start : Parsed Parts) → and_then start (λ url. Ok (with_tail (with_path url path) None None)) ≡ on_ok without_tail (and_then start (λ url. Ok (with_tail (with_path url path) None None)))
     by_start path (Ok url) = refl
     by_start path (Err e) = refl
+
+-- its path is some path, `/` and the open segment, percent-encoded
+pub front_path : (base : Option Parts) (front : List ℕ) → IsWebBase base → EndsInPath front → (before : List ℕ) × IfOk (parse_url base front) (λ url. url.path ≡ before ++ 47 ∷ percent_encode PATH (last_segment (kept front)))
+front_path base front web place =
+    let (start, before, whole) = alone base front web place in
+    let path = before ++ 47 ∷ percent_encode PATH (last_segment (kept front)) in
+    (before, subst (λ (parsed : Parsed Parts). IfOk parsed (λ url. url.path ≡ path)) (sym whole) (by_start path start))
+  where
+    by_start : (path : List ℕ) (start : Parsed Parts) → IfOk (and_then start (λ url. Ok (with_tail (with_path url path) None None))) (λ url. url.path ≡ path)
+    by_start path (Ok url) = refl
+    by_start path (Err e) = tt

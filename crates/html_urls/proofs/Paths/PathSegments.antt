@@ -21,7 +21,7 @@ encoded bytes = percent_encode PATH bytes
 abbrev IsPlain : List ℕ → Type 0
 IsPlain segment = dot_count segment ≡ 0
 
-slash_kept : should_percent_encode PATH 47 ≡ false
+pub slash_kept : should_percent_encode PATH 47 ≡ false
 unfolding should_percent_encode
 slash_kept = refl
 
@@ -124,17 +124,23 @@ after_front path segment (x ∷ front) whole plain =
     (next.0, λ rest. cond-false _ _ _ (no_slash x other (All-head (IsNot 92) x front plain)) ∙ next.1 rest ∙ ap (λ s. parse_segments SpecialNotFile next.0 (last_segment s) rest) joined))
     (cases_eq x 47)
 
+-- the path of a front whose last segment is no dot segment ends with that segment
+pub path_alone : (path front : List ℕ) (plain : All (IsNot 92) front) → dot_count (last_segment front) ≡ 0 →
+    parse_path SpecialNotFile path front ≡ (after_front path [] front (All-nil (IsNot 47)) plain).0 ++ 47 ∷ encoded (last_segment front)
+path_alone path front plain resolved =
+    let next = after_front path [] front (All-nil (IsNot 47)) plain in
+    let last = last_segment front in
+    let whole = last_whole front in
+    ap (parse_path SpecialNotFile path) (sym (append-nil front)) ∙ next.1 []
+    ∙ finish next.0 last [] whole (All-nil (IsNot 92)) (subst (All IsPlain) (sym (ap (split 47) (append-nil last) ∙ split_one last whole)) (All-cons IsPlain last [] resolved (All-nil IsPlain)))
+    ∙ ap (λ x. next.0 ++ 47 ∷ encoded x) (append-nil last)
+
 -- a text that goes on in the last segment of a front, and the rest after it, are what the path grows by
 pub path_grows : (path front after : List ℕ) → All (IsNot 92) front → All (IsNot 92) after → dot_count (last_segment front) ≡ 0 → HasNoDotSegments (last_segment front ++ after) → parse_path SpecialNotFile path (front ++ after) ≡ parse_path SpecialNotFile path front ++ encoded after
 path_grows path front after plain after_plain resolved dots =
     let next = after_front path [] front (All-nil (IsNot 47)) plain in
     let last = last_segment front in
-    let whole = last_whole front in
-    let alone : parse_path SpecialNotFile path front ≡ next.0 ++ 47 ∷ encoded last =
-    ap (parse_path SpecialNotFile path) (sym (append-nil front)) ∙ next.1 []
-    ∙ finish next.0 last [] whole (All-nil (IsNot 92)) (subst (All IsPlain) (sym (ap (split 47) (append-nil last) ∙ split_one last whole)) (All-cons IsPlain last [] resolved (All-nil IsPlain)))
-    ∙ ap (λ x. next.0 ++ 47 ∷ encoded x) (append-nil last) in
-    next.1 after ∙ finish next.0 last after whole after_plain dots
+    next.1 after ∙ finish next.0 last after (last_whole front) after_plain dots
     ∙ ap (λ x. next.0 ++ 47 ∷ x) (percent_encode-append PATH last after)
     ∙ sym (append_assoc next.0 (47 ∷ encoded last) (encoded after))
-    ∙ ap (λ x. x ++ encoded after) (sym alone)
+    ∙ ap (λ x. x ++ encoded after) (sym (path_alone path front plain resolved))

@@ -1,10 +1,10 @@
 -- A query has the same pairs percent-encoded as the parser does.
-use Rattle.std.proofs.Common.{◌≡◌, ◌≢◌, ℕ, suc, ◌<◌, true, false, List, [], ◌∷◌, map, filter, length, Option, Some, None, option_map, unwrap_or, All, sym, refl, ap, ◌∙◌, ⊎_elim, arith}
+use Rattle.std.proofs.Common.{◌≡◌, ◌≢◌, ℕ, suc, true, false, List, [], ◌∷◌, map, filter, length, Option, Some, None, option_map, unwrap_or, All, sym, refl, ap, ◌∙◌, ⊎_elim, arith}
 use Rattle.std.proofs.lemmas.Bool.{cases_Bool, lt-ltb}
 use Rattle.std.proofs.lemmas.Bool.Decides.{nat_tests}
 use Rattle.std.proofs.lemmas.List.{length-map}
 use Rattle.std.proofs.lemmas.List.Elements.{All-head, All-tail}
-use Rattle.form_urlencoded.specs.Form.{decode, is_nonempty, parse, raw_pairs, split, split_pair}
+use Rattle.form_urlencoded.specs.Form.{decode, is_nonempty, parse, plus_to_space, raw_pairs, split, split_pair}
 use Rattle.percent_encoding.specs.declared.ascii_set.AsciiSet.{AsciiSet}
 use Rattle.percent_encoding.specs.Percent.{percent_encode}
 use Rattle.percent_encoding.proofs.PercentLemmas.{IsByte, IsEscapeByte, percent_encode-nil, percent_encode_nonempty}
@@ -13,16 +13,9 @@ use Rattle.url.specs.declared.scheme.SchemeType.{SchemeType}
 use Rattle.url.specs.declared.scheme.SchemeType.TheVariants.{File, SpecialNotFile, NotSpecial}
 use Rattle.url.specs.Input.{split_once}
 use Rattle.url.specs.Parts.{query_set}
-use Rattle.url.proofs.SetLemmas.{kept_from_passes, passing_outside}
-use Rattle.html_urls.proofs.Shapes.EncodedForms.{KeepsForm, decode_encoded, is_form_byte}
+use Rattle.html_urls.proofs.Shapes.EncodedDecoding.{KeepsForm, decoded_still, form_first, keeps_form}
 use Rattle.html_urls.proofs.Shapes.EncodedSplits.{all_halves, all_pieces, split_encoded, split_once_encoded}
 use Rattle.html_urls.proofs.Shapes.Pairs.{form_split}
-
-form_byte_small : (b : ℕ) → is_form_byte b ≡ true → b < 128
-form_byte_small b passes = grind (arith, nat_tests)
-
-keeps_form : (set : AsciiSet) → passing_outside is_form_byte set ≡ true → KeepsForm set
-keeps_form set outside b passes = kept_from_passes is_form_byte set outside b (form_byte_small b passes) passes
 
 pub query_keeps_form : (kind : SchemeType) → KeepsForm (query_set kind)
 query_keeps_form File = keeps_form SPECIAL_QUERY refl
@@ -46,7 +39,7 @@ abbrev decoded : Pair → Pair
 decoded pair = (decode pair.0, decode pair.1)
 
 value_encoded : (set : AsciiSet) → KeepsForm set → (value : Option (List ℕ)) → All IsByte (unwrap_or value []) → decode (unwrap_or (option_map (percent_encode set) value) []) ≡ decode (unwrap_or value [])
-value_encoded set keeps (Some value) bytes = decode_encoded set keeps value bytes
+value_encoded set keeps (Some value) bytes = decoded_still decode plus_to_space form_first set keeps value bytes
 value_encoded set keeps None bytes = refl
 
 pair_encoded : (set : AsciiSet) → KeepsForm set → (string : List ℕ) → All IsByte string → decoded (split_pair (percent_encode set string)) ≡ decoded (split_pair string)
@@ -55,7 +48,7 @@ pair_encoded set keeps string bytes =
     let all = all_halves IsByte 61 string bytes in
     let split = split_once_encoded set 61 (record { kept = keeps 61 refl; other = no_equals }) string in
     let whole = form_split 61 (percent_encode set string) ∙ ap (λ r. (r.0, unwrap_or r.1 [])) split in
-    let name = decode_encoded set keeps halves.0 all.0 in
+    let name = decoded_still decode plus_to_space form_first set keeps halves.0 all.0 in
     let value = value_encoded set keeps halves.1 all.1 in
     ap decoded whole ∙ (λ i. (name i, value i)) ∙ sym (ap decoded (form_split 61 string))
 

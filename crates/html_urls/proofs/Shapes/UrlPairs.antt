@@ -37,7 +37,7 @@ own_query base parts texts own web fills is =
         ap (λ u. u.query) (filled_is parts texts url) ∙ ap (λ o. query_or (kind_of url) (option_map (λ q. url_of q (texts_after (path_parts parts) texts)) o) url.query) is
     by_front (Err e) = tt
 
-where_ok : (parsed : Parsed Parts) (P Q : Parts → Type 0) → ((url : Parts) → P url → Q url) → IfOk parsed P → IfOk parsed Q
+pub where_ok : (parsed : Parsed Parts) (P Q : Parts → Type 0) → ((url : Parts) → P url → Q url) → IfOk parsed P → IfOk parsed Q
 where_ok (Ok url) P Q more is = more url is
 where_ok (Err e) P Q more is = tt
 
@@ -53,7 +53,7 @@ url_pair_count base parts texts own web fills is has =
 small_component : (text : List ℕ) → All IsByte (component text)
 small_component text = All-weaker (λ b. is_component_byte b ≡ true) IsByte (λ b passes. grind (arith, nat_tests)) (component text) (component_bytes text)
 
-filled_bytes : (parts : List Given) (texts : List (List ℕ)) → IsOfBytes parts → All IsByte (url_of parts texts)
+pub filled_bytes : (parts : List Given) (texts : List (List ℕ)) → IsOfBytes parts → All IsByte (url_of parts texts)
 filled_bytes [] texts bytes = bytes
 filled_bytes (Markup markup ∷ parts) texts bytes =
     All-append IsByte markup (url_of parts texts) (all_left IsByte markup (url_of parts []) bytes) (filled_bytes parts texts (all_right IsByte markup (url_of parts []) bytes))
