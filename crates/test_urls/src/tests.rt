@@ -7,5 +7,6 @@ mod laws;
 mod links;
 mod memory;
 mod parts;
+mod shapes;
 mod slots;
 mod traps;

@@ -1,5 +1,6 @@
 //! The examples of the laws: each law is called with its example, and what it says of it is seen.
 use crate::tests::parts::fill;
+use crate::tests::slots::url_of;
 use html_urls::{UrlPart, UrlPlace, encode_component, laws};
 use percent_encoding::percent_decode_str;
 use std::test::Fail;
@@ -90,10 +91,52 @@ fn two_texts_stay_in_their_slots_as_the_law_says(rt: HostRuntime) -> Result<(), 
 }
 
 #[test]
+fn a_shape_is_filled_as_the_laws_say(rt: HostRuntime) -> Result<(), Fail> {
+    let parts = [
+        UrlPart::Markup("/items/"),
+        UrlPart::Slot,
+        UrlPart::Markup("?q="),
+        UrlPart::Slot,
+    ];
+    laws::url_shape_law(&parts);
+    laws::url_segments_law(&parts);
+    laws::pieces_law();
+    let url = url_of(rt.alloc(), &parts, &["../../logout", "1&admin=1"])?;
+    assert!(rt; url.path() == "/items/..%2F..%2Flogout");
+    assert!(rt; url.query() == Some("q=1%26admin%3D1"));
+    assert!(rt; url.path_segments().map_or(0, |segments| segments.count()) == 2);
+    Ok(())
+}
+
+#[test]
+fn texts_are_values_of_pairs_as_the_laws_say(rt: HostRuntime) -> Result<(), Fail> {
+    let parts = [
+        UrlPart::Markup("/items/"),
+        UrlPart::Slot,
+        UrlPart::Markup("?q="),
+        UrlPart::Slot,
+    ];
+    laws::decoded_pieces_law();
+    laws::pairs_law();
+    laws::url_pairs_law(&parts, &["../../logout", "1&admin=1"]);
+    let url = url_of(rt.alloc(), &parts, &["../../logout", "1&admin=1"])?;
+    let mut pairs = url.query_pairs();
+    let Some(pair) = pairs.next() else {
+        panic!(rt; "there is a pair");
+    };
+    let (name, value) = pair?;
+    assert!(rt; name.as_str() == "q" && value.as_str() == "1&admin=1");
+    assert!(rt; pairs.next().is_none());
+    Ok(())
+}
+
+#[test]
 fn a_link_has_its_scheme_as_the_law_says(rt: HostRuntime) -> Result<(), Fail> {
     laws::link_law("//a.example");
     assert!(rt; html_urls::is_link("//a.example"));
     let url = fill(rt.alloc(), PAGE, "//a.example", "", "")?;
     assert!(rt; url.as_str() == "https://a.example/");
+    let url = fill(rt.alloc(), "ftp://h/d/", "//a.example", "", "")?;
+    assert!(rt; url.as_str() == "ftp://a.example/");
     Ok(())
 }

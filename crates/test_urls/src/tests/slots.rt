@@ -100,7 +100,8 @@ fn is_fault(alloc: Global, parts: &[UrlPart<'_>], wanted: UrlFault) -> bool {
     }
 }
 
-fn url_of(alloc: Global, parts: &[UrlPart<'_>], texts: &[&str]) -> Result<Url, ParseError> {
+/// The URL of the parts with these texts, on a page.
+pub fn url_of(alloc: Global, parts: &[UrlPart<'_>], texts: &[&str]) -> Result<Url, ParseError> {
     let mut value = String::new(alloc);
     let mut texts = texts.iter();
     for part in parts {
