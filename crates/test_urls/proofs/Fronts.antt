@@ -9,7 +9,8 @@ use Rattle.url.specs.Input.{strip_tabs_and_new_lines, trim_c0_control_and_space,
 use Rattle.url.specs.Path.{dot_count}
 use Rattle.url.proofs.InputLemmas.{All_from_list_all}
 use Rattle.html_urls.specs.Components.{component}
-use Rattle.html_urls.specs.Slots.{FillUrl, Given, Markup, Slot}
+use Rattle.html_urls.specs.Slots.{FillUrl}
+use Rattle.test_urls.specs.Items.{item_parts}
 use Rattle.html_urls.proofs.Paths.SegmentFits.{component_dots}
 use Rattle.html_urls.specs.Parts.Paths.{EndsInPath, IsPathText, is_path_byte}
 use Rattle.html_urls.specs.Parts.Queries.{EndsInQuery}
@@ -55,9 +56,6 @@ unfolding strip_tabs_and_new_lines split_once split dot_count
 nothing_has_no_dots = All-cons IsNoDotSegment [] [] refl (All-nil IsNoDotSegment)
 
 -- ---- the slots of `/items/`, a slot, `?q=` and a slot
-
-abbrev pub item_parts : List Given
-item_parts = Markup (codes "/items/") ∷ Slot ∷ Markup (codes "?q=") ∷ Slot ∷ []
 
 are_bytes : (text : List ℕ) → list_all (λ b. nat_lt b 256) text ≡ true → All IsByte text
 are_bytes text is = All-weaker (λ b. nat_lt b 256 ≡ true) IsByte (λ b below. grind (arith, nat_tests)) text (All_from_list_all (λ b. nat_lt b 256) text is)

@@ -1,4 +1,5 @@
 //! The examples of the laws: each law is called with its example, and what it says of it is seen.
+use crate::items::item_law;
 use crate::tests::parts::fill;
 use crate::tests::slots::url_of;
 use html_urls::{UrlPart, UrlPlace, encode_component, laws};
@@ -119,6 +120,7 @@ fn texts_are_values_of_pairs_as_the_laws_say(rt: HostRuntime) -> Result<(), Fail
     laws::decoded_pieces_law();
     laws::pairs_law();
     laws::url_pairs_law(&parts, &["../../logout", "1&admin=1"]);
+    item_law("../../logout", "1&admin=1");
     let url = url_of(rt.alloc(), &parts, &["../../logout", "1&admin=1"])?;
     let mut pairs = url.query_pairs();
     let Some(pair) = pairs.next() else {
