@@ -4,3 +4,4 @@ pub mod EncoderBounds
 pub mod Sessions
 pub mod Steps
 pub mod WholePieces
+pub mod JoinedWrites
