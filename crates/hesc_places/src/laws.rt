@@ -1,13 +1,13 @@
 //! The laws of places: each is a function that does nothing and whose contract is the law.
-ghost use Rattle.std.specs.Prelude.{◌≡◌, ◌≢◌, ◌↔◌, ◌++◌, false, length, map, IsTrue, None, Some};
+ghost use Rattle.std.specs.Prelude.{◌≡◌, ◌≢◌, ◌↔◌, ◌++◌, ℕ, List, false, length, map, IsTrue, None, Some};
 ghost use Rattle.hesc_specs.specs.Bodies.Encoding.{body_encoding};
 ghost use Rattle.html_escape.specs.Encoders.{encoded};
 ghost use Rattle.hesc_places.specs.Pages.FormFaults.{first_fault};
 ghost use Rattle.hesc_places.specs.Pages.FormReadings.{form_reading};
-ghost use Rattle.hesc_places.specs.Pages.FormTexts.{AreGood, form_back, form_text, written};
+ghost use Rattle.hesc_places.specs.Pages.FormTexts.{AreGood, IsReadAsForm, form_back, form_text, written};
 ghost use Rattle.hesc_places.specs.Places.Marks.{closing};
 ghost use Rattle.hesc_places.specs.Pages.PageReadings.{page_reading};
-ghost use Rattle.hesc_places.specs.Pages.PageTexts.{page_back, page_text};
+ghost use Rattle.hesc_places.specs.Pages.PageTexts.{IsReadAsPage, page_back, page_text};
 ghost use Rattle.hesc_grammars.specs.Places.{body_of, reading};
 ghost use Rattle.hesc_places.specs.Places.Suits.{suits, MayHold};
 ghost use Rattle.hesc_places.specs.Places.ReadBack.{read_back};
@@ -29,6 +29,17 @@ pub fn place_law(encoder: Encoder, place: Place, text: &str, rest: &[u8])
     requires suits { IsTrue (suits encoder place) }
     requires may_hold { MayHold place text.now }
     ensures { reading place (encoded encoder text.now ++ (closing place ++ rest.now))
+        ≡ Some (read_back encoder text.now, length (encoded encoder text.now)) }
+{}
+
+/// [`place_law`] for every rest at once.
+///
+/// For instance `a&lt;b` in text is read as `a<b` and ends at byte 6, before `</p>` and before any
+/// other bytes that begin with `<`.
+pub fn place_law_for_any_rest(encoder: Encoder, place: Place, text: &str)
+    requires suits { IsTrue (suits encoder place) }
+    requires may_hold { MayHold place text.now }
+    ensures { (rest : List ℕ) → reading place (encoded encoder text.now ++ (closing place ++ rest))
         ≡ Some (read_back encoder text.now, length (encoded encoder text.now)) }
 {}
 
@@ -63,6 +74,15 @@ pub fn page_law(a: &str, b: &str, c: &str, rest: &[u8])
         ≡ Some (page_back a.now b.now c.now) }
 {}
 
+/// [`page_law`] for every rest at once.
+///
+/// For instance the page of `a`, `b` and `c` is read back as these three, before `</html>` and
+/// before any other bytes.
+pub fn page_law_for_any_rest(a: &str, b: &str, c: &str)
+    requires { length a.now ≢ 0 }
+    ensures { IsReadAsPage a.now b.now c.now (page_text a.now b.now c.now) }
+{}
+
 /// The text of a form with good attributes is read back as these attributes in order (an unquoted
 /// value with U+FFFD for NUL) and the script's string, whatever follows it, and ends exactly where it
 /// ends.
@@ -73,6 +93,16 @@ pub fn form_law(attributes: &[Attribute], script: &str, rest: &[u8])
     requires { AreGood (map written attributes.now) }
     ensures { form_reading (form_text (map written attributes.now) script.now ++ rest.now)
         ≡ Some (form_back (map written attributes.now) script.now) }
+{}
+
+/// [`form_law`] for every rest at once.
+///
+/// For instance the form of the one attribute `value`, which is `a b` without quotes, and of the
+/// string `x` is read back as these, before `</html>` and before any other bytes.
+pub fn form_law_for_any_rest(attributes: &[Attribute], script: &str)
+    requires { AreGood (map written attributes.now) }
+    ensures { IsReadAsForm (map written attributes.now) script.now
+        (form_text (map written attributes.now) script.now) }
 {}
 
 /// Attributes have no fault exactly where they are good.

@@ -1,5 +1,5 @@
 -- The text of a form: the tag with its attributes, and the script.
-use Rattle.std.specs.Prelude.{◌≢◌, ⊤, ℕ, Bool, false, IsTrue, List, [], ◌∷◌, ◌++◌, codes, length, map}
+use Rattle.std.specs.Prelude.{◌≡◌, ◌≢◌, ⊤, ℕ, Bool, false, IsTrue, List, [], ◌∷◌, ◌++◌, Some, codes, length, map}
 use Rattle.std.specs.Char.{is_ascii_lowercase}
 use Rattle.std.specs.List.{flat_map, list_all, AllByRecursion}
 use Rattle.hesc_specs.specs.Text.Ascii.{space, double_quote, single_quote, equals_sign}
@@ -10,7 +10,7 @@ use Rattle.hesc_places.specs.declared.markup.types.Attribute.{Attribute}
 use Rattle.hesc_places.specs.declared.markup.types.Quoting.{Quoting}
 use Rattle.hesc_places.specs.declared.markup.types.Quoting.TheVariants.{Unquoted, Single, Double}
 use Rattle.hesc_places.specs.Pages.AttributeReadings.{Entry, differ, entry}
-use Rattle.hesc_places.specs.Pages.FormReadings.{FormRead}
+use Rattle.hesc_places.specs.Pages.FormReadings.{FormRead, form_reading}
 
 -- an attribute that is to be written
 abbrev pub written : Attribute → Entry
@@ -72,3 +72,8 @@ entry_back a = record { name = a.name; quoting = a.quoting; value = value_back a
 abbrev pub form_back : List Entry → List ℕ → FormRead
 form_back attributes script =
     record { attributes = map entry_back attributes; script = script; end = length (form_text attributes script) }
+
+-- whatever follows the part, it is read as the attributes and the script's string
+abbrev pub IsReadAsForm : List Entry → List ℕ → List ℕ → Type 0
+IsReadAsForm attributes script part =
+    (rest : List ℕ) → form_reading (part ++ rest) ≡ Some (form_back attributes script)

@@ -1,10 +1,10 @@
 //! The form of any attributes, or the reason why it is not built.
-ghost use Rattle.std.specs.Prelude.{◌≡◌, ◌≤◌, length, map, IfOk, IsOk};
+ghost use Rattle.std.specs.Prelude.{◌≡◌, ◌≤◌, length, map, IfOk, IsOk, OnOk};
 ghost use Rattle.std.specs.Borrow.{sem};
 ghost use Rattle.std.specs.String.{string_bytes};
 ghost use Rattle.hesc_engine.specs.Forms.{Appended, StringAppended, string_room};
 ghost use Rattle.hesc_places.specs.Pages.FormFaults.{AnswersFormFault};
-ghost use Rattle.hesc_places.specs.Pages.FormTexts.{AreGood, form_text, written};
+ghost use Rattle.hesc_places.specs.Pages.FormTexts.{AreGood, IsReadAsForm, form_text, written};
 
 use crate::markup::attribute_checks::first_fault;
 use crate::markup::form_text::FormText;
@@ -28,6 +28,8 @@ pub fn build_form<'o, A: Allocator>(
 ) -> Result<&'o str, FormFault>
     ensures part { IfOk result
         (λ part. part.now ≡ form_text (map written attributes.now) script.now) }
+    ensures read { IfOk result
+        (λ part. IsReadAsForm (map written attributes.now) script.now part.now) }
     ensures* appended { sem 𝓛 (StringAppended A.row A.Allocator output.entry
         (form_text (map written attributes.now) script.now) result) }
 
@@ -52,6 +54,8 @@ pub fn append_form<'o, A: Allocator>(
 ) -> Result<&'o str, FormFault>
     ensures part { IfOk result
         (λ part. part.now ≡ form_text (map written attributes.now) script.now) }
+    ensures read { IfOk result
+        (λ part. IsReadAsForm (map written attributes.now) script.now part.now) }
     ensures* appended { sem 𝓛 (StringAppended A.row A.Allocator output.entry
         (form_text (map written attributes.now) script.now) result) }
 
@@ -74,6 +78,9 @@ fn add_form<A: Allocator>(
 ) -> Result<(), FormFault>
     ensures appended { Appended (string_bytes output.old) (string_bytes output.new)
         (form_text (map written attributes.now) script.now) result }
+    ensures read { OnOk result (IsReadAsForm (map written attributes.now) script.now
+        (form_text (map written attributes.now) script.now)) }
+
     ensures faults { AnswersFormFault (map written attributes.now) result }
     ensures good { IsOk result → AreGood (map written attributes.now) }
     ensures fits { AreGood (map written attributes.now)

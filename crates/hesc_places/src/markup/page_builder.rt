@@ -1,9 +1,9 @@
 //! The page of three texts, or the reason why it is not built.
-ghost use Rattle.std.specs.Prelude.{◌≡◌, ◌≢◌, ◌≤◌, ◌↔◌, [], length, IfOk, IsErrOf, IsOk};
+ghost use Rattle.std.specs.Prelude.{◌≡◌, ◌≢◌, ◌≤◌, ◌↔◌, [], length, IfOk, IsErrOf, IsOk, OnOk};
 ghost use Rattle.std.specs.Borrow.{sem};
 ghost use Rattle.std.specs.String.{string_bytes};
 ghost use Rattle.hesc_engine.specs.Forms.{Appended, StringAppended, string_room};
-ghost use Rattle.hesc_places.specs.Pages.PageTexts.{page_text};
+ghost use Rattle.hesc_places.specs.Pages.PageTexts.{IsReadAsPage, page_text};
 ghost use Rattle.hesc_places.specs.declared.place.enclosing.PlaceFault.TheVariants.{EmptyUnquoted, NotForPlace};
 
 use crate::markup::form_text::FormText;
@@ -26,6 +26,7 @@ pub fn build_page<'o, A: Allocator>(
     output: &'o mut String<A>,
 ) -> Result<&'o str, PlaceFault>
     ensures part { IfOk result (λ part. part.now ≡ page_text a.now b.now c.now) }
+    ensures read { IfOk result (λ part. IsReadAsPage a.now b.now c.now part.now) }
     ensures* appended { sem 𝓛 (StringAppended A.row A.Allocator output.entry
         (page_text a.now b.now c.now) result) }
 
@@ -48,6 +49,7 @@ pub fn append_page<'o, A: Allocator>(
     c: &str,
 ) -> Result<&'o str, PlaceFault>
     ensures part { IfOk result (λ part. part.now ≡ page_text a.now b.now c.now) }
+    ensures read { IfOk result (λ part. IsReadAsPage a.now b.now c.now part.now) }
     ensures* appended { sem 𝓛 (StringAppended A.row A.Allocator output.entry
         (page_text a.now b.now c.now) result) }
 
@@ -70,6 +72,9 @@ fn add_page<A: Allocator>(
 ) -> Result<(), PlaceFault>
     ensures appended { Appended (string_bytes output.old) (string_bytes output.new)
         (page_text a.now b.now c.now) result }
+    ensures read { OnOk result
+        (IsReadAsPage a.now b.now c.now (page_text a.now b.now c.now)) }
+
     ensures empty_unquoted { IsErrOf result EmptyUnquoted ↔ (a.now ≡ []) }
     ensures suits { IsErrOf result NotForPlace → ⊥ }
     ensures fits { length a.now ≢ 0

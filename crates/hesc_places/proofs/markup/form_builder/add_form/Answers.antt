@@ -1,6 +1,7 @@
 use Rattle.std.proofs.Common.{rules, map}
 use Rattle.hesc_places.specs.Pages.FormTexts.{written}
 use Rattle.hesc_places.proofs.Pages.AnsweredFaults.{answered, good, not_good}
+use Rattle.hesc_places.proofs.Pages.FormLaw.{form_again}
 use Rattle.hesc_places.proofs.markup.form_builder.add_form.Goals as goal
 
 pub returns-in-Some-clause-faults : goal.returns-in-Some-clause-faults
@@ -9,6 +10,11 @@ returns-in-Some-clause-faults g c = answered (map written c.args.attributes.now)
 pub returns-in-Some-clause-fits : goal.returns-in-Some-clause-fits
 returns-in-Some-clause-fits g c is_good room =
     absurd (not_good (map written c.args.attributes.now) c.in-Some.fault c.in-Some.ensures is_good)
+
+pub returns-clause-read : goal.returns-clause-read
+returns-clause-read g c rest =
+    form_again (map written c.args.attributes.now) c.args.script.now rest
+    (good (map written c.args.attributes.now) c.in_default.ensures) c.utf8.script
 
 pub returns-clause-good : goal.returns-clause-good
 returns-clause-good g c ok = good (map written c.args.attributes.now) c.in_default.ensures
