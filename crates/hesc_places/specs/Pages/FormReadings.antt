@@ -2,7 +2,7 @@
 -- HTML Standard, 13.2.5.8 Tag name state, 13.2.5.32 Before attribute name state and
 -- 13.2.5.40 Self-closing start tag state, in this profile: these tags alone, the first two in
 -- lower case, without white space inside the second and third.
-use Rattle.std.specs.Prelude.{ℕ, ◌-◌, List, Option, Some, None, codes, bytes_eq, drop, length, map, if◌then◌else◌}
+use Rattle.std.specs.Prelude.{ℕ, ◌-◌, List, [], ◌∷◌, Option, Some, None, codes, bytes_eq, drop, length, map, if◌then◌else◌}
 use Rattle.std.specs.Option.{option_or}
 use Rattle.hesc_grammars.specs.declared.place.Place.TheVariants.{ScriptSingle, ScriptBody}
 use Rattle.hesc_places.specs.Pages.AttributeReadings.{Entry, attributes_at, differ}
@@ -15,6 +15,11 @@ pub record FormRead : Type 0 where
   pub attributes : List Entry
   pub script : List ℕ
   pub end : ℕ
+
+-- the value of the attribute of a name, the first of that name if there are more
+abbrev pub value_of : List ℕ → List Entry → Option (List ℕ)
+value_of name [] = None
+value_of name (a ∷ others) = if bytes_eq name a.name then Some a.value else value_of name others
 
 abbrev pub form_found : List Entry → List ℕ → ℕ → FormRead
 form_found attributes script end = record { attributes = attributes; script = script; end = end }

@@ -29,6 +29,29 @@ pub struct Form<A: Allocator = Global> {
     pub end: usize,
 }
 
+impl<A: Allocator> Form<A> {
+    ghost use Rattle.hesc_places.specs.Pages.FormReadings.{value_of};
+
+    /// The value of the attribute of this name, or `None` where there is none. A form that was read has
+    /// no two attributes of one name; of one that was not, it is the first.
+    ///
+    /// Of `<input a=1 b="2"/><script>alert('x');</script>` the value of `b` is `2`, and there is none
+    /// of `c`.
+    pub fn value_of(&self, name: &str) -> Option<&[u8]>
+        ensures { option_map (λ value. value.now) result ≡ value_of name.now
+            (map (λ a. entry a.0.items a.1 a.2.items) self.now.attributes.items) }
+    {
+        let mut rest = self.attributes.as_slice();
+        'attributes: while let [(other, _, value), after @ ..] = rest {
+            if name.as_bytes() == other.as_slice() {
+                return Some(value.as_slice());
+            }
+            rest = after;
+        }
+        None
+    }
+}
+
 /// Reads a form from the front of the bytes: an input's tag with any attributes, no two of one name,
 /// and a script that hands one string to `alert`. There is `None` exactly where there is no reading,
 /// and `AllocError` where memory, or a copy of `alloc`, is refused. The bytes need be no UTF-8.
