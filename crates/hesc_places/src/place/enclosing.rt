@@ -65,6 +65,10 @@ pub fn enclose<'o, A: Allocator>(
 /// [`enclose`] with the output first: a caller's proof learns the answered part, and all of what
 /// `output` holds afterwards.
 ///
+/// In a quoted attribute value NUL and carriage returns stay as they are, but by
+/// `UnquotedAttribute`, and the grammar reads them so. A browser reads NUL there as U+FFFD (HTML
+/// Standard, 13.2.5.36, 13.2.5.37), and a carriage return as a line feed (13.2.3.5).
+///
 /// `append_enclosed(&mut page, Encoder::Text, Place::Text, "a<b")?` appends and answers `>a&lt;b<`.
 pub fn append_enclosed<'o, A: Allocator>(
     output: &'o mut String<A>,
