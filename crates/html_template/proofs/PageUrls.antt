@@ -1,12 +1,12 @@
-pub mod AllAlike
-pub mod Completing
+pub mod EndedUrls
+pub mod Filled
+pub mod FilledAlike
 pub mod LaterMarkup
 pub mod Law
 pub mod MarkupSteps
+pub mod OpenEnds
 pub mod Opening
-pub mod Pending
 pub mod Placed
-pub mod SameMarkup
 pub mod SlotSteps
 pub mod Splitting
 pub mod TextSlots

@@ -8,5 +8,6 @@ pub mod Structure
 pub mod TemplatePieces
 pub mod Walks
 pub mod PageUrls
+pub mod FilledUrls
 pub mod UrlTexts
 pub mod PlainTexts

@@ -5,6 +5,7 @@ ghost use Rattle.std.specs.Str.{IsUtf8};
 ghost use Rattle.html_tokenizer.specs.Tokenizer.States.{data_state};
 ghost use Rattle.html_tokenizer.specs.Tokenizer.Tokenization.{actions_of};
 ghost use Rattle.html_tokenizer.specs.Tokens.{skeleton, tokens};
+ghost use Rattle.html_template.specs.FilledUrls.{HasUrls};
 ghost use Rattle.html_template.specs.PageUrls.{AllAlike, urls_of, whole_urls};
 ghost use Rattle.html_template.specs.Structure.{IsPageOf, IsReadAs, structure};
 ghost use Rattle.html_template.specs.TemplateFaults.{template_of};
@@ -123,4 +124,16 @@ pub fn url_law(parts: &[Part], texts: &[&str], others: &[&str])
         → AllAlike (whole_urls chunks (texts_of texts.now)) (whole_urls chunks (texts_of others.now))
         (urls_of (page chunks (texts_of texts.now)))
         (urls_of (page chunks (texts_of others.now))) }
+{}
+
+/// A template has a list of URLs. Whatever texts fill it, the URLs of the page, as the tokenizer reads
+/// them, are these, filled by the texts of its slots in URLs, in order: a part of a URL is the component
+/// of its text, a whole URL is its text, which is a link, and no text is left. So what
+/// `html_urls::laws` say of a URL's parts and their texts holds of the URLs of a page.
+///
+/// For instance `<a href="/?q=`, a slot and `&amp;p=1">` has one URL, of the parts `/?q=`, a slot and
+/// `&p=1`. In the page of `b&p=2` it is `/?q=b%26p%3D2&p=1`.
+#[tactic(auto, using(crate::proofs::PageUrls::Law::has_urls))]
+pub fn page_urls_law(parts: &[Part])
+    ensures { (chunks : List Chunk) → template_of (map given parts.now) ≡ Ok chunks → HasUrls chunks }
 {}

@@ -1,55 +1,68 @@
--- Two pages of one template, at one place of it: the tokenizer is in one state, and this was read of the URL that is open.
-use Rattle.std.proofs.Common.{ℕ, ◌≡◌, true, List, [], ◌∷◌, subst}
+-- A place of a template: where the tokenizer is, what was read of the URL that is open, and what is proved from there on.
+use Rattle.std.proofs.Common.{ℕ, ◌≡◌, List, [], ◌++◌, refl, sym, ap, ◌∙◌, subst, true, false}
 use Rattle.html_template.specs.declared.open_url.OpenUrl.{OpenUrl}
 use Rattle.html_template.specs.declared.open_url.OpenUrl.TheVariants.{Outside, Within, Whole}
+use Rattle.html_template.specs.Templates.{Chunk}
 use Rattle.html_tokenizer.specs.declared.slot_place.SlotPlace.{SlotPlace}
-use Rattle.html_tokenizer.specs.Tokenizer.States.{In, Tokenizer}
+use Rattle.html_tokenizer.specs.Tokenizer.States.{Tokenizer}
 use Rattle.html_tokenizer.specs.Tokenizer.Tokenization.{state_after}
-use Rattle.html_tokenizer.specs.UrlValues.{is_url, open_url}
+use Rattle.html_tokenizer.specs.UrlValues.{is_url, open_url, urls_from}
+use Rattle.html_tokenizer.proofs.UrlValues.Appending.{urls_from-append}
 use Rattle.html_tokenizer.proofs.UrlValues.Bytes.{may_hold_url}
 use Rattle.html_tokenizer.proofs.UrlValues.Places.{is_value_place}
-use Rattle.html_tokenizer.proofs.UrlValues.Slots.Tame.{IsFresh, IsTame}
-use Rattle.html_urls.specs.Links.{is_link}
-use Rattle.html_urls.specs.declared.open_part.OpenPart.{OpenPart}
-use Rattle.html_template.proofs.PageUrls.Completing.{Completes}
+use Rattle.html_tokenizer.proofs.UrlValues.Slots.AtSlots.{no_url_fresh, no_url_tame}
+use Rattle.html_tokenizer.proofs.UrlValues.Slots.Tame.{IsFresh, IsTame, fresh_after}
+use Rattle.html_template.proofs.PageUrls.Filled.{EndsBehind, GoesOn, HasLater}
+use Rattle.html_template.proofs.TemplateLaw.{IsInUrl}
 
--- in no URL with a slot: both read the same markup, and the same of a URL
-pub record FromMarkup (t : Tokenizer) (markup first second : List ℕ) : Type 0 where
+-- the URL that is open, if one is, was read in this markup
+pub record FromMarkup (t : Tokenizer) (markup value : List ℕ) : Type 0 where
   pub start : Tokenizer
   pub tame : IsTame start
-  pub first_before : List ℕ
-  pub second_before : List ℕ
-  pub first_fresh : IsFresh start first_before
-  pub second_fresh : IsFresh start second_before
+  pub before : List ℕ
+  pub fresh : IsFresh start before
   pub after : t ≡ state_after start markup
-  pub first_is : first ≡ open_url start first_before markup
-  pub second_is : second ≡ open_url start second_before markup
-  pub same : is_url t.attribute ≡ true → first ≡ second
+  pub is : value ≡ open_url start before markup
 
--- behind a slot in this part of a URL
-pub record WithinUrl (p : SlotPlace) (part : OpenPart) (t : Tokenizer) (first second : List ℕ) : Type 0 where
-  pub state_is : t.state ≡ In p
-  pub attribute_is : is_url t.attribute ≡ true
-  pub number : ℕ
-  pub completes : Completes number part first second
+-- behind a slot in a URL the tokenizer is in a value
+abbrev pub StandsAt : SlotPlace → Tokenizer → Type 0
+StandsAt p t = IsInUrl p t.state t.attribute
 
--- behind a slot that is a whole URL
-pub record WholeUrl (p : SlotPlace) (t : Tokenizer) (first second : List ℕ) : Type 0 where
-  pub state_is : t.state ≡ In p
-  pub attribute_is : is_url t.attribute ≡ true
-  pub first_link : is_link first ≡ true
-  pub second_link : is_link second ≡ true
+-- by what is open of a URL with slots
+abbrev pub Goes : OpenUrl → Tokenizer → List ℕ → List Chunk → Type 0
+Goes Outside t markup chunks = (value : List ℕ) → FromMarkup t markup value → HasLater t value chunks
+Goes (Within p part) t markup chunks = StandsAt p t → GoesOn part t chunks
+Goes (Whole p) t markup chunks = StandsAt p t → EndsBehind t [] chunks
 
-abbrev pub Opens : OpenUrl → Tokenizer → List ℕ → List ℕ → List ℕ → Type 0
-Opens Outside t markup first second = FromMarkup t markup first second
-Opens (Within p part) t markup first second = WithinUrl p part t first second
-Opens (Whole p) t markup first second = WholeUrl p t first second
-
--- the text of a slot that is a whole URL, which has not ended
-abbrev pub pending : OpenUrl → List ℕ → List (List ℕ)
-pending (Whole p) text = text ∷ []
-pending other text = []
+-- what is open was told
+pub goes_as : (url : OpenUrl) {told : OpenUrl} (t : Tokenizer) (markup : List ℕ) (chunks : List Chunk) → url ≡ told → Goes told t markup chunks →
+    Goes url t markup chunks
+goes_as url t markup chunks is goes = subst (λ (x : OpenUrl). Goes x t markup chunks) (sym is) goes
 
 -- the place of a URL that is open is one in a value
-pub value_place : (p : SlotPlace) (t : Tokenizer) → IsTame t → t.state ≡ In p → is_url t.attribute ≡ true → is_value_place p ≡ true
-value_place p t tame state_is attribute_is = subst (λ s. may_hold_url s ≡ true) state_is (tame attribute_is)
+pub value_place : (p : SlotPlace) (t : Tokenizer) → IsTame t → StandsAt p t → is_value_place p ≡ true
+value_place p t tame stands = subst (λ s. may_hold_url s ≡ true) stands.state_is (tame stands.attribute_is)
+
+pub no_url_open : (t : Tokenizer) (value : List ℕ) → is_url t.attribute ≡ false → FromMarkup t [] value
+no_url_open t value none = record {
+  start = t;
+  tame = no_url_tame t none;
+  before = value;
+  fresh = no_url_fresh t value none;
+  after = refl;
+  is = refl;
+}
+
+pub fresh_here : {t : Tokenizer} {markup value : List ℕ} → FromMarkup t markup value → IsFresh t value
+fresh_here {t} {markup} {value} from =
+    subst (λ (x : Tokenizer). IsFresh x value) (sym from.after)
+    (subst (IsFresh (state_after from.start markup)) (sym from.is) (fresh_after from.start from.before markup from.tame from.fresh))
+
+-- bytes in which no URL ends, and others
+pub behind_bytes : (t : Tokenizer) {u : Tokenizer} {found : List ℕ} (value bytes rest : List ℕ) → urls_from t value bytes ≡ [] → state_after t bytes ≡ u →
+    open_url t value bytes ≡ found → urls_from t value (bytes ++ rest) ≡ urls_from u found rest
+behind_bytes t {u} {found} value bytes rest none after is =
+    urls_from-append t value bytes rest
+    ∙ ap (λ x. x ++ urls_from (state_after t bytes) (open_url t value bytes) rest) none
+    ∙ ap (λ x. urls_from x (open_url t value bytes) rest) after
+    ∙ ap (λ x. urls_from u x rest) is

@@ -1,80 +1,110 @@
--- A slot, in which each page holds a text of its own.
-use Rattle.std.proofs.Common.{ℕ, ◌≡◌, ◌+◌, Bool, true, false, List, [], IsUtf8, Ok, refl, ◌∙◌, subst}
+-- A slot, and what is open behind it.
+use Rattle.std.proofs.Common.{ℕ, ◌≡◌, Bool, true, false, List, [], ◌∷◌, Ok, refl, ◌∙◌, subst}
 use Rattle.html_template.specs.declared.open_url.OpenUrl.{OpenUrl}
 use Rattle.html_template.specs.declared.open_url.OpenUrl.TheVariants.{Outside, Within, Whole}
 use Rattle.html_template.specs.declared.open_url.PlacedSlot.{PlacedSlot}
-use Rattle.html_template.specs.OpenUrls.{slot_behind, url_slot}
-use Rattle.html_template.specs.Slots.{MayFill}
+use Rattle.html_template.specs.declared.parts.SlotKind.{SlotKind}
+use Rattle.html_template.specs.declared.parts.SlotKind.TheVariants as kind
+use Rattle.html_template.specs.OpenUrls.{url_slot}
+use Rattle.html_template.specs.Slots.{suits}
 use Rattle.html_template.specs.TemplateFaults.{slot_at}
+use Rattle.html_template.specs.Templates.{Chunk, Slot}
 use Rattle.html_tokenizer.specs.declared.reader.Standing.{Standing}
 use Rattle.html_tokenizer.specs.declared.reader.Standing.TheVariants.{Stands, InUrl, InLink, Nowhere, Barred}
 use Rattle.html_tokenizer.specs.declared.slot_place.SlotPlace.{SlotPlace}
 use Rattle.html_tokenizer.specs.Standing.{standing}
-use Rattle.html_tokenizer.specs.Tokenizer.States.{Tokenizer}
-use Rattle.html_tokenizer.proofs.UrlValues.Slots.AtSlots.{in_url, open_at_slot}
+use Rattle.html_tokenizer.specs.Tokenizer.States.{In, Tokenizer, at_value}
+use Rattle.html_tokenizer.proofs.UrlValues.Slots.AtSlots.{in_url, no_url_tame, open_at_slot}
 use Rattle.html_tokenizer.proofs.UrlValues.Slots.Tame.{IsTame}
 use Rattle.html_urls.specs.declared.open_part.OpenPart.{OpenPart}
-use Rattle.html_template.proofs.PageUrls.Completing.{behind_first, behind_texts}
-use Rattle.html_template.proofs.PageUrls.Opening.{FromMarkup, Opens, WithinUrl}
-use Rattle.html_template.proofs.PageUrls.Placed.{InPart, IsFirst, behind, first_told, part_told, whole}
-use Rattle.html_template.proofs.PageUrls.TextSlots.{SlotStep, Steps, text_step}
-use Rattle.html_template.proofs.PageUrls.UrlSlots.{link_step, part_step}
+use Rattle.html_template.proofs.PageUrls.Filled.{GoesOn, HasLater}
+use Rattle.html_template.proofs.PageUrls.OpenEnds.{no_slot_behind, no_text_stands}
+use Rattle.html_template.proofs.PageUrls.Opening.{FromMarkup, Goes, StandsAt, value_place}
+use Rattle.html_template.proofs.PageUrls.Placed.{IsFirst, behind, first_told, part_told, whole}
+use Rattle.html_template.proofs.PageUrls.TextSlots.{text_goes, text_stands_apart}
+use Rattle.html_template.proofs.PageUrls.UrlSlots.{first_goes, later_goes, link_goes}
+use Rattle.html_template.proofs.TemplateLaw.{link_in_url, part_in_url}
 use Rattle.html_template.proofs.Walks.{ok_slot, same_itself, slot_suits, told_behind_markup}
 
-module _ (t : Tokenizer) (text other first second : List ℕ) (utf8 : IsUtf8 text) (other_utf8 : IsUtf8 other) where
-  -- behind the markup both URLs hold the same
-  first_step : (p : SlotPlace) (markup : List ℕ) (slot : PlacedSlot) → IsTame t → in_url p (standing t) ≡ true → FromMarkup t markup first second →
-      IsFirst p markup slot → Steps t text other first second slot
-  first_step p markup slot tame stands opens (whole last is) =
-      let stood = rw opens.after at stands in
-      subst (Steps t text other first second) is
-      (link_step t text other first second utf8 other_utf8 p tame
-      (opens.first_is ∙ open_at_slot p opens.start opens.first_before markup [] [] opens.tame opens.first_fresh stood last refl)
-      (opens.second_is ∙ open_at_slot p opens.start opens.second_before markup [] [] opens.tame opens.second_fresh stood last refl))
-  first_step p markup slot tame stands opens (behind raw last front) =
-      let stood = rw opens.after at stands in
-      let same : first ≡ front.text =
-      opens.first_is ∙ open_at_slot p opens.start opens.first_before markup raw front.text opens.tame opens.first_fresh stood last front.adds.read in
-      let other_same : second ≡ front.text =
-      opens.second_is ∙ open_at_slot p opens.start opens.second_before markup raw front.text opens.tame opens.second_fresh stood last front.adds.read in
-      subst (Steps t text other first second) front.placed.is
-      (λ suited may other_may.
-      part_step t text other first second 2 p front.part front.placed.found tame suited
-      (rw (same, other_same) (behind_first front.text text other front.part front.placed.found front.adds.plain front.opened front.placed.at may other_may)))
+abbrev pub past_slot : Tokenizer → SlotPlace → Tokenizer
+past_slot t p = at_value (In p) t.content t.attribute
 
-  later_step : (p q : SlotPlace) (part : OpenPart) (slot : PlacedSlot) → IsTame t → WithinUrl q part t first second → InPart p part slot →
-      Steps t text other first second slot
-  later_step p q part slot tame opens placed =
-      subst (Steps t text other first second) placed.is
-      (λ suited may other_may.
-      part_step t text other first second (opens.number + 1) p part placed.found tame suited
-      (behind_texts opens.number part placed.found text other first second placed.at may other_may opens.completes))
+-- ---- a URL is open behind it only where one is open before it
 
-  behind_step : (number : ℕ) (p : SlotPlace) (is_followed : Bool) (markup : List ℕ) (url : OpenUrl) (slot : PlacedSlot) → IsTame t → in_url p (standing t) ≡ true →
-      Opens url t markup first second → slot_behind number p is_followed markup url ≡ Ok slot → Steps t text other first second slot
-  behind_step number p is_followed markup Outside slot tame stands opens told =
-      first_step p markup slot tame stands opens (first_told number p is_followed markup slot told)
-  behind_step number p is_followed markup (Within q part) slot tame stands opens told =
-      later_step p q part slot tame opens (part_told number p part slot told)
-  behind_step number p is_followed markup (Whole q) slot tame stands opens told = absurd (cc)
+tame_of_kind : (kind : SlotKind) (p : SlotPlace) (t : Tokenizer) → IsTame t → suits kind p (standing t) ≡ true → IsTame (past_slot t p)
+tame_of_kind kind.Text p t tame suited = no_url_tame (past_slot t p) (text_stands_apart p t suited).no_url
+tame_of_kind (kind.UrlPart slot) p t tame suited = λ is. value_place p t tame (part_in_url slot p t.state t.content t.attribute suited)
+tame_of_kind kind.Link p t tame suited = λ is.
+    let in_value = link_in_url p t.state t.content t.attribute suited in
+    value_place p t tame (record { state_is = in_value.state_is; attribute_is = in_value.attribute_is })
 
-  url_step : (number : ℕ) (p : SlotPlace) (is_followed : Bool) (markup : List ℕ) (url : OpenUrl) (slot : PlacedSlot) → IsTame t → in_url p (standing t) ≡ true →
-      Opens url t markup first second → url_slot number p is_followed markup url ≡ Ok slot → Steps t text other first second slot
-  url_step number p is_followed markup url slot tame stands opens told =
-      behind_step number p is_followed markup url slot tame stands opens (told_behind_markup number p is_followed markup url slot told)
+pub tame_behind : (number : ℕ) (markup : List ℕ) (url : OpenUrl) (t : Tokenizer) (slot : PlacedSlot) → IsTame t →
+    slot_at number markup url (standing t) ≡ Ok slot → IsTame (past_slot t slot.place)
+tame_behind number markup url t slot tame told = tame_of_kind slot.kind slot.place t tame (slot_suits number markup url (standing t) slot told).suited
 
-  -- ---- any slot
+-- ---- where no URL with a slot is open, and where one is
 
-  step_at : (number : ℕ) (markup : List ℕ) (url : OpenUrl) (slot : PlacedSlot) (s : Standing) → IsTame t → standing t ≡ s →
-      Opens url t markup first second → slot_at number markup url s ≡ Ok slot → Steps t text other first second slot
-  step_at number markup url slot (Stands p) tame is opens told = subst (Steps t text other first second) (ok_slot told) (text_step t text other first second utf8 other_utf8 p)
-  step_at number markup url slot (InUrl p) tame is opens told = url_step number p false markup url slot tame (rw is (same_itself p)) opens told
-  step_at number markup url slot (InLink p) tame is opens told = url_step number p true markup url slot tame (rw is (same_itself p)) opens told
-  step_at number markup url slot Nowhere tame is opens told = absurd (cc)
-  step_at number markup url slot Barred tame is opens told = absurd (cc)
+module _ (t : Tokenizer) (chunks : List Chunk) (tame : IsTame t) where
+  -- the pieces from the slot on, if it suits where it stands
+  abbrev FromSlot : (List Chunk → Type 0) → PlacedSlot → Type 0
+  FromSlot Found slot =
+      suits slot.kind slot.place (standing t) ≡ true → Goes slot.url (past_slot t slot.place) [] chunks → Found (Slot slot.place slot.kind ∷ chunks)
 
-  pub slot_step : (number : ℕ) (markup : List ℕ) (url : OpenUrl) (slot : PlacedSlot) → IsTame t → Opens url t markup first second →
-      slot_at number markup url (standing t) ≡ Ok slot → MayFill slot.place slot.kind text → MayFill slot.place slot.kind other →
-      SlotStep t text other first second slot
-  slot_step number markup url slot tame opens told may other_may =
-      step_at number markup url slot (standing t) tame refl opens told (slot_suits number markup url (standing t) slot told).suited may other_may
+  first_slot : (p : SlotPlace) (markup value : List ℕ) (slot : PlacedSlot) → in_url p (standing t) ≡ true → FromMarkup t markup value →
+      IsFirst p markup slot → FromSlot (HasLater t value) slot
+  first_slot p markup value slot stands from (whole last is) =
+      let stood = rw from.after at stands in
+      let none : value ≡ [] = from.is ∙ open_at_slot p from.start from.before markup [] [] from.tame from.fresh stood last refl in
+      subst (FromSlot (HasLater t value)) is
+      (λ suited goes.
+      link_goes t p chunks tame suited value none (goes (record { state_is = refl; attribute_is = (link_in_url p t.state t.content t.attribute suited).attribute_is })))
+  first_slot p markup value slot stands from (behind raw last front) =
+      let stood = rw from.after at stands in
+      let same : value ≡ front.text = from.is ∙ open_at_slot p from.start from.before markup raw front.text from.tame from.fresh stood last front.adds.read in
+      subst (FromSlot (HasLater t value)) front.placed.is
+      (λ suited goes.
+      first_goes t p front.placed.found chunks tame suited front.part front.placed.at
+      (goes (record { state_is = refl; attribute_is = (part_in_url front.placed.found p t.state t.content t.attribute suited).attribute_is }))
+      front.text front.adds.plain front.opened value same)
+
+  url_from_markup : (number : ℕ) (p : SlotPlace) (is_followed : Bool) (markup value : List ℕ) (slot : PlacedSlot) → in_url p (standing t) ≡ true →
+      FromMarkup t markup value → url_slot number p is_followed markup Outside ≡ Ok slot → FromSlot (HasLater t value) slot
+  url_from_markup number p is_followed markup value slot stands from told =
+      first_slot p markup value slot stands from (first_told number p is_followed markup slot (told_behind_markup number p is_followed markup Outside slot told))
+
+  from_markup : (number : ℕ) (markup value : List ℕ) (slot : PlacedSlot) (s : Standing) → standing t ≡ s → FromMarkup t markup value →
+      slot_at number markup Outside s ≡ Ok slot → FromSlot (HasLater t value) slot
+  from_markup number markup value slot (Stands p) is from told =
+      subst (FromSlot (HasLater t value)) (ok_slot told) (λ suited goes. text_goes p t value chunks suited goes)
+  from_markup number markup value slot (InUrl p) is from told = url_from_markup number p false markup value slot (rw is (same_itself p)) from told
+  from_markup number markup value slot (InLink p) is from told = url_from_markup number p true markup value slot (rw is (same_itself p)) from told
+  from_markup number markup value slot Nowhere is from told = absurd (cc)
+  from_markup number markup value slot Barred is from told = absurd (cc)
+
+  url_within : (number : ℕ) (p q : SlotPlace) (is_followed : Bool) (open_part : OpenPart) (markup : List ℕ) (slot : PlacedSlot) →
+      url_slot number p is_followed markup (Within q open_part) ≡ Ok slot → FromSlot (GoesOn open_part t) slot
+  url_within number p q is_followed open_part markup slot told =
+      let placed = part_told number p open_part slot (told_behind_markup number p is_followed markup (Within q open_part) slot told) in
+      subst (FromSlot (GoesOn open_part t)) placed.is
+      (λ suited goes.
+      later_goes t p placed.found chunks tame suited open_part placed.at
+      (goes (record { state_is = refl; attribute_is = (part_in_url placed.found p t.state t.content t.attribute suited).attribute_is })))
+
+  within : (number : ℕ) (q : SlotPlace) (open_part : OpenPart) (markup : List ℕ) (slot : PlacedSlot) (s : Standing) → standing t ≡ s → StandsAt q t →
+      slot_at number markup (Within q open_part) s ≡ Ok slot → FromSlot (GoesOn open_part t) slot
+  within number q open_part markup slot (Stands p) is stands told = absurd (no_text_stands q p t is stands)
+  within number q open_part markup slot (InUrl p) is stands told = url_within number p q false open_part markup slot told
+  within number q open_part markup slot (InLink p) is stands told = url_within number p q true open_part markup slot told
+  within number q open_part markup slot Nowhere is stands told = absurd (cc)
+  within number q open_part markup slot Barred is stands told = absurd (cc)
+
+-- ---- where anything is open
+
+pub slot_goes : (number : ℕ) (markup : List ℕ) (url : OpenUrl) (t : Tokenizer) (slot : PlacedSlot) (chunks : List Chunk) → IsTame t →
+    slot_at number markup url (standing t) ≡ Ok slot → Goes slot.url (past_slot t slot.place) [] chunks → Goes url t markup (Slot slot.place slot.kind ∷ chunks)
+slot_goes number markup Outside t slot chunks tame told goes = λ value from.
+    from_markup t chunks tame number markup value slot (standing t) refl from told (slot_suits number markup Outside (standing t) slot told).suited goes
+slot_goes number markup (Within p open_part) t slot chunks tame told goes = λ stands.
+    within t chunks tame number p open_part markup slot (standing t) refl stands told (slot_suits number markup (Within p open_part) (standing t) slot told).suited goes
+slot_goes number markup (Whole p) t slot chunks tame told goes = λ stands.
+    absurd (no_slot_behind number markup p t slot (standing t) refl stands told)

@@ -1,0 +1,55 @@
+-- The URLs of a template, filled by two lists of texts, lead alike.
+use Rattle.std.proofs.Common.{ℕ, ◌≡◌, true, List, [], ◌∷◌, drop, take, inl, inr, refl}
+use Rattle.std.proofs.lemmas.List.Elements.{All-nil}
+use Rattle.html_urls.specs.Parts.Pairs.{string_count}
+use Rattle.html_urls.specs.Parts.Segments.{segment_count}
+use Rattle.html_urls.specs.Slots.{FillUrl, Given, is_plain_byte, slots_of, url_of}
+use Rattle.html_urls.proofs.Filled.Counts.{same_count}
+use Rattle.html_urls.proofs.Filled.FirstSlot.{both_fill, same_head}
+use Rattle.html_urls.proofs.Filled.Marks.{same_segments, same_strings}
+use Rattle.html_template.specs.FilledUrls.{FillUrls, Fixed, Parts, TemplateUrl, Whole, filled_urls, slots_in}
+use Rattle.html_template.specs.PageUrls.{AllAlike, LeadAlike}
+use Rattle.html_template.proofs.PageUrls.Filled.{whole_texts}
+
+leads_itself : (url : List ℕ) → LeadAlike url url
+leads_itself url = record { head = λ base web. refl; segments = λ base web. refl; strings = λ base web. refl }
+
+parts_alike : (parts : List Given) (texts others : List (List ℕ)) → FillUrl parts texts → FillUrl parts others →
+    LeadAlike (url_of parts texts) (url_of parts others)
+parts_alike parts texts others full others_full =
+    let (slots, told, fill, other) = both_fill (slots_of parts) texts others full others_full in
+    let none = All-nil (λ b. is_plain_byte b ≡ true) in
+    record {
+      head = λ base web. same_head base parts 0 [] slots texts others web none told fill other;
+      segments = λ base web. same_count segment_count same_segments base parts 0 [] slots texts others web none told fill other;
+      strings = λ base web. same_count string_count same_strings base parts 0 [] slots texts others web none told fill other;
+    }
+
+-- two URLs more, before the others
+alike_first : (texts more : List (List ℕ)) (first second : List ℕ) (urls others : List (List ℕ)) → LeadAlike first second →
+    AllAlike texts more urls others → AllAlike texts more (first ∷ urls) (second ∷ others)
+alike_first [] [] first second urls others here there = (here, there)
+alike_first [] (other ∷ more) first second urls others here there = absurd there
+alike_first (text ∷ texts) [] first second urls others here there = absurd there
+alike_first (text ∷ texts) (other ∷ more) first second urls others here there = inl (here, there)
+
+pub filled_alike : (urls : List TemplateUrl) (texts others : List (List ℕ)) → FillUrls urls texts → FillUrls urls others →
+    AllAlike (whole_texts urls texts) (whole_texts urls others) (filled_urls urls texts) (filled_urls urls others)
+filled_alike [] [] [] full others_full = tt
+filled_alike [] (text ∷ texts) others full others_full = absurd full
+filled_alike [] [] (other ∷ others) full others_full = absurd others_full
+filled_alike (Fixed url ∷ urls) texts others full others_full =
+    alike_first (whole_texts urls texts) (whole_texts urls others) url url (filled_urls urls texts) (filled_urls urls others)
+    (leads_itself url) (filled_alike urls texts others full others_full)
+filled_alike (Parts parts ∷ urls) texts others full others_full =
+    let count : ℕ = slots_in parts in
+    let rest : List (List ℕ) = drop count texts in
+    let others_rest : List (List ℕ) = drop count others in
+    alike_first (whole_texts urls rest) (whole_texts urls others_rest) (url_of parts (take count texts)) (url_of parts (take count others))
+    (filled_urls urls rest) (filled_urls urls others_rest)
+    (parts_alike parts (take count texts) (take count others) full.0 others_full.0)
+    (filled_alike urls rest others_rest full.1 others_full.1)
+filled_alike (Whole ∷ urls) [] others full others_full = absurd full
+filled_alike (Whole ∷ urls) (text ∷ texts) [] full others_full = absurd others_full
+filled_alike (Whole ∷ urls) (text ∷ texts) (other ∷ others) full others_full =
+    inr (refl, refl, full.0, others_full.0, filled_alike urls texts others full.1 others_full.1)
