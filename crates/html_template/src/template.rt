@@ -8,6 +8,7 @@ ghost use Rattle.html_template.specs.Structure.{IsPageOf, IsReadAs};
 ghost use Rattle.html_template.specs.Walks.{walk_of};
 ghost use Rattle.html_template.specs.declared.faults.TemplateFault.TheVariants.{Memory};
 ghost use Rattle.html_template.specs.OpenUrls.{Answers};
+ghost use Rattle.html_template.specs.FilledUrls.{HasUrlsOf};
 ghost use Rattle.html_template.specs.PageUrls.{LeadsAsAny};
 ghost use Rattle.html_template.specs.TemplateFaults.{TakesMore, template_of};
 ghost use Rattle.html_template.specs.Templates.{
@@ -72,7 +73,8 @@ impl<'a, A: Allocator + Copy> Template<'a, A> {
     /// Appends the page of these texts, one for each slot. On a fault `output` is as it was.
     ///
     /// Whatever follows the page, it is tokenized as the template is, with each text handed to its
-    /// slot whole. Its URLs and those of any page of the template are alike, as `laws::url_law` says.
+    /// slot whole. Its URLs are those of the template, filled by the texts of its slots in URLs, as
+    /// `laws::page_urls_law` says; they and those of any page are alike, as `laws::url_law` says.
     /// After a page it makes a page of the joined parts.
     ///
     /// Of `<p title="`, a slot and `">`, the page of `a"` is `<p title="a&quot;">`.
@@ -91,6 +93,7 @@ impl<'a, A: Allocator + Copy> Template<'a, A> {
         ensures read { OnOk result (IsReadAs (pieces_of self.now) (texts_of texts.now)
             (page (pieces_of self.now) (texts_of texts.now))) }
         ensures urls { OnOk result (LeadsAsAny (pieces_of self.now) (texts_of texts.now)) }
+        ensures filled { OnOk result (HasUrlsOf (pieces_of self.now) (texts_of texts.now)) }
         ensures joins { OnOk result ((parts : List Given) (before : List (List ℕ))
             → IsPageOf parts before (string_bytes output.old)
             → IsPageOf (parts ++ map part_of (pieces_of self.now)) (before ++ texts_of texts.now)
@@ -103,7 +106,7 @@ impl<'a, A: Allocator + Copy> Template<'a, A> {
     ///
     /// Of `<p title="`, a slot and `">`, the page of `a"` is `<p title="a&quot;">`.
     #[inline(always)]
-    #[tactic(auto, using(crate::proofs::Structure::is_read_as, crate::proofs::PageUrls::Law::leads_as_any, crate::proofs::Joined::page_after))]
+    #[tactic(auto, using(crate::proofs::Structure::is_read_as, crate::proofs::PageUrls::Law::leads_as_any, crate::proofs::PageUrls::Law::has_urls_of, crate::proofs::Joined::page_after))]
     pub fn append_texts<T: Texts, B: Allocator>(
         &self,
         output: &mut String<B>,
@@ -119,6 +122,7 @@ impl<'a, A: Allocator + Copy> Template<'a, A> {
         ensures read { OnOk result (IsReadAs (pieces_of self.now) (T.list texts.now)
             (page (pieces_of self.now) (T.list texts.now))) }
         ensures urls { OnOk result (LeadsAsAny (pieces_of self.now) (T.list texts.now)) }
+        ensures filled { OnOk result (HasUrlsOf (pieces_of self.now) (T.list texts.now)) }
         ensures joins { OnOk result ((parts : List Given) (before : List (List ℕ))
             → IsPageOf parts before (string_bytes output.old)
             → IsPageOf (parts ++ map part_of (pieces_of self.now)) (before ++ T.list texts.now)
