@@ -3,6 +3,7 @@ ghost use Rattle.std.specs.Prelude.{◌≡◌, None, IfOk, OnOk, map};
 ghost use Rattle.std.specs.Option.{option_or};
 ghost use Rattle.std.specs.String.{string_bytes};
 ghost use Rattle.hesc_engine.specs.Forms.{Appended};
+ghost use Rattle.html_template.specs.FilledUrls.{HasUrlsOf};
 ghost use Rattle.html_template.specs.PageUrls.{LeadsAsAny};
 ghost use Rattle.html_template.specs.Structure.{IsReadAs};
 ghost use Rattle.html_template.specs.Templates.{page, part_of, texts_of};
@@ -67,8 +68,9 @@ impl<'a, A: Allocator + Copy> NamedTemplate<'a, A> {
     /// was: first come faults of the bindings, one by one, then of the slots.
     ///
     /// Whatever follows the page, it is tokenized as the template is, with each text handed to its
-    /// slots whole, in a part of a URL as its component. Its URLs and those of any page of the
-    /// template are alike, as `html_template::laws::url_law` says.
+    /// slots whole, in a part of a URL as its component. Its URLs are those of the template, filled
+    /// by the texts of its slots in URLs, as `html_template::laws::page_urls_law` says; they and those
+    /// of any page are alike, as `html_template::laws::url_law` says.
     ///
     /// Of `<p>{{name}}</p>`, the page of `a<b` for `name` is `<p>a&lt;b</p>`.
     pub fn append<B: Allocator>(
@@ -86,6 +88,8 @@ impl<'a, A: Allocator + Copy> NamedTemplate<'a, A> {
             (page (chunks_of self.now)
             (map (text_of (bindings_of bindings.now)) (names_of self.now)))) }
         ensures urls { OnOk result (LeadsAsAny (chunks_of self.now)
+            (map (text_of (bindings_of bindings.now)) (names_of self.now))) }
+        ensures filled { OnOk result (HasUrlsOf (chunks_of self.now)
             (map (text_of (bindings_of bindings.now)) (names_of self.now))) }
     {
         if self.names.are_in_order(bindings) {
@@ -111,6 +115,8 @@ impl<'a, A: Allocator + Copy> NamedTemplate<'a, A> {
             (page (chunks_of self.now)
             (map (text_of (bindings_of bindings.now)) (names_of self.now)))) }
         ensures urls { OnOk result (LeadsAsAny (chunks_of self.now)
+            (map (text_of (bindings_of bindings.now)) (names_of self.now))) }
+        ensures filled { OnOk result (HasUrlsOf (chunks_of self.now)
             (map (text_of (bindings_of bindings.now)) (names_of self.now))) }
     {
         let mut places = [NOWHERE; BLOCK];
@@ -142,6 +148,8 @@ impl<'a, A: Allocator + Copy> NamedTemplate<'a, A> {
             (map (text_of (bindings_of bindings.now)) (names_of self.now)))) }
         ensures urls { OnOk result (LeadsAsAny (chunks_of self.now)
             (map (text_of (bindings_of bindings.now)) (names_of self.now))) }
+        ensures filled { OnOk result (HasUrlsOf (chunks_of self.now)
+            (map (text_of (bindings_of bindings.now)) (names_of self.now))) }
     {
         let Ok(mut places) = vec![in self.alloc; NOWHERE; self.names.distinct.len()] else {
             return Err(BindFault::Memory);
@@ -172,6 +180,8 @@ impl<'a, A: Allocator + Copy> NamedTemplate<'a, A> {
             (page (chunks_of self.now)
             (map (text_of (bindings_of bindings.now)) (names_of self.now)))) }
         ensures urls { OnOk result (LeadsAsAny (chunks_of self.now)
+            (map (text_of (bindings_of bindings.now)) (names_of self.now))) }
+        ensures filled { OnOk result (HasUrlsOf (chunks_of self.now)
             (map (text_of (bindings_of bindings.now)) (names_of self.now))) }
     {
         let texts = Bound {

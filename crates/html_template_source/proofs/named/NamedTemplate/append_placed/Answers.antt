@@ -4,6 +4,7 @@ use Rattle.std.specs.String.{string_bytes}
 use Rattle.html_template.specs.declared.faults.FillFault.{FillFault}
 use Rattle.html_template.specs.declared.faults.FillFault.TheVariants.{WrongCount, EmptyUnquoted, EmptySegment, DotSegment, NotALink, Memory}
 use Rattle.html_template.specs.FillFaults.{AnswersFill, fill_fault}
+use Rattle.html_template.specs.FilledUrls.{HasUrlsOf}
 use Rattle.html_template.specs.PageUrls.{LeadsAsAny}
 use Rattle.html_template.specs.Structure.{IsReadAs}
 use Rattle.html_template.specs.Templates.{page, texts_of}
@@ -61,6 +62,13 @@ returns-in-Ok-clause-urls g c =
     c.deref.ensures.value c.requires.placed c.args.self.now.names.below)
     c.in-Ok.ensures.urls
 
+pub returns-in-Ok-clause-filled : goal.returns-in-Ok-clause-filled
+returns-in-Ok-clause-filled g c =
+    subst (HasUrlsOf (chunks_of c.args.self.now))
+    (same_texts c.args.places (bindings_of c.args.bindings.now) c.args.self.now.names.distinct.items c.args.self.now.names.numbers.items c.deref.result.now
+    c.deref.ensures.value c.requires.placed c.args.self.now.names.below)
+    c.in-Ok.ensures.filled
+
 pub returns-in_default : goal.returns-in_default
 returns-in_default g c = record {
   appended = c.in-Err.ensures.appended;
@@ -71,4 +79,5 @@ returns-in_default g c = record {
       ∙ first_fill (Unit {0}) _ c.in-Err.fault c.in_default.not-Memory c.in-Err.ensures.faults);
   read = tt;
   urls = tt;
+  filled = tt;
 }
