@@ -9,3 +9,4 @@ pub mod Joined
 pub mod TokenLaw
 pub mod Markup
 pub mod PageUrls
+pub mod FirstPieces

@@ -11,3 +11,4 @@ pub mod PageUrls
 pub mod FilledUrls
 pub mod UrlTexts
 pub mod PlainTexts
+pub mod Writing

@@ -1,5 +1,6 @@
 //! Why there is no template, and why no page.
 use std::alloc::AllocError;
+use std::io;
 
 /// Why parts are no template. Parts are counted from 0, and the first fault is answered.
 #[derive(Clone, Copy, Debug, PartialEq, Eq)]
@@ -64,4 +65,13 @@ impl From<AllocError> for FillFault {
     fn from(_refusal: AllocError) -> FillFault {
         FillFault::Memory
     }
+}
+
+/// Why a page was not written whole. Of `F` are the faults of the texts.
+#[derive(Debug)]
+pub enum WriteFault<F> {
+    /// The texts do not fill the template. Nothing was written.
+    Texts(F),
+    /// The writer's own fault, after a beginning of the page.
+    Writer(io::Error),
 }

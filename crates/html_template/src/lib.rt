@@ -18,7 +18,7 @@ mod template;
 mod texts;
 mod walk;
 
-pub use crate::faults::{FillFault, TemplateFault};
+pub use crate::faults::{FillFault, TemplateFault, WriteFault};
 pub use crate::open_url::{OpenUrl, PlacedSlot};
 pub use crate::parts::{Part, Piece, SlotKind};
 pub use crate::template::Template;

@@ -1,7 +1,8 @@
 //! The page of a template and texts, as parts that are put.
-ghost use Rattle.std.specs.Prelude.{◌≡◌, [], ◌<◌, ◌≤◌, ◌+◌, ◌^◌, ◌++◌, length, map, IfSome, IsOk, IsSome, OnOk};
+ghost use Rattle.std.specs.Prelude.{◌≡◌, [], ◌<◌, ◌≤◌, ◌+◌, ◌^◌, ◌++◌, length, map, IfSome, IsOk, IsSome, OnErr, OnOk};
 ghost use Rattle.std.specs.String.{string_bytes};
-ghost use Rattle.hesc_engine.specs.Forms.{Appended, string_room};
+ghost use Rattle.hesc_specs.specs.Text.Beginning.{TookBeginning};
+ghost use Rattle.hesc_engine.specs.Forms.{Appended, WritesText, string_room};
 ghost use Rattle.html_template.specs.Templates.{chunk_of, page, written};
 
 use crate::fill::total_length;
@@ -13,9 +14,11 @@ use hesc_core::rules::{Escape, Unchanged};
 use hesc_core::{CountOverflow, Rule, Sink};
 use hesc_engine::engine::run_made;
 use hesc_engine::forms::made::Made;
+use hesc_engine::WriterSink;
 use hesc_engine::sinks::stack::StackSink;
 use html_urls::{component_length, put_component};
 use std::alloc::{AllocError, Allocator};
+use std::io::{self, Write};
 
 /// The most bytes of a page that is made on the stack.
 const SHORT: usize = 2048;
@@ -109,6 +112,20 @@ fn append_long_page<T: Texts, B: Allocator>(
     append_parts(output, made)
 }
 
+/// Writes the page, or a beginning of it and then the writer's fault.
+pub(crate) fn write_page<T: Texts, W: Write>(
+    output: &mut W,
+    made: &Page<'_, T>,
+) -> Result<(), io::Error>
+    ensures { WritesText (W.contents output.old) (W.contents output.new)
+        (page (map chunk_of made.now.pieces.now) (T.list made.now.texts)) result }
+{
+    let mut sink = WriterSink::new(output);
+    let outcome = put_pieces(made.pieces, &made.texts, &mut sink);
+    let _output = sink.into_output();
+    outcome
+}
+
 fn page_length<T: Texts>(pieces: &[Stored], texts: &T) -> Option<usize>
     ensures count { IfSome result (λ count. count
         ≡ length (page (map chunk_of pieces.now) (T.list texts.now))) }
@@ -152,6 +169,8 @@ fn put_pieces<T: Texts, S: Sink>(pieces: &[Stored], texts: &T, sink: &mut S) -> 
     ensures ok_taken { OnOk result (S.taken sink.new
         ≡ S.taken sink.old ++ page (map chunk_of pieces.now) (T.list texts.now)) }
     ensures ok_failures { OnOk result (S.failures sink.new ≡ S.failures sink.old) }
+    ensures err_taken { OnErr result (TookBeginning (S.taken sink.old) (S.taken sink.new)
+        (page (map chunk_of pieces.now) (T.list texts.now))) }
     ensures fits { length (page (map chunk_of pieces.now) (T.list texts.now))
         ≤ S.room sink.old → IsOk result }
     ensures same_reference { S.reference sink.new ≡ S.reference sink.old }
@@ -198,6 +217,8 @@ fn put_kept<R: Rule, S: Sink>(rule: &R, text: &str, sink: &mut S) -> Result<(), 
     ensures ok_taken { OnOk result
         (S.taken sink.new ≡ S.taken sink.old ++ R.made rule.now text.now) }
     ensures ok_failures { OnOk result (S.failures sink.new ≡ S.failures sink.old) }
+    ensures err_taken { OnErr result
+        (TookBeginning (S.taken sink.old) (S.taken sink.new) (R.made rule.now text.now)) }
     ensures fits { length (R.made rule.now text.now) ≤ S.room sink.old → IsOk result }
     ensures room { OnOk result
         (S.room sink.old ≤ S.room sink.new + length (R.made rule.now text.now)) }

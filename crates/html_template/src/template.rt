@@ -1,11 +1,14 @@
 //! Templates.
-ghost use Rattle.std.specs.Prelude.{◌≡◌, ◌++◌, ◌∷◌, [], ◌≤◌, ℕ, List, None, IfErr, IfOk, IsOk, Ok, OnOk, length, map};
+ghost use Rattle.std.specs.Prelude.{◌≡◌, ◌≢◌, ◌++◌, ◌∷◌, [], ◌≤◌, ℕ, List, None, IfErr, IfOk, IsOk, Ok, OnErr, OnOk, length, map};
+ghost use Rattle.std.specs.Io.KnownBytes.{Appends};
 ghost use Rattle.std.specs.String.{string_bytes};
+ghost use Rattle.hesc_specs.specs.Text.Beginning.{AppendsBeginning};
 ghost use Rattle.hesc_engine.specs.Forms.{Appended, string_room};
 ghost use Rattle.html_template.specs.FillFaults.{AnswersFill, fill_fault, has_checked, slot_count};
 ghost use Rattle.html_tokenizer.specs.Tokenizer.States.{data_state};
 ghost use Rattle.html_template.specs.Structure.{IsPageOf, IsReadAs};
 ghost use Rattle.html_template.specs.Walks.{walk_of};
+ghost use Rattle.html_template.specs.Writing.{AnswersWriting};
 ghost use Rattle.html_template.specs.declared.faults.TemplateFault.TheVariants.{Memory};
 ghost use Rattle.html_template.specs.OpenUrls.{Answers};
 ghost use Rattle.html_template.specs.FilledUrls.{HasUrlsOf};
@@ -22,14 +25,15 @@ ghost use Rattle.html_template.specs.Templates.{
   texts_of,
 };
 
-use crate::faults::{FillFault, TemplateFault};
+use crate::faults::{FillFault, TemplateFault, WriteFault};
 use crate::fill::{Summary, check};
-use crate::page::{Page, append_page};
+use crate::page::{Page, append_page, write_page};
 use crate::parts::Part;
 use crate::stored::{Stored, StoredMarkup, StoredSlot};
 use crate::texts::Texts;
 use crate::walk::Walk;
 use std::alloc::{Allocator, Global};
+use std::io::Write;
 
 /// A page with slots, each of which stands where a text may stand.
 #[derive(Drop)]
@@ -131,13 +135,83 @@ impl<'a, A: Allocator + Copy> Template<'a, A> {
         if let Err(fault) = check(&self.pieces, self.summary, texts) {
             return Err(fault);
         }
-        let page = Page {
+        append_page(output, &self.page_of(texts))?;
+        Ok(())
+    }
+
+    /// Writes the page of these texts, one for each slot: markup as it stands, and each text as it is
+    /// encoded. No page is made in memory, and nothing is flushed. Where the texts do not fill the
+    /// template nothing is written. On the writer's own fault a beginning of the page was.
+    ///
+    /// Of `<p title="`, a slot and `">` and the text `a"` it writes `<p title="a&quot;">`.
+    pub fn append_to_writer<W: Write>(
+        &self,
+        output: &mut W,
+        texts: &[&str],
+    ) -> Result<(), WriteFault<FillFault>>
+        ensures written { OnOk result (Appends (W.contents output.old) (W.contents output.new)
+            (page (pieces_of self.now) (texts_of texts.now))) }
+        ensures began { OnErr result (AppendsBeginning (W.contents output.old)
+            (W.contents output.new) (page (pieces_of self.now) (texts_of texts.now))) }
+        ensures kept { fill_fault 0 (pieces_of self.now) (texts_of texts.now) ≢ None
+            → output.new ≡ output.old }
+        ensures full { OnOk result (Fill (pieces_of self.now) (texts_of texts.now)) }
+        ensures faults { AnswersWriting (fill_fault 0 (pieces_of self.now) (texts_of texts.now))
+            result }
+        ensures empty { fill_fault 0 (pieces_of self.now) (texts_of texts.now) ≡ None
+            → page (pieces_of self.now) (texts_of texts.now) ≡ [] → IsOk result }
+        ensures read { OnOk result (IsReadAs (pieces_of self.now) (texts_of texts.now)
+            (page (pieces_of self.now) (texts_of texts.now))) }
+        ensures urls { OnOk result (LeadsAsAny (pieces_of self.now) (texts_of texts.now)) }
+    {
+        self.append_texts_to_writer(output, &texts)
+    }
+
+    /// The same as [`Template::append_to_writer`], for texts that are kept in another way than a slice.
+    ///
+    /// Of `<p title="`, a slot and `">` and the text `a"` it writes `<p title="a&quot;">`.
+    #[inline(always)]
+    #[tactic(auto, using(crate::proofs::Structure::is_read_as, crate::proofs::PageUrls::Law::leads_as_any))]
+    pub fn append_texts_to_writer<T: Texts, W: Write>(
+        &self,
+        output: &mut W,
+        texts: &T,
+    ) -> Result<(), WriteFault<FillFault>>
+        ensures written { OnOk result (Appends (W.contents output.old) (W.contents output.new)
+            (page (pieces_of self.now) (T.list texts.now))) }
+        ensures began { OnErr result (AppendsBeginning (W.contents output.old)
+            (W.contents output.new) (page (pieces_of self.now) (T.list texts.now))) }
+        ensures kept { fill_fault 0 (pieces_of self.now) (T.list texts.now) ≢ None
+            → output.new ≡ output.old }
+        ensures full { OnOk result (Fill (pieces_of self.now) (T.list texts.now)) }
+        ensures faults { AnswersWriting (fill_fault 0 (pieces_of self.now) (T.list texts.now))
+            result }
+        ensures empty { fill_fault 0 (pieces_of self.now) (T.list texts.now) ≡ None
+            → page (pieces_of self.now) (T.list texts.now) ≡ [] → IsOk result }
+        ensures read { OnOk result (IsReadAs (pieces_of self.now) (T.list texts.now)
+            (page (pieces_of self.now) (T.list texts.now))) }
+        ensures urls { OnOk result (LeadsAsAny (pieces_of self.now) (T.list texts.now)) }
+    {
+        if let Err(fault) = check(&self.pieces, self.summary, texts) {
+            return Err(WriteFault::Texts(fault));
+        }
+        match write_page(output, &self.page_of(texts)) {
+            Ok(()) => Ok(()),
+            Err(fault) => Err(WriteFault::Writer(fault)),
+        }
+    }
+
+    // The page of these texts, which fill the slots.
+    #[inline(always)]
+    fn page_of<T: Texts>(&self, texts: &T) -> Page<'_, T>
+        ensures pieces { map chunk_of result.pieces.now ≡ pieces_of self.now }
+        ensures texts { result.texts ≡ texts.now }
+    {
+        Page {
             pieces: &self.pieces,
             texts: *texts,
             markup: self.summary.markup,
-        };
-        append_page(output, &page)?;
-        Ok(())
+        }
     }
 }
 

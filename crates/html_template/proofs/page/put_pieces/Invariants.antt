@@ -1,12 +1,11 @@
-use Rattle.std.proofs.Common.{◌≡◌, ◌≤◌, ◌+◌, ◌++◌, length, map}
+use Rattle.std.proofs.Common.{◌≡◌, ◌≤◌, ◌+◌, length, map}
+use Rattle.hesc_sinks.proofs.Progress.{Progress}
 use Rattle.html_template.specs.Templates.{chunk_of, page}
 use Rattle.html_template.proofs.page.put_pieces.Given as goal
 
--- what was taken, and the page of the rest, are the page of all
 abbrev pub invariant-pieces : goal.invariant-pieces
 invariant-pieces g l = record {
-  taken : g.S.Sink.taken l.sink ++ page (map chunk_of l.rest) (g.T.Texts.list l.left)
-      ≡ g.S.Sink.taken l.initial.sink ++ page (map chunk_of l.pieces) (g.T.Texts.list l.texts);
+  progress : Progress (g.S.Sink.taken l.initial.sink) (g.S.Sink.taken l.sink) (page (map chunk_of l.rest) (g.T.Texts.list l.left)) (page (map chunk_of l.pieces) (g.T.Texts.list l.texts));
   room : g.S.Sink.room l.initial.sink + length (page (map chunk_of l.rest) (g.T.Texts.list l.left))
       ≤ g.S.Sink.room l.sink + length (page (map chunk_of l.pieces) (g.T.Texts.list l.texts));
   failures : g.S.Sink.failures l.sink ≡ g.S.Sink.failures l.initial.sink;
