@@ -1,7 +1,8 @@
 -- A fault of the texts is answered.
-use Rattle.std.proofs.Common.{ℕ, ◌≡◌, ◌+◌, true, false, List, [], ◌∷◌, Option, None, Some, Err, ⊎_elim}
+use Rattle.std.proofs.Common.{ℕ, ◌≡◌, ◌+◌, true, false, List, [], ◌∷◌, Option, None, Some, Ok, Err, Result, refl, sym, ⊎_elim}
 use Rattle.std.proofs.lemmas.Bool.{cases_Bool}
 use Rattle.std.specs.Option.{option_or}
+use Rattle.std.specs.Result.{result_err}
 use Rattle.html_template.specs.declared.faults.FillFault.{FillFault}
 use Rattle.html_template.specs.declared.faults.FillFault.TheVariants.{WrongCount, EmptyUnquoted, EmptySegment, DotSegment, NotALink, Memory}
 use Rattle.html_template.specs.declared.parts.SlotKind.{SlotKind}
@@ -59,3 +60,8 @@ answered T chunks texts (EmptySegment n) is = is
 answered T chunks texts (DotSegment n) is = is
 answered T chunks texts (NotALink n) is = is
 answered T chunks texts Memory is = absurd (never_memory 0 chunks texts is)
+
+pub no_fault : (T : Type 0) (first : Option FillFault) (result : Result T FillFault) → ((fault : FillFault) → result ≡ Err fault → ⊥) → result_err result ≡ first →
+    first ≡ None
+no_fault T first (Ok done) not_err is = sym is
+no_fault T first (Err fault) not_err is = absurd (not_err fault refl)

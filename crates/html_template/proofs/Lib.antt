@@ -5,6 +5,7 @@ pub mod Walks
 pub mod Structure
 pub mod FillAnswers
 pub mod FillByCount
+pub mod EachFault
 pub mod Joined
 pub mod TokenLaw
 pub mod Markup

@@ -4,6 +4,7 @@ pub mod Templates
 pub mod OpenUrls
 pub mod TemplateFaults
 pub mod FillFaults
+pub mod EachFault
 pub mod Structure
 pub mod TemplatePieces
 pub mod Walks

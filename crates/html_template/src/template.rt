@@ -1,15 +1,17 @@
 //! Templates.
-ghost use Rattle.std.specs.Prelude.{◌≡◌, ◌≢◌, ◌++◌, ◌∷◌, [], ◌≤◌, ℕ, List, None, IfErr, IfOk, IsOk, Ok, OnErr, OnOk, length, map};
+ghost use Rattle.std.specs.Prelude.{◌≡◌, ◌≢◌, ◌++◌, ◌∷◌, [], ◌≤◌, ℕ, List, None, IfErr, IfOk, IsErrOf, IsOk, Ok, OnErr, OnOk, length, map};
 ghost use Rattle.std.specs.Io.KnownBytes.{Appends};
 ghost use Rattle.std.specs.String.{string_bytes};
 ghost use Rattle.hesc_specs.specs.Text.Beginning.{AppendsBeginning};
 ghost use Rattle.hesc_engine.specs.Forms.{Appended, string_room};
+ghost use Rattle.html_template.specs.EachFault.{AnswersEach};
 ghost use Rattle.html_template.specs.FillFaults.{AnswersFill, fill_fault, has_checked, slot_count};
 ghost use Rattle.html_tokenizer.specs.Tokenizer.States.{data_state};
 ghost use Rattle.html_template.specs.Structure.{IsPageOf, IsReadAs};
 ghost use Rattle.html_template.specs.Walks.{walk_of};
 ghost use Rattle.html_template.specs.Writing.{AnswersWriting};
 ghost use Rattle.html_template.specs.declared.faults.TemplateFault.TheVariants.{Memory};
+ghost use Rattle.html_template.specs.declared.faults.WriteFault.TheVariants.{Texts};
 ghost use Rattle.html_template.specs.OpenUrls.{Answers};
 ghost use Rattle.html_template.specs.FilledUrls.{HasUrlsOf};
 ghost use Rattle.html_template.specs.PageUrls.{LeadsAsAny};
@@ -91,6 +93,7 @@ impl<'a, A: Allocator + Copy> Template<'a, A> {
             (page (pieces_of self.now) (texts_of texts.now)) result }
         ensures full { OnOk result (Fill (pieces_of self.now) (texts_of texts.now)) }
         ensures faults { AnswersFill (fill_fault 0 (pieces_of self.now) (texts_of texts.now)) result }
+        ensures each { AnswersEach (pieces_of self.now) (texts_of texts.now) (IsErrOf result) }
         ensures fits { fill_fault 0 (pieces_of self.now) (texts_of texts.now) ≡ None
             → length (page (pieces_of self.now) (texts_of texts.now)) ≤ string_room output.old
             → IsOk result }
@@ -110,7 +113,7 @@ impl<'a, A: Allocator + Copy> Template<'a, A> {
     ///
     /// Of `<p title="`, a slot and `">`, the page of `a"` is `<p title="a&quot;">`.
     #[inline(always)]
-    #[tactic(auto, using(crate::proofs::Structure::is_read_as, crate::proofs::PageUrls::Law::leads_as_any, crate::proofs::PageUrls::Law::has_urls_of, crate::proofs::Joined::page_after))]
+    #[tactic(auto, using(crate::proofs::Structure::is_read_as, crate::proofs::PageUrls::Law::leads_as_any, crate::proofs::PageUrls::Law::has_urls_of, crate::proofs::Joined::page_after, crate::proofs::EachFault::Answers::each_filled))]
     pub fn append_texts<T: Texts, B: Allocator>(
         &self,
         output: &mut String<B>,
@@ -120,6 +123,7 @@ impl<'a, A: Allocator + Copy> Template<'a, A> {
             (page (pieces_of self.now) (T.list texts.now)) result }
         ensures full { OnOk result (Fill (pieces_of self.now) (T.list texts.now)) }
         ensures faults { AnswersFill (fill_fault 0 (pieces_of self.now) (T.list texts.now)) result }
+        ensures each { AnswersEach (pieces_of self.now) (T.list texts.now) (IsErrOf result) }
         ensures fits { fill_fault 0 (pieces_of self.now) (T.list texts.now) ≡ None
             → length (page (pieces_of self.now) (T.list texts.now)) ≤ string_room output.old
             → IsOk result }
@@ -158,6 +162,8 @@ impl<'a, A: Allocator + Copy> Template<'a, A> {
         ensures full { OnOk result (Fill (pieces_of self.now) (texts_of texts.now)) }
         ensures faults { AnswersWriting (fill_fault 0 (pieces_of self.now) (texts_of texts.now))
             result }
+        ensures each { AnswersEach (pieces_of self.now) (texts_of texts.now)
+            (λ fault. IsErrOf result (Texts fault)) }
         ensures empty { fill_fault 0 (pieces_of self.now) (texts_of texts.now) ≡ None
             → page (pieces_of self.now) (texts_of texts.now) ≡ [] → IsOk result }
         ensures read { OnOk result (IsReadAs (pieces_of self.now) (texts_of texts.now)
@@ -171,7 +177,7 @@ impl<'a, A: Allocator + Copy> Template<'a, A> {
     ///
     /// Of `<p title="`, a slot and `">` and the text `a"` it writes `<p title="a&quot;">`.
     #[inline(always)]
-    #[tactic(auto, using(crate::proofs::Structure::is_read_as, crate::proofs::PageUrls::Law::leads_as_any))]
+    #[tactic(auto, using(crate::proofs::Structure::is_read_as, crate::proofs::PageUrls::Law::leads_as_any, crate::proofs::EachFault::Answers::each_written))]
     pub fn append_texts_to_writer<T: Texts, W: Write>(
         &self,
         output: &mut W,
@@ -186,6 +192,8 @@ impl<'a, A: Allocator + Copy> Template<'a, A> {
         ensures full { OnOk result (Fill (pieces_of self.now) (T.list texts.now)) }
         ensures faults { AnswersWriting (fill_fault 0 (pieces_of self.now) (T.list texts.now))
             result }
+        ensures each { AnswersEach (pieces_of self.now) (T.list texts.now)
+            (λ fault. IsErrOf result (Texts fault)) }
         ensures empty { fill_fault 0 (pieces_of self.now) (T.list texts.now) ≡ None
             → page (pieces_of self.now) (T.list texts.now) ≡ [] → IsOk result }
         ensures read { OnOk result (IsReadAs (pieces_of self.now) (T.list texts.now)
