@@ -65,6 +65,14 @@ pieces_from number walk (GivenSlot ∷ parts) =
 abbrev pub template_of : List Given → Told
 template_of parts = pieces_from 0 at_beginning parts
 
+-- the same, where the parts have no fault
+abbrev pub told_chunks : Told → List Chunk
+told_chunks (Ok chunks) = chunks
+told_chunks (Err fault) = []
+
+abbrev pub placed : List Given → List Chunk
+placed parts = told_chunks (template_of parts)
+
 -- after one part more the pieces are this one and those of the others, or its fault is the first
 abbrev pub TakesPart : {T : Type 0} → (T → Chunk) → ℕ → Walk → Given → Walk → Result T TemplateFault → Type 0
 TakesPart chunk number old part new (Ok taken) =

@@ -15,7 +15,7 @@ ghost use Rattle.html_template.specs.declared.faults.WriteFault.TheVariants.{Tex
 ghost use Rattle.html_template.specs.OpenUrls.{Answers};
 ghost use Rattle.html_template.specs.FilledUrls.{HasUrlsOf};
 ghost use Rattle.html_template.specs.PageUrls.{LeadsAsAny};
-ghost use Rattle.html_template.specs.TemplateFaults.{TakesMore, template_of};
+ghost use Rattle.html_template.specs.TemplateFaults.{TakesMore, placed, template_of};
 ghost use Rattle.html_template.specs.Templates.{
   Fill,
   Given,
@@ -61,6 +61,7 @@ impl<'a, A: Allocator + Copy> Template<'a, A> {
         ensures parts { IfOk result (λ template.
             map part_of (pieces_of template) ≡ map given parts.now) }
         ensures told { Answers pieces_of (template_of (map given parts.now)) result }
+        ensures placed { IfOk result (λ template. pieces_of template ≡ placed (map given parts.now)) }
     {
         let mut walk = Walk::new(alloc);
         let mut pieces = Vec::with_capacity(alloc, parts.len())?;

@@ -1,5 +1,6 @@
 use Rattle.std.proofs.Common.{◌-◌, ap, length, map, sym, ◌∙◌}
 use Rattle.html_template.specs.FillFaults.{has_checked, slot_count}
+use Rattle.html_template.specs.TemplateFaults.{told_chunks}
 use Rattle.html_template.specs.Templates.{chunk_of, given}
 use Rattle.html_template.specs.Walks.{walk_of}
 use Rattle.html_template.proofs.Pieces.{is_template, none_left, unfinished}
@@ -34,3 +35,6 @@ returns-clause-told g c =
     let number = length c.args.parts.now - length c.parts.rest.now in
     (is_template (map given c.args.parts.now) c.parts.pieces.items number (walk_of c.parts.walk) (sym c.if-not-may_end.ensures)
     (none_left c.parts.pieces.items number (walk_of c.parts.walk) c.parts.rest.now c.in_default.len_below c.parts.invariant.told)).whole
+
+pub returns-clause-placed : goal.returns-clause-placed
+returns-clause-placed g c = sym (ap told_chunks (returns-clause-told g c))
