@@ -5,3 +5,4 @@ pub mod Placed
 pub mod Flaws
 pub mod FirstFaults
 pub mod Ordered
+pub mod OneSource

@@ -1,11 +1,11 @@
 -- The source of one slot more.
-use Rattle.std.proofs.Common.{ℕ, ◌≡◌, true, List, [], ◌∷◌, ◌++◌, map, refl, sym, ap, ◌∙◌, append_assoc, append-nil}
+use Rattle.std.proofs.Common.{ℕ, ◌≡◌, true, List, [], ◌∷◌, ◌++◌, map, refl, sym, ap, ◌∙◌, subst, append_assoc, append-nil}
 use Rattle.std.proofs.lemmas.List.{map-append}
 use Rattle.std.specs.Borrow.{Bor}
 use Rattle.html_template.specs.declared.parts.Part.{Part}
 use Rattle.html_template.specs.declared.parts.Part.TheVariants as part
 use Rattle.html_template.specs.Templates.{Given, GivenMarkup, GivenSlot, given, texts_of}
-use Rattle.html_template_source.specs.Sources.{ArePlain, AreNamed, IsSourceOf, Lacks, closing, is_name, opening, slot_text, written}
+use Rattle.html_template_source.specs.Sources.{ArePlain, AreNamed, IsSourceOf, Lacks, TakeTurns, closing, is_name, opening, slot_text, written}
 
 written-append : (parts : List Given) (names : List (List ℕ)) (more : List Given) (others : List (List ℕ)) → AreNamed parts names →
     written (parts ++ more) (names ++ others) ≡ written parts names ++ written more others
@@ -82,3 +82,23 @@ goes_on front rest markup following name more source first second whole =
     ∙ ap (λ x. front ++ x) (append_assoc markup (slot_text name) more
     ∙ ap (λ x. markup ++ (opening ++ x)) (append_assoc name closing more ∙ sym second) ∙ sym first)
     ∙ whole
+
+-- ---- markup and slots take turns
+
+-- what takes turns goes on with these parts
+abbrev pub LeadsTurns : List Part → Type 0
+LeadsTurns parts = (rest : List Given) → TakeTurns rest → TakeTurns (map given parts ++ rest)
+
+pub turns_more : (parts : List Part) (markup : Bor (List ℕ)) {longer : List Part} → longer ≡ (parts ++ part.Markup markup ∷ []) ++ part.Slot ∷ [] →
+    LeadsTurns parts → LeadsTurns longer
+turns_more parts markup {longer} longer_is leads rest turns =
+    let parts_are : map given longer ++ rest ≡ map given parts ++ (GivenMarkup markup.now ∷ GivenSlot ∷ rest) =
+        rw (longer_is, append_assoc parts (part.Markup markup ∷ []) (part.Slot ∷ []), map-append given parts (part.Markup markup ∷ part.Slot ∷ []))
+        (append_assoc (map given parts) (GivenMarkup markup.now ∷ GivenSlot ∷ []) rest) in
+    subst TakeTurns (sym parts_are) (leads (GivenMarkup markup.now ∷ GivenSlot ∷ rest) turns)
+
+pub turns_end : (parts : List Part) (markup : Bor (List ℕ)) {longer : List Part} → longer ≡ parts ++ part.Markup markup ∷ [] → LeadsTurns parts →
+    TakeTurns (map given longer)
+turns_end parts markup {longer} longer_is leads =
+    let parts_are : map given longer ≡ map given parts ++ GivenMarkup markup.now ∷ [] = rw longer_is (map-append given parts (part.Markup markup ∷ [])) in
+    subst TakeTurns (sym parts_are) (leads (GivenMarkup markup.now ∷ []) tt)

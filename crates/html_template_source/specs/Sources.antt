@@ -1,7 +1,7 @@
 -- Sources: markup, and slots that are names between `{{` and `}}`.
-use Rattle.std.specs.Prelude.{◌≡◌, ◌≢◌, ⊤, ℕ, Bool, true, ◌&&◌, ◌||◌, not, List, [], ◌∷◌, ◌++◌, ◌==◌, codes, length}
+use Rattle.std.specs.Prelude.{◌≡◌, ◌≢◌, ⊤, ℕ, Bool, true, false, ◌&&◌, ◌||◌, not, List, [], ◌∷◌, ◌++◌, ◌==◌, bytes_eq, codes, eqb, length}
 use Rattle.std.specs.Char.{is_ascii_alphanumeric}
-use Rattle.std.specs.List.{list_all}
+use Rattle.std.specs.List.{list_all, starts_with}
 use Rattle.html_template.specs.Templates.{Given, GivenMarkup, GivenSlot}
 
 -- the marks around a name
@@ -51,3 +51,40 @@ pub record IsSourceOf (parts : List Given) (names : List (List ℕ)) (bytes : Li
   pub whole : written parts names ≡ bytes
   pub plain : ArePlain parts
   pub named : AreNamed parts names
+
+-- markup and slots take turns: markup comes first, behind each slot, and so last
+abbrev pub TakeTurns : List Given → Type 0
+TakeTurns [] = ⊥
+TakeTurns (GivenSlot ∷ parts) = ⊥
+TakeTurns (GivenMarkup bytes ∷ []) = ⊤
+TakeTurns (GivenMarkup bytes ∷ GivenSlot ∷ parts) = TakeTurns parts
+TakeTurns (GivenMarkup bytes ∷ GivenMarkup more ∷ parts) = ⊥
+
+-- ---- the same of a source at hand, as a test
+
+abbrev pub opens_slot : List ℕ → Bool
+opens_slot [] = false
+opens_slot (b ∷ bytes) = starts_with eqb (b ∷ bytes) opening || opens_slot bytes
+
+abbrev pub are_plain : List Given → Bool
+are_plain [] = true
+are_plain (GivenMarkup bytes ∷ parts) = not (opens_slot bytes) && are_plain parts
+are_plain (GivenSlot ∷ parts) = are_plain parts
+
+abbrev pub are_named : List Given → List (List ℕ) → Bool
+are_named [] [] = true
+are_named [] (name ∷ names) = false
+are_named (GivenMarkup bytes ∷ parts) names = are_named parts names
+are_named (GivenSlot ∷ parts) [] = false
+are_named (GivenSlot ∷ parts) (name ∷ names) = is_name name && are_named parts names
+
+abbrev pub take_turns : List Given → Bool
+take_turns [] = false
+take_turns (GivenSlot ∷ parts) = false
+take_turns (GivenMarkup bytes ∷ []) = true
+take_turns (GivenMarkup bytes ∷ GivenSlot ∷ parts) = take_turns parts
+take_turns (GivenMarkup bytes ∷ GivenMarkup more ∷ parts) = false
+
+-- the bytes are the source of these parts, which take turns, and names
+abbrev pub is_source : List Given → List (List ℕ) → List ℕ → Bool
+is_source parts names bytes = bytes_eq (written parts names) bytes && are_plain parts && are_named parts names && take_turns parts

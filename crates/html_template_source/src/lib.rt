@@ -8,6 +8,7 @@
 mod bound;
 mod faults;
 mod first_fault;
+pub mod laws;
 mod named;
 mod names;
 mod places;

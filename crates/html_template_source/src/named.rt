@@ -6,6 +6,7 @@ ghost use Rattle.hesc_engine.specs.Forms.{Appended};
 ghost use Rattle.html_template.specs.FilledUrls.{HasUrlsOf};
 ghost use Rattle.html_template.specs.PageUrls.{LeadsAsAny};
 ghost use Rattle.html_template.specs.Structure.{IsReadAs};
+ghost use Rattle.html_template.specs.TemplateFaults.{placed};
 ghost use Rattle.html_template.specs.Templates.{page, part_of, texts_of};
 ghost use Rattle.html_template_source.specs.Bindings.{
   AnswersBind,
@@ -17,7 +18,7 @@ ghost use Rattle.html_template_source.specs.Bindings.{
 };
 ghost use Rattle.html_template_source.specs.Places.{ArePlaced};
 ghost use Rattle.html_template_source.specs.SourceFaults.{AnswersSource};
-ghost use Rattle.html_template_source.specs.Sources.{IsSourceOf};
+ghost use Rattle.html_template_source.specs.Sources.{IsSourceOf, TakeTurns};
 
 use crate::bound::Bound;
 use crate::faults::{BindFault, SourceFault};
@@ -47,6 +48,8 @@ impl<'a, A: Allocator + Copy> NamedTemplate<'a, A> {
     pub fn parse(alloc: A, source: &'a str) -> Result<NamedTemplate<'a, A>, SourceFault>
         ensures source { IfOk result (λ t.
             IsSourceOf (map part_of (chunks_of t)) (names_of t) source.now) }
+        ensures turns { IfOk result (λ t. TakeTurns (map part_of (chunks_of t))) }
+        ensures placed { IfOk result (λ t. chunks_of t ≡ placed (map part_of (chunks_of t))) }
         ensures faults { AnswersSource source.now result }
     {
         let Source { parts, names } = Source::cut(alloc, source)?;

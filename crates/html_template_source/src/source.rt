@@ -1,10 +1,11 @@
 //! A source, cut into parts.
 ghost use Rattle.std.specs.Prelude.{◌≡◌, ◌<◌, ◌++◌, ℕ, List, IfNone, IfOk, IfSome, OnOk, length, map, true};
-ghost use Rattle.html_template.specs.Templates.{given, texts_of};
+ghost use Rattle.html_template.specs.Templates.{Given, given, texts_of};
 ghost use Rattle.html_template_source.specs.SourceFaults.{AnswersSource};
 ghost use Rattle.html_template_source.specs.Sources.{
   IsSourceOf,
   Lacks,
+  TakeTurns,
   are_letters,
   is_name,
   opening,
@@ -30,6 +31,7 @@ impl<'a, A: Allocator + Copy> Source<'a, A> {
     pub fn cut(alloc: A, source: &'a str) -> Result<Source<'a, A>, SourceFault>
         ensures parts { IfOk result (λ s.
             IsSourceOf (map given s.parts.items) (texts_of s.names.items) source.now) }
+        ensures turns { IfOk result (λ s. TakeTurns (map given s.parts.items)) }
         ensures faults { AnswersSource source.now result }
     {
         let mut parts = Vec::new(alloc);
@@ -91,10 +93,13 @@ fn add_slot<'a, A: Allocator>(
 ) -> Result<(), AllocError>
     requires plain { Lacks opening markup.now }
     requires named { is_name name.now ≡ true }
-    ensures { OnOk result ((front : List ℕ)
+    ensures source { OnOk result ((front : List ℕ)
         → IsSourceOf (map given parts.old.items) (texts_of names.old.items) front
         → IsSourceOf (map given parts.new.items) (texts_of names.new.items)
         (front ++ (markup.now ++ slot_text name.now))) }
+    ensures turns { OnOk result (((rest : List Given) → TakeTurns rest
+        → TakeTurns (map given parts.old.items ++ rest))
+        → (rest : List Given) → TakeTurns rest → TakeTurns (map given parts.new.items ++ rest)) }
 {
     parts.push(Part::Markup(markup))?;
     parts.push(Part::Slot)?;
