@@ -169,6 +169,7 @@ impl<'a, A: Allocator + Copy> Template<'a, A> {
             → page (pieces_of self.now) (texts_of texts.now) ≡ [] → IsOk result }
         ensures read { OnOk result (IsReadAs (pieces_of self.now) (texts_of texts.now)
             (page (pieces_of self.now) (texts_of texts.now))) }
+        ensures filled { OnOk result (HasUrlsOf (pieces_of self.now) (texts_of texts.now)) }
         ensures urls { OnOk result (LeadsAsAny (pieces_of self.now) (texts_of texts.now)) }
     {
         self.append_texts_to_writer(output, &texts)
@@ -178,7 +179,7 @@ impl<'a, A: Allocator + Copy> Template<'a, A> {
     ///
     /// Of `<p title="`, a slot and `">` and the text `a"` it writes `<p title="a&quot;">`.
     #[inline(always)]
-    #[tactic(auto, using(crate::proofs::Structure::is_read_as, crate::proofs::PageUrls::Law::leads_as_any, crate::proofs::EachFault::Answers::each_written))]
+    #[tactic(auto, using(crate::proofs::Structure::is_read_as, crate::proofs::PageUrls::Law::leads_as_any, crate::proofs::PageUrls::Law::has_urls_of, crate::proofs::EachFault::Answers::each_written))]
     pub fn append_texts_to_writer<T: Texts, W: Write>(
         &self,
         output: &mut W,
@@ -199,6 +200,7 @@ impl<'a, A: Allocator + Copy> Template<'a, A> {
             → page (pieces_of self.now) (T.list texts.now) ≡ [] → IsOk result }
         ensures read { OnOk result (IsReadAs (pieces_of self.now) (T.list texts.now)
             (page (pieces_of self.now) (T.list texts.now))) }
+        ensures filled { OnOk result (HasUrlsOf (pieces_of self.now) (T.list texts.now)) }
         ensures urls { OnOk result (LeadsAsAny (pieces_of self.now) (T.list texts.now)) }
     {
         if let Err(fault) = check(&self.pieces, self.summary, texts) {

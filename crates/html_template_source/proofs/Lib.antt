@@ -5,4 +5,5 @@ pub mod Placed
 pub mod Flaws
 pub mod FirstFaults
 pub mod Ordered
+pub mod EachFault
 pub mod OneSource

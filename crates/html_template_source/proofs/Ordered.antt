@@ -5,6 +5,7 @@ use Rattle.std.proofs.lemmas.List.{length-map}
 use Rattle.std.specs.Borrow.{Bor}
 use Rattle.std.specs.Option.{is_some, option_map, option_or, unwrap_or}
 use Rattle.std.specs.Prelude.{Option, Some, None}
+use Rattle.html_template.specs.Templates.{texts_of}
 use Rattle.html_template_source.specs.declared.faults.BindFault.{BindFault}
 use Rattle.html_template_source.specs.Bindings.{Binding, binding_fault, bound, is_among, missing_fault, text_of}
 use Rattle.html_template_source.specs.Names.{AreBelow, AreSingle, AreUsed, name_at, number_of}
@@ -109,3 +110,12 @@ sound_in_order bindings names numbers order single used below =
     each_bound 0 names bindings numbers below (λ n within.
     bound_among bindings (name_at names n) ∙ ap (is_among (name_at names n)) order ∙ number_among names n single within) in
     rw (sound, whole) refl
+
+-- the texts that are handed on are those of the slots
+pub same_texts : (places : Option (Bor (List ℕ))) (bindings : List Binding) (distinct : List (Bor (List ℕ))) (numbers got : List ℕ) → got ≡ numbers →
+    ArePlaced places bindings (texts_of distinct) → AreBelow (length distinct) numbers →
+    texts_by places bindings got ≡ map (text_of bindings) (map (name_at (texts_of distinct)) numbers)
+same_texts places bindings distinct numbers got is placed below =
+    let B : ℕ → Type 0 = λ n. AreBelow n numbers in
+    ap (texts_by places bindings) is
+    ∙ texts_are places bindings (texts_of distinct) numbers placed (subst B (sym (length-map distinct (λ (text : Bor (List ℕ)). text.now))) below)

@@ -3,13 +3,13 @@ use Rattle.std.proofs.Common.{ℕ, zero, suc, ◌≡◌, ◌≢◌, ◌++◌, �
 use Rattle.std.proofs.Math.Dec.{ltb}
 use Rattle.std.proofs.lemmas.Bool.{cases_Bool, cases_eq, cases_lt, le-ltb, lt-ltb, ltb-true}
 use Rattle.std.proofs.lemmas.List.{get_or-replicate, get_or-set_other, get_or-set_same, length-set, length-take}
-use Rattle.std.proofs.lemmas.Option.{slice_get_past}
+use Rattle.std.proofs.lemmas.Option.{slice_get-get_or, slice_get_past}
 use Rattle.std.specs.Borrow.{Bor}
-use Rattle.std.specs.Option.{is_some}
-use Rattle.std.specs.Prelude.{Option, Some, None}
+use Rattle.std.specs.Option.{is_some, option_and_then}
+use Rattle.std.specs.Prelude.{Option, Some, None, slice_get}
 use Rattle.html_template_source.specs.Bindings.{Binding, bindings_of, bound}
 use Rattle.html_template_source.specs.Names.{AreSingle, name_at, number_of}
-use Rattle.html_template_source.specs.Places.{first_flawed, is_flawed, is_taken, is_within, places_after, text_at}
+use Rattle.html_template_source.specs.Places.{AreListed, first_flawed, is_flawed, is_taken, is_within, places_after, text_at}
 use Rattle.html_template_source.proofs.Numbers.{equal_bytes, numbered, same_bytes}
 
 -- all but the last, and the last
@@ -200,3 +200,15 @@ last_placed start names count bindings rest places more first next last number f
             ∙ placed_more start names (bindings_of bindings) (bindings_of later) (record { name = b.0.now; text = b.1.now }) (length front) number places single is at placed' k moved (omega arith),
       ),
     )
+
+-- places that are put down for all names are those of the bindings
+pub listed_places : (places : List ℕ) (bindings : List Binding) (names : List (List ℕ)) → length names ≤ length places →
+    ((k : ℕ) → k < length places → k < length names → text_at bindings (get_or places k 0) ≡ bound bindings (name_at names k)) →
+    AreListed (Some places) bindings names
+listed_places places bindings names enough placed None is = absurd (cc)
+listed_places places bindings names enough placed (Some found) is = λ number within.
+    let same : found.now ≡ places = cc in
+    let there : number < length places = omega (arith, enough, within) in
+    ap (λ l. option_and_then (text_at bindings) (slice_get l number)) same
+    ∙ ap (option_and_then (text_at bindings)) (slice_get-get_or places number 0 there)
+    ∙ placed number there within

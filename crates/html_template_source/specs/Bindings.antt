@@ -6,6 +6,9 @@ use Rattle.std.specs.Option.{unwrap_or, is_some, option_or}
 use Rattle.html_template.specs.FillFaults.{fill_fault}
 use Rattle.html_template.specs.Templates.{Chunk}
 use Rattle.html_template.specs.declared.faults.FillFault.{FillFault}
+use Rattle.html_template.specs.declared.faults.FillFault.TheVariants as fill
+use Rattle.html_template.specs.declared.faults.WriteFault.{WriteFault}
+use Rattle.html_template.specs.declared.faults.WriteFault.TheVariants.{Texts, Writer}
 use Rattle.html_template_source.specs.declared.faults.BindFault.{BindFault}
 use Rattle.html_template_source.specs.declared.faults.BindFault.TheVariants.{Unknown, Doubled, Missing, Fill, Memory}
 
@@ -58,3 +61,22 @@ abbrev pub AnswersBind : {T : Type 0} → Option BindFault → Result T BindFaul
 AnswersBind fault (Ok done) = fault ≡ None
 AnswersBind fault (Err Memory) = ⊤
 AnswersBind fault (Err other) = fault ≡ Some other
+
+-- the same when a page is written to a writer
+abbrev pub AnswersBinding : {T : Type 0} → Option BindFault → Result T (WriteFault BindFault) → Type 0
+AnswersBinding fault (Ok done) = fault ≡ None
+AnswersBinding fault (Err (Texts Memory)) = ⊤
+AnswersBinding fault (Err (Texts other)) = fault ≡ Some other
+AnswersBinding fault (Err (Writer refusal)) = fault ≡ None
+
+-- ---- before the texts are looked at
+
+-- the first fault of the bindings or of the slots, or memory runs out where there is none
+abbrev pub IsEarlyFault : List Binding → List (List ℕ) → BindFault → Type 0
+IsEarlyFault bindings names Memory = option_or (binding_fault 0 names bindings) (missing_fault 0 bindings names) ≡ None
+IsEarlyFault bindings names other = option_or (binding_fault 0 names bindings) (missing_fault 0 bindings names) ≡ Some other
+
+-- a fault of texts, as one of bound texts
+abbrev pub of_fill : FillFault → BindFault
+of_fill fill.Memory = Memory
+of_fill other = Fill other

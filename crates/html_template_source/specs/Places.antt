@@ -5,6 +5,8 @@ use Rattle.std.specs.List.{position_or_len}
 use Rattle.std.specs.Option.{is_some, option_and_then, option_map, unwrap_or}
 use Rattle.html_template_source.specs.Bindings.{Binding, bound}
 use Rattle.html_template_source.specs.Names.{name_at, number_of}
+use Rattle.html_template_source.specs.declared.places.Places.{Places}
+use Rattle.html_template_source.specs.declared.places.Places.TheVariants.{Block, InOrder, Many}
 
 -- the text of the binding at this place
 abbrev pub text_at : List Binding → ℕ → Option (List ℕ)
@@ -22,6 +24,16 @@ text_of_number places bindings number = option_and_then (text_at bindings) (plac
 abbrev pub ArePlaced : Option (Bor (List ℕ)) → List Binding → List (List ℕ) → Type 0
 ArePlaced places bindings names =
     (number : ℕ) → number < length names → text_of_number places bindings number ≡ bound bindings (name_at names number)
+
+-- the same of places as they are kept
+abbrev pub AreListed : Option (List ℕ) → List Binding → List (List ℕ) → Type 0
+AreListed places bindings names =
+    (found : Option (Bor (List ℕ))) → option_map (λ (p : Bor (List ℕ)). p.now) found ≡ places → ArePlaced found bindings names
+
+abbrev pub listed : {A : Type 0} → Places A → Option (List ℕ)
+listed InOrder = None
+listed (Block block) = Some block
+listed (Many places) = Some places.items
 
 -- numbers from one on, below another
 abbrev pub is_within : ℕ → ℕ → ℕ → Bool

@@ -1,22 +1,28 @@
 //! Templates whose slots have names.
-ghost use Rattle.std.specs.Prelude.{◌≡◌, None, IfOk, OnOk, map};
+ghost use Rattle.std.specs.Prelude.{◌≡◌, ◌≢◌, ◌++◌, ℕ, List, None, IfErr, IfOk, OnErr, OnOk, map};
+ghost use Rattle.std.specs.Io.KnownBytes.{Appends};
 ghost use Rattle.std.specs.Option.{option_or};
 ghost use Rattle.std.specs.String.{string_bytes};
+ghost use Rattle.hesc_specs.specs.Text.Beginning.{AppendsBeginning};
 ghost use Rattle.hesc_engine.specs.Forms.{Appended};
 ghost use Rattle.html_template.specs.FilledUrls.{HasUrlsOf};
 ghost use Rattle.html_template.specs.PageUrls.{LeadsAsAny};
-ghost use Rattle.html_template.specs.Structure.{IsReadAs};
+ghost use Rattle.html_template.specs.Structure.{IsPageOf, IsReadAs};
 ghost use Rattle.html_template.specs.TemplateFaults.{placed};
-ghost use Rattle.html_template.specs.Templates.{page, part_of, texts_of};
+ghost use Rattle.html_template.specs.Templates.{Given, page, part_of, texts_of};
 ghost use Rattle.html_template_source.specs.Bindings.{
   AnswersBind,
+  AnswersBinding,
+  IsEarlyFault,
   bind_fault,
   binding_fault,
   bindings_of,
   missing_fault,
+  of_fill,
   text_of,
 };
-ghost use Rattle.html_template_source.specs.Places.{ArePlaced};
+ghost use Rattle.html_template_source.specs.EachFault.{AnswersFirstBind};
+ghost use Rattle.html_template_source.specs.Places.{AreListed, listed, texts_by};
 ghost use Rattle.html_template_source.specs.SourceFaults.{AnswersSource};
 ghost use Rattle.html_template_source.specs.Sources.{IsSourceOf, TakeTurns};
 
@@ -24,10 +30,11 @@ use crate::bound::Bound;
 use crate::faults::{BindFault, SourceFault};
 use crate::first_fault::find_fault;
 use crate::names::Names;
-use crate::places::{BLOCK, NOWHERE, place_bindings};
+use crate::places::{BLOCK, NOWHERE, Places, place_bindings};
 use crate::source::Source;
-use html_template::{FillFault, Template, TemplateFault};
+use html_template::{FillFault, Template, TemplateFault, WriteFault};
 use std::alloc::{Allocator, Global};
+use std::io::Write;
 
 /// A template and the names of its slots.
 #[derive(Drop)]
@@ -90,114 +97,137 @@ impl<'a, A: Allocator + Copy> NamedTemplate<'a, A> {
             (map (text_of (bindings_of bindings.now)) (names_of self.now))
             (page (chunks_of self.now)
             (map (text_of (bindings_of bindings.now)) (names_of self.now)))) }
-        ensures urls { OnOk result (LeadsAsAny (chunks_of self.now)
-            (map (text_of (bindings_of bindings.now)) (names_of self.now))) }
+        ensures each { AnswersFirstBind (bindings_of bindings.now) (names_of self.now)
+            (chunks_of self.now) result }
         ensures filled { OnOk result (HasUrlsOf (chunks_of self.now)
             (map (text_of (bindings_of bindings.now)) (names_of self.now))) }
-    {
-        if self.names.are_in_order(bindings) {
-            return self.append_placed(output, bindings, None);
-        }
-        self.append_unordered(output, bindings)
-    }
-
-    // Appends the page where the names of the bindings are not those of the template in order.
-    #[inline(never)]
-    fn append_unordered<B: Allocator>(
-        &self,
-        output: &mut String<B>,
-        bindings: &[(&str, &str)],
-    ) -> Result<(), BindFault>
-        ensures appended { Appended (string_bytes output.old) (string_bytes output.new)
-            (page (chunks_of self.now)
-            (map (text_of (bindings_of bindings.now)) (names_of self.now))) result }
-        ensures faults { AnswersBind (bind_fault (bindings_of bindings.now) (names_of self.now)
-            (chunks_of self.now)) result }
-        ensures read { OnOk result (IsReadAs (chunks_of self.now)
-            (map (text_of (bindings_of bindings.now)) (names_of self.now))
-            (page (chunks_of self.now)
-            (map (text_of (bindings_of bindings.now)) (names_of self.now)))) }
         ensures urls { OnOk result (LeadsAsAny (chunks_of self.now)
             (map (text_of (bindings_of bindings.now)) (names_of self.now))) }
-        ensures filled { OnOk result (HasUrlsOf (chunks_of self.now)
-            (map (text_of (bindings_of bindings.now)) (names_of self.now))) }
+        ensures joins { OnOk result ((parts : List Given) (before : List (List ℕ))
+            → IsPageOf parts before (string_bytes output.old)
+            → IsPageOf (parts ++ map part_of (chunks_of self.now))
+            (before ++ map (text_of (bindings_of bindings.now)) (names_of self.now))
+            (string_bytes output.new)) }
     {
-        let mut places = [NOWHERE; BLOCK];
-        if let Some(fault) = find_fault(&self.names, bindings, &mut places) {
-            return Err(fault);
-        }
-        if self.names.distinct.len() <= BLOCK {
-            return self.append_placed(output, bindings, Some(&places));
-        }
-        self.append_many(output, bindings)
-    }
-
-    // Appends the page of more names than a block has.
-    fn append_many<B: Allocator>(
-        &self,
-        output: &mut String<B>,
-        bindings: &[(&str, &str)],
-    ) -> Result<(), BindFault>
-        requires sound { option_or (binding_fault 0 (names_of self.now) (bindings_of bindings.now))
-            (missing_fault 0 (bindings_of bindings.now) (names_of self.now)) ≡ None }
-        ensures appended { Appended (string_bytes output.old) (string_bytes output.new)
-            (page (chunks_of self.now)
-            (map (text_of (bindings_of bindings.now)) (names_of self.now))) result }
-        ensures faults { AnswersBind (bind_fault (bindings_of bindings.now) (names_of self.now)
-            (chunks_of self.now)) result }
-        ensures read { OnOk result (IsReadAs (chunks_of self.now)
-            (map (text_of (bindings_of bindings.now)) (names_of self.now))
-            (page (chunks_of self.now)
-            (map (text_of (bindings_of bindings.now)) (names_of self.now)))) }
-        ensures urls { OnOk result (LeadsAsAny (chunks_of self.now)
-            (map (text_of (bindings_of bindings.now)) (names_of self.now))) }
-        ensures filled { OnOk result (HasUrlsOf (chunks_of self.now)
-            (map (text_of (bindings_of bindings.now)) (names_of self.now))) }
-    {
-        let Ok(mut places) = vec![in self.alloc; NOWHERE; self.names.distinct.len()] else {
-            return Err(BindFault::Memory);
-        };
-        let _first = place_bindings(&self.names, bindings, 0, &mut places);
-        self.append_placed(output, bindings, Some(&places))
-    }
-
-    // Appends the page of these texts, where the bindings of names stand at these places.
-    #[inline(always)]
-    fn append_placed<B: Allocator>(
-        &self,
-        output: &mut String<B>,
-        bindings: &[(&str, &str)],
-        places: Option<&[usize]>,
-    ) -> Result<(), BindFault>
-        requires placed { ArePlaced places (bindings_of bindings.now)
-            (texts_of self.now.names.distinct.items) }
-        requires sound { option_or (binding_fault 0 (names_of self.now) (bindings_of bindings.now))
-            (missing_fault 0 (bindings_of bindings.now) (names_of self.now)) ≡ None }
-        ensures appended { Appended (string_bytes output.old) (string_bytes output.new)
-            (page (chunks_of self.now)
-            (map (text_of (bindings_of bindings.now)) (names_of self.now))) result }
-        ensures faults { AnswersBind (bind_fault (bindings_of bindings.now) (names_of self.now)
-            (chunks_of self.now)) result }
-        ensures read { OnOk result (IsReadAs (chunks_of self.now)
-            (map (text_of (bindings_of bindings.now)) (names_of self.now))
-            (page (chunks_of self.now)
-            (map (text_of (bindings_of bindings.now)) (names_of self.now)))) }
-        ensures urls { OnOk result (LeadsAsAny (chunks_of self.now)
-            (map (text_of (bindings_of bindings.now)) (names_of self.now))) }
-        ensures filled { OnOk result (HasUrlsOf (chunks_of self.now)
-            (map (text_of (bindings_of bindings.now)) (names_of self.now))) }
-    {
-        let texts = Bound {
-            numbers: &self.names.numbers,
-            bindings,
-            places,
+        let mut places = Places::InOrder;
+        let texts = match self.bind(bindings, &mut places) {
+            Ok(texts) => texts,
+            Err(fault) => return Err(fault),
         };
         match self.template.append_texts(output, &texts) {
             Ok(()) => Ok(()),
-            Err(fault) => match fault {
-                FillFault::Memory => Err(BindFault::Memory),
-                other => Err(BindFault::Fill(other)),
-            },
+            Err(fault) => Err(bind_fault_of(fault)),
         }
+    }
+
+    /// Writes the page of these texts, each with the name of its slots: markup as it stands, and each
+    /// text as it is encoded. No page is made in memory, and nothing is flushed. Where the texts do not
+    /// fill the template nothing is written. On the writer's own fault a beginning of the page was.
+    ///
+    /// Of `<p>{{name}}</p>` and `a<b` for `name` it writes `<p>a&lt;b</p>`.
+    pub fn append_to_writer<W: Write>(
+        &self,
+        output: &mut W,
+        bindings: &[(&str, &str)],
+    ) -> Result<(), WriteFault<BindFault>>
+        ensures written { OnOk result (Appends (W.contents output.old) (W.contents output.new)
+            (page (chunks_of self.now)
+            (map (text_of (bindings_of bindings.now)) (names_of self.now)))) }
+        ensures began { OnErr result (AppendsBeginning (W.contents output.old)
+            (W.contents output.new) (page (chunks_of self.now)
+            (map (text_of (bindings_of bindings.now)) (names_of self.now)))) }
+        ensures kept { bind_fault (bindings_of bindings.now) (names_of self.now)
+            (chunks_of self.now) ≢ None → output.new ≡ output.old }
+        ensures faults { AnswersBinding (bind_fault (bindings_of bindings.now) (names_of self.now)
+            (chunks_of self.now)) result }
+        ensures read { OnOk result (IsReadAs (chunks_of self.now)
+            (map (text_of (bindings_of bindings.now)) (names_of self.now))
+            (page (chunks_of self.now)
+            (map (text_of (bindings_of bindings.now)) (names_of self.now)))) }
+        ensures filled { OnOk result (HasUrlsOf (chunks_of self.now)
+            (map (text_of (bindings_of bindings.now)) (names_of self.now))) }
+        ensures urls { OnOk result (LeadsAsAny (chunks_of self.now)
+            (map (text_of (bindings_of bindings.now)) (names_of self.now))) }
+    {
+        let mut places = Places::InOrder;
+        let texts = match self.bind(bindings, &mut places) {
+            Ok(texts) => texts,
+            Err(fault) => return Err(WriteFault::Texts(fault)),
+        };
+        match self.template.append_texts_to_writer(output, &texts) {
+            Ok(()) => Ok(()),
+            Err(WriteFault::Texts(fault)) => Err(WriteFault::Texts(bind_fault_of(fault))),
+            Err(WriteFault::Writer(fault)) => Err(WriteFault::Writer(fault)),
+        }
+    }
+
+
+    // The text of each slot. Where the bindings stand is put down, if it is not in the order of the names.
+    #[inline(always)]
+    fn bind<'t>(
+        &'t self,
+        bindings: &'t [(&'t str, &'t str)],
+        places: &'t mut Places<A>,
+    ) -> Result<Bound<'t>, BindFault>
+        ensures texts { IfOk result (λ texts. texts_by texts.places (bindings_of texts.bindings.now)
+            texts.numbers.now ≡ map (text_of (bindings_of bindings.now)) (names_of self.now)) }
+        ensures sound { OnOk result (option_or
+            (binding_fault 0 (names_of self.now) (bindings_of bindings.now))
+            (missing_fault 0 (bindings_of bindings.now) (names_of self.now)) ≡ None) }
+        ensures fault { IfErr result (IsEarlyFault (bindings_of bindings.now) (names_of self.now)) }
+    {
+        if self.names.are_in_order(bindings) {
+            return Ok(Bound {
+                numbers: &self.names.numbers,
+                bindings,
+                places: None,
+            });
+        }
+        self.put_places(bindings, places)?;
+        Ok(Bound {
+            numbers: &self.names.numbers,
+            bindings,
+            places: places.as_slice(),
+        })
+    }
+
+    // Puts down where the bindings of the names stand. The block is set up in this function and no other.
+    #[inline(never)]
+    fn put_places(
+        &self,
+        bindings: &[(&str, &str)],
+        places: &mut Places<A>,
+    ) -> Result<(), BindFault>
+        ensures placed { OnOk result (AreListed (listed places.new) (bindings_of bindings.now)
+            (texts_of self.now.names.distinct.items)) }
+        ensures sound { OnOk result (option_or
+            (binding_fault 0 (names_of self.now) (bindings_of bindings.now))
+            (missing_fault 0 (bindings_of bindings.now) (names_of self.now)) ≡ None) }
+        ensures fault { IfErr result (IsEarlyFault (bindings_of bindings.now) (names_of self.now)) }
+    {
+        let mut block = [NOWHERE; BLOCK];
+        if let Some(fault) = find_fault(&self.names, bindings, &mut block) {
+            return Err(fault);
+        }
+        if self.names.distinct.len() <= BLOCK {
+            *places = Places::Block(block);
+            return Ok(());
+        }
+        let Ok(mut many) = vec![in self.alloc; NOWHERE; self.names.distinct.len()] else {
+            return Err(BindFault::Memory);
+        };
+        let _first = place_bindings(&self.names, bindings, 0, &mut many);
+        *places = Places::Many(many);
+        Ok(())
+    }
+}
+
+// The same fault, of bound texts.
+fn bind_fault_of(fault: FillFault) -> BindFault
+    ensures { result ≡ of_fill fault }
+{
+    match fault {
+        FillFault::Memory => BindFault::Memory,
+        other => BindFault::Fill(other),
     }
 }

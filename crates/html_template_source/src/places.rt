@@ -1,6 +1,7 @@
 //! Where the bindings of names stand, and which binding and which slot has the first fault.
 ghost use Rattle.std.specs.Prelude.{◌≡◌, ◌<◌, ◌+◌, ◌-◌, ◌≤◌, ℕ, IfSome, length, nat_lt, replicate, slice_index_or};
 ghost use Rattle.std.specs.List.{position_or_len};
+ghost use Rattle.std.specs.Option.{option_map};
 ghost use Rattle.html_template.specs.Templates.{texts_of};
 ghost use Rattle.html_template_source.specs.Bindings.{bindings_of, bound};
 ghost use Rattle.html_template_source.specs.Names.{name_at};
@@ -10,6 +11,7 @@ ghost use Rattle.html_template_source.specs.Places.{
   is_flawed,
   is_taken,
   is_unbound_at,
+  listed,
   places_after,
   text_at,
 };
@@ -22,6 +24,29 @@ pub(crate) const NOWHERE: usize = usize::MAX;
 
 /// Of so many names the bindings are placed in one pass, without a request for memory.
 pub(crate) const BLOCK: usize = 256;
+
+/// The place of the binding of each name, by the number of the name.
+#[derive(Drop)]
+pub(crate) enum Places<A: Allocator> {
+    /// The bindings stand in the order of the names.
+    InOrder,
+    Block([usize; BLOCK]),
+    Many(Vec<usize, A>),
+}
+
+impl<A: Allocator> Places<A> {
+    /// The places, unless the bindings stand in the order of the names.
+    #[inline(always)]
+    pub(crate) fn as_slice(&self) -> Option<&[usize]>
+        ensures { option_map (λ places. places.now) result ≡ listed self.now }
+    {
+        match self {
+            Places::InOrder => None,
+            Places::Block(block) => Some(block.as_slice()),
+            Places::Many(places) => Some(places.as_slice()),
+        }
+    }
+}
 
 /// The first binding with a fault and the first slot without a text, or how many there are.
 #[derive(Clone, Copy)]

@@ -1,18 +1,19 @@
-use Rattle.std.proofs.Common.{Bor, List, ℕ, refl, sym, subst}
-use Rattle.std.proofs.lemmas.List.{length-map}
-use Rattle.html_template.specs.Templates.{texts_of}
-use Rattle.html_template_source.specs.Bindings.{bindings_of}
-use Rattle.html_template_source.specs.Names.{AreBelow}
-use Rattle.html_template_source.proofs.Ordered.{placed_in_order, sound_in_order}
+use Rattle.std.proofs.Common.{Err, rules}
+use Rattle.html_template_source.specs.Bindings.{binding_fault, bindings_of, missing_fault}
+use Rattle.html_template_source.specs.NamedTemplates.{chunks_of, names_of}
+use Rattle.html_template_source.proofs.EachFault.Answers.{early_answers, first_bind, late_sound}
 use Rattle.html_template_source.proofs.named.NamedTemplate.append.Goals as goal
 
-pub append_placed-requires-clause-placed : goal.append_placed-requires-clause-placed
-append_placed-requires-clause-placed g c =
-    placed_in_order (bindings_of c.args.bindings.now) (texts_of c.args.self.now.names.distinct.items) (c.if-are_in_order.ensures.0 refl) c.args.self.now.names.single
+pub returns-in-Err-clause-each : goal.returns-in-Err-clause-each
+returns-in-Err-clause-each g c =
+    early_answers (Unit {0}) (bindings_of c.args.bindings.now) (names_of c.args.self.now) (chunks_of c.args.self.now) c.in-Err.fault c.in-Err.ensures.fault
 
-pub append_placed-requires-clause-sound : goal.append_placed-requires-clause-sound
-append_placed-requires-clause-sound g c =
-    let B : ℕ → Type 0 = λ n. AreBelow n c.args.self.now.names.numbers.items in
-    sound_in_order (bindings_of c.args.bindings.now) (texts_of c.args.self.now.names.distinct.items) c.args.self.now.names.numbers.items (c.if-are_in_order.ensures.0 refl)
-    c.args.self.now.names.single c.args.self.now.names.used
-    (subst B (sym (length-map c.args.self.now.names.distinct.items (λ (text : Bor (List ℕ)). text.now))) c.args.self.now.names.below)
+pub returns-in-Ok-append_texts-clause-each : goal.returns-in-Ok-append_texts-clause-each
+returns-in-Ok-append_texts-clause-each g c =
+    first_bind (Unit {0}) (bindings_of c.args.bindings.now) (names_of c.args.self.now) (chunks_of c.args.self.now) _ (search rules) tt
+
+pub returns-clause-each : goal.returns-clause-each
+returns-clause-each g c =
+    first_bind (Unit {0}) (bindings_of c.args.bindings.now) (names_of c.args.self.now) (chunks_of c.args.self.now) (Err c.bind_fault_of.result) (search rules)
+    (late_sound (Unit {0}) (binding_fault 0 (names_of c.args.self.now) (bindings_of c.args.bindings.now)) (missing_fault 0 (bindings_of c.args.bindings.now) (names_of c.args.self.now))
+    (Err c.bind_fault_of.result) c.in-Ok.ensures.sound)
