@@ -1,9 +1,12 @@
 //! The laws of sources.
 ghost use Rattle.std.specs.Prelude.{◌≡◌, ℕ, List, map, true};
-ghost use Rattle.html_template.specs.Templates.{Given, given, texts_of};
+ghost use Rattle.html_template.specs.Templates.{Given, given, part_of, texts_of};
+ghost use Rattle.html_template_source.specs.NamedTemplates.{chunks_of, names_of};
 ghost use Rattle.html_template_source.specs.Sources.{IsSourceOf, TakeTurns, is_source};
 
+use crate::named::NamedTemplate;
 use html_template::Part;
+use std::alloc::Allocator;
 
 /// A source has one list of parts, in which markup and slots take turns, and one list of names.
 ///
@@ -15,11 +18,20 @@ pub fn source_law(source: &str)
         → (parts ≡ others) × (names ≡ more) }
 {}
 
-/// The test of parts and names is right: the text is the source of these, and the parts take turns.
+/// The template that a source of one's own was parsed to has the parts and the names that stand in it.
 ///
-/// For instance `<p>{{name}}</p>` is the source of `<p>`, a slot and `</p>` with the name `name`.
-pub fn is_source_law(parts: &[Part], names: &[&str], source: &str)
-    requires { is_source (map given parts.now) (texts_of names.now) source.now ≡ true }
-    ensures source { IsSourceOf (map given parts.now) (texts_of names.now) source.now }
-    ensures turns { TakeTurns (map given parts.now) }
+/// For instance that of `<p>{{name}}</p>` has the parts `<p>`, a slot and `</p>` and the name `name`. So
+/// where `name` is bound, no name is missing.
+pub fn own_source_law<A: Allocator + Copy>(
+    template: &NamedTemplate<'_, A>,
+    source: &str,
+    parts: &[Part],
+    names: &[&str],
+)
+    requires parsed { IsSourceOf (map part_of (chunks_of template.now)) (names_of template.now)
+        source.now }
+    requires turns { TakeTurns (map part_of (chunks_of template.now)) }
+    requires own { is_source (map given parts.now) (texts_of names.now) source.now ≡ true }
+    ensures parts { map part_of (chunks_of template.now) ≡ map given parts.now }
+    ensures names { names_of template.now ≡ texts_of names.now }
 {}

@@ -25,3 +25,5 @@ mod readme;
 mod sources;
 #[cfg(test)]
 mod templates;
+#[cfg(test)]
+mod writers;

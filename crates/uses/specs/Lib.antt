@@ -8,3 +8,5 @@ pub mod PriceLists
 pub mod SearchPages
 pub mod Searches
 pub mod Tables
+pub mod Breadcrumbs
+pub mod MailRows

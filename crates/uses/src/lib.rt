@@ -2,11 +2,13 @@
 #![tactic(auto)]
 
 pub mod back;
+pub mod breadcrumbs;
 pub mod card;
 pub mod cell;
 pub mod form_page;
 pub mod home_page;
 pub mod link_list;
+pub mod mail_rows;
 pub mod posted;
 pub mod price_list;
 pub mod rows;
