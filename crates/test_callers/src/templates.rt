@@ -2,9 +2,11 @@
 
 use html_template::FillFault;
 use std::test::Fail;
+use uses::breadcrumbs::{Breadcrumbs, Crumb};
 use uses::form_page::{Draft, FormTemplate};
 use uses::home_page::{Stranger, StrangerTemplates};
 use uses::link_list::{Found, LinkList};
+use uses::mail_rows::{Mail, MailRows};
 use uses::price_list::{Item, ListTemplates};
 use uses::search_page::{search_page, search_template};
 
@@ -146,5 +148,46 @@ fn a_stranger_has_a_link_or_a_name_alone(rt: HostRuntime) -> Result<(), Fail> {
         let page = templates.page(rt.alloc(), Stranger { name, url });
         assert!(rt; page.as_deref() == Ok(wanted), "{url}");
     }
+    Ok(())
+}
+
+#[test]
+fn a_crumb_is_appended_byte_by_byte(rt: HostRuntime) -> Result<(), Fail> {
+    let Ok(crumbs) = Breadcrumbs::new(rt.alloc()) else {
+        assert!(rt; false);
+        return Ok(());
+    };
+    let mut page = String::from_str(rt.alloc(), "<nav>")?;
+    let crumb = Crumb {
+        path: "a/../b",
+        name: "a > b",
+    };
+    assert!(rt; crumbs.append(&mut page, crumb) == Ok(()));
+    assert!(rt; page.as_str() == "<nav><a href=\"/a%2F..%2Fb\">a &gt; b</a> / ");
+    let empty = Crumb { path: "", name: "" };
+    assert!(rt; crumbs.append(&mut page, empty) == Err(FillFault::EmptySegment(0)));
+    let dots = Crumb {
+        path: "..",
+        name: "",
+    };
+    assert!(rt; crumbs.append(&mut page, dots) == Err(FillFault::DotSegment(0)));
+    assert!(rt; page.as_str() == "<nav><a href=\"/a%2F..%2Fb\">a &gt; b</a> / ");
+    Ok(())
+}
+
+#[test]
+fn no_name_of_a_mail_is_missing(rt: HostRuntime) -> Result<(), Fail> {
+    let Ok(rows) = MailRows::new(rt.alloc()) else {
+        assert!(rt; false);
+        return Ok(());
+    };
+    let mut page = String::new(rt.alloc());
+    for (from, subject) in [("a@b.example", "</td>"), ("", "{{from}}")] {
+        assert!(rt; rows.append(&mut page, Mail { from, subject }) == Ok(()));
+    }
+    assert!(rt;
+        page.as_str()
+            == "<tr><td>a@b.example<td>&lt;/td&gt;</tr><tr><td><td>{{from}}</tr>"
+    );
     Ok(())
 }
