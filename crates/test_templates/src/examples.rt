@@ -1,4 +1,5 @@
 //! The examples of templates and of their laws.
+use crate::links::read::url_of_page;
 use hesc_places::{Place, read_place};
 use html_template::{Content, FillFault, Part, Template, TemplateFault, Texts, laws};
 use html_template_source::{BindFault, NamedTemplate, SourceFault};
@@ -6,6 +7,7 @@ use html_tokenizer::{Reader, SlotPlace, Standing};
 use std::alloc::{AllocError, Global};
 use std::process::Abort;
 use std::test::Fail;
+use url::Url;
 
 /// The page of the template of these parts, or the fault of its texts.
 fn page(alloc: Global, template: &Template, texts: &[&str]) -> Result<String, FillFault> {
@@ -102,6 +104,27 @@ fn pages_have_the_structure_that_the_laws_say(rt: HostRuntime) -> Result<(), Fai
         panic!(rt; "the slots stand in text");
     };
     assert!(rt; is_page(rt.alloc(), &joined, &["a", "b"], "<p>a</p><p>b</p>"));
+    Ok(())
+}
+
+static LINK: [Part; 3] = [
+    Part::Markup("<a href=\"/?q="),
+    Part::Slot,
+    Part::Markup("&amp;p=1\">"),
+];
+
+#[test]
+fn a_page_has_the_urls_that_the_law_says(rt: HostRuntime) -> Result<(), Fail> {
+    laws::page_urls_law(&LINK);
+    let Ok(template) = Template::new(rt.alloc(), &LINK) else {
+        panic!(rt; "the slot stands in a query");
+    };
+    let Ok(page) = page(rt.alloc(), &template, &["b&p=2"]) else {
+        panic!(rt; "the text fills the slot");
+    };
+    let base = Url::parse(rt.alloc(), "https://h.example/")?;
+    let url = url_of_page(&rt, rt.alloc(), &base, page.as_str(), "\"")?;
+    assert!(rt; url.as_str() == "https://h.example/?q=b%26p%3D2&p=1");
     Ok(())
 }
 

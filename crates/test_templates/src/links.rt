@@ -5,6 +5,6 @@ mod faults;
 mod fills;
 mod hostile;
 mod parts;
-mod read;
+pub(crate) mod read;
 mod several;
 mod whole;
