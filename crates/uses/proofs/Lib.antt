@@ -1,3 +1,4 @@
 pub mod HomePieces
 pub mod LinkRows
+pub mod LogRows
 pub mod PriceRows

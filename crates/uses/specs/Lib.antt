@@ -1,8 +1,12 @@
 pub mod Cards
 pub mod Cells
+pub mod Excerpts
+pub mod Fields
 pub mod FormPages
 pub mod HomePages
+pub mod Labels
 pub mod LinkLists
+pub mod Logs
 pub mod OwnRows
 pub mod PriceLists
 pub mod SearchPages

@@ -1,8 +1,8 @@
 //! A caller: a form that a stranger posted, read.
 ghost use Rattle.std.specs.Prelude.{◌≡◌, IfOk};
-ghost use Rattle.std.specs.Option.{option_map};
+ghost use Rattle.std.specs.Option.{option_and_then, option_map};
 ghost use Rattle.std.specs.String.{string_bytes};
-ghost use Rattle.hesc_places.specs.Pages.FormReadings.{form_reading};
+ghost use Rattle.hesc_places.specs.Pages.FormReadings.{form_reading, value_of};
 ghost use Rattle.hesc_grammars.specs.Places.{reading};
 ghost use Rattle.hesc_grammars.specs.declared.place.Place.TheVariants.{DoubleAttribute};
 
@@ -16,6 +16,20 @@ pub fn posted_script(alloc: Global, posted: &[u8]) -> Result<Option<Vec<u8>>, Al
 {
     match read_form(alloc, posted)? {
         Some(form) => Ok(Some(form.script)),
+        None => Ok(None),
+    }
+}
+
+/// The value of the posted form's attribute of this name, if the bytes begin with a form that has one.
+pub fn posted_value(alloc: Global, posted: &[u8], name: &str) -> Result<Option<Vec<u8>>, AllocError>
+    ensures { IfOk result (λ value. option_map (λ v. v.items) value
+        ≡ option_and_then (λ form. value_of name.now form.attributes) (form_reading posted.now)) }
+{
+    let Some(form) = read_form(alloc, posted)? else {
+        return Ok(None);
+    };
+    match form.value_of(name) {
+        Some(value) => Ok(Some(Vec::from_slice(alloc, value)?)),
         None => Ok(None),
     }
 }
