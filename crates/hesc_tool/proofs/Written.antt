@@ -1,5 +1,5 @@
 -- What writing in several calls comes to.
-use Rattle.std.proofs.Common.{◌≡◌, ℕ, ◌+◌, List, [], ◌++◌, take, drop, sym, ap, ◌∙◌, subst, append_assoc, append-nil, take-add, take-append-drop, Option, Result, Ok, Err, OnOk, OnErr, IfErr}
+use Rattle.std.proofs.Common.{◌≡◌, ℕ, ◌+◌, List, take, drop, sym, subst, take-add, take-append-drop, Option, Result, Ok, Err, OnOk, OnErr, IfErr}
 use Rattle.std.proofs.KnownBytes.{Appends-trans}
 use Rattle.std.specs.Io.KnownBytes.{Appends}
 use Rattle.hesc_tool.specs.Answers.{Answers}
@@ -18,16 +18,6 @@ Appends-next a b c bytes n m first next = subst (Appends a c) (sym (take-add n m
 pub AppendsBeginning-take : (a b : Option (List ℕ)) (bytes : List ℕ) (n : ℕ)
     → Appends a b (take n bytes) → AppendsBeginning a b bytes
 AppendsBeginning-take a b bytes n written = (take n bytes, (drop n bytes, take-append-drop n bytes), written)
-
--- all of it is a beginning
-pub begins_all : (a b : Option (List ℕ)) (bytes : List ℕ) → Appends a b bytes → AppendsBeginning a b bytes
-begins_all a b bytes written = (bytes, ([], append-nil bytes), written)
-
--- a beginning of the first bytes is one of them all
-pub begins_first : (a b : Option (List ℕ)) (first next : List ℕ)
-    → AppendsBeginning a b first → AppendsBeginning a b (first ++ next)
-begins_first a b first next began =
-    (began.0, (began.1.0 ++ next, sym (append_assoc began.0 began.1.0 next) ∙ ap (λ x. x ++ next) began.1.1), began.2)
 
 -- a command's text was handed to `write_whole`
 pub answered : (command : Command) (input text : List ℕ) (a b : Option (List ℕ)) (result : Result (Unit {0}) Fault)

@@ -1,5 +1,5 @@
 use Rattle.std.proofs.KnownBytes.{Appends-trans}
-use Rattle.hesc_tool.proofs.Written.{begins_all, begins_first}
+use Rattle.html_escape.proofs.JoinedWrites.{begins_all, begins_first}
 use Rattle.hesc_tool.proofs.program.write_line.Goals as goal
 
 pub returns-in_err-write_whole-clause-began : goal.returns-in_err-write_whole-clause-began
