@@ -6,7 +6,7 @@ use hesc_places::grammar::script_strings::{script_escape, script_string_step};
 use hesc_places::grammar::{Mode, Step, first_mode, step_of};
 use hesc_places::{
     Attribute, Place, Quoting, append_enclosed, append_form, append_page, build_page, enclose,
-    end_of_place, read_place, suits,
+    end_of_place, read_form, read_place, suits,
 };
 use html_escape::Encoder;
 use std::process::Abort;
@@ -41,6 +41,18 @@ fn pages_and_forms_are_appended_as_they_are_said_to_be(rt: HostRuntime) {
     }];
     let written = append_form(&mut page, &attributes, "x");
     assert!(rt; written == Ok("<input value=a&#x20;b /><script>alert('x');</script>"));
+}
+
+#[test]
+fn a_value_is_found_by_its_name(rt: HostRuntime) -> Result<(), Fail> {
+    let form = b"<input a=1 b=\"2\"/><script>alert('x');</script>";
+    let Some(form) = read_form(rt.alloc(), form)? else {
+        panic!(rt; "it is a form");
+    };
+    assert!(rt; form.value_of("a") == Some(b"1".as_slice()));
+    assert!(rt; form.value_of("b") == Some(b"2".as_slice()));
+    assert!(rt; form.value_of("c").is_none());
+    Ok(())
 }
 
 #[test]

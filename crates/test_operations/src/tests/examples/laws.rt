@@ -1,10 +1,12 @@
 //! The examples of the laws: each law is called with its example, and what it says of it is seen.
 use html_escape::{
-    BodyKind, Class, Decoder, Encoder, EntityTable, Operation, Quotes, append, encode_pieces, laws,
+    BodyKind, Class, Decoder, Encoder, EntityTable, Operation, Quotes, append, encode_pieces,
+    encode_text_to_writer, laws, write_markup,
 };
 use std::alloc::{AllocError, Global};
 use std::process::Abort;
 use std::test::Fail;
+use test_support::{Trouble, WeakWriter, Weakness};
 
 // An operation, a text, and what it makes of it.
 type Row = (Operation, &'static str, &'static str);
@@ -131,5 +133,19 @@ fn bodies_join_as_the_laws_say(rt: HostRuntime) -> Result<(), Fail> {
     let mut page = String::new(rt.alloc());
     let pieces = ["</scr", "ipt>"];
     assert!(rt; encode_pieces(&mut page, BodyKind::Script, &pieces)? == "<\\/script>");
+    Ok(())
+}
+
+#[test]
+fn writes_join_as_the_law_says(rt: HostRuntime) -> Result<(), Fail> {
+    laws::writes_law();
+    // Six bytes of `<li>a&amp;` go out, and then the writer fails.
+    let weakness = Weakness::byte_by_byte(7, Trouble::Fails);
+    let mut writer = WeakWriter::new(rt.alloc(), weakness);
+    assert!(rt; write_markup(&mut writer, "<li>").is_ok());
+    assert!(rt; writer.taken.as_slice() == b"<li>".as_slice());
+    assert!(rt; encode_text_to_writer("a&", &mut writer).is_err());
+    assert!(rt; writer.taken.as_slice() == b"<li>a&".as_slice());
+    assert!(rt; writer.was_only_written());
     Ok(())
 }

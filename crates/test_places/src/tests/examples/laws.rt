@@ -26,6 +26,8 @@ fn places_end_as_the_laws_say(rt: HostRuntime) -> Result<(), Fail> {
     laws::place_law(Encoder::Text, Place::Text, "a<b", b"");
     assert!(rt; encode_text(rt.alloc(), "a<b")?.as_str() == "a&lt;b");
     assert!(rt; reads(rt.alloc(), Place::Text, b"a&lt;b<", "a<b", 6)?);
+    laws::place_law_for_any_rest(Encoder::Text, Place::Text, "a<b");
+    assert!(rt; reads(rt.alloc(), Place::Text, b"a&lt;b</p>", "a<b", 6)?);
     laws::end_tag_law(BodyKind::Script, "<!--", b"</SCRIPT >");
     assert!(rt; encode_script(rt.alloc(), "<!--")?.as_str() == "<\\!--");
     assert!(rt;
@@ -46,8 +48,10 @@ fn places_end_as_the_laws_say(rt: HostRuntime) -> Result<(), Fail> {
 #[test]
 fn a_page_comes_back_as_the_law_says(rt: HostRuntime) -> Result<(), Fail> {
     laws::page_law("a", "b", "c", b"");
+    laws::page_law_for_any_rest("a", "b", "c");
     let mut text = String::new(rt.alloc());
     assert!(rt; append_page(&mut text, "a", "b", "c").is_ok());
+    text.push_str("</html>")?;
     let Some(page) = read_page(rt.alloc(), text.as_bytes())? else {
         panic!(rt; "it is a page");
     };
@@ -68,7 +72,9 @@ fn a_form_comes_back_as_the_law_says(rt: HostRuntime) -> Result<(), Fail> {
     let mut text = String::new(rt.alloc());
     let attributes = [VALUE];
     assert!(rt; append_form(&mut text, &attributes, "x").is_ok());
+    text.push_str("</html>")?;
     laws::form_law(&attributes, "x", b"");
+    laws::form_law_for_any_rest(&attributes, "x");
     let Some(form) = read_form(rt.alloc(), text.as_bytes())? else {
         panic!(rt; "it is a form");
     };
