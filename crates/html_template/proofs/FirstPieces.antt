@@ -1,5 +1,5 @@
 -- The page of pieces, by the first of them.
-use Rattle.std.proofs.Common.{ℕ, ◌≡◌, ◌≤◌, List, [], ◌∷◌, ◌++◌, drop, length, map, get_or, refl, sym, ap, ◌∙◌, subst, arith}
+use Rattle.std.proofs.Common.{ℕ, ◌≡◌, ◌≤◌, List, [], ◌∷◌, ◌++◌, drop, length, map, get_or, refl, sym, ap, ◌∙◌, arith}
 use Rattle.html_escape.specs.Encoders.{encoded}
 use Rattle.html_template.specs.Encoders.{encoder_for}
 use Rattle.html_template.specs.Templates.{chunk_of, page, written}

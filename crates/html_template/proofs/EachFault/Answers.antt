@@ -1,5 +1,5 @@
 -- Each fault of the texts is answered exactly where it is the first.
-use Rattle.std.proofs.Common.{ℕ, ◌≡◌, ◌≢◌, ◌↔◌, ◌+◌, true, false, List, [], ◌∷◌, length, ◌==◌, Option, None, Some, Ok, Err, Result, refl, sym, ap, ◌∙◌, arith}
+use Rattle.std.proofs.Common.{ℕ, ◌≡◌, ◌↔◌, ◌+◌, false, List, [], ◌∷◌, length, ◌==◌, Option, None, Some, Ok, Err, Result, refl, sym, ap, ◌∙◌, arith}
 use Rattle.std.proofs.lemmas.Bool.Decides.{nat_tests}
 use Rattle.std.specs.Prelude.{IsErrOf}
 use Rattle.html_template.specs.declared.faults.FillFault.{FillFault}
@@ -16,8 +16,6 @@ use Rattle.html_template.proofs.EachFault.Numbered.{IsFault, from_count, from_te
 use Rattle.html_template.proofs.EachFault.Why.{Why, dot_segment, empty_segment, empty_unquoted, fills, no_link, why}
 use Rattle.html_tokenizer.specs.declared.slot_place.SlotPlace.{SlotPlace}
 use Rattle.html_tokenizer.specs.declared.slot_place.SlotPlace.TheVariants as place
-use Rattle.html_urls.specs.Slots.{may_fill}
-use Rattle.html_urls.specs.declared.parts.UrlSlot.{UrlSlot}
 
 -- ---- the four faults of a text
 

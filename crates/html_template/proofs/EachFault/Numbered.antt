@@ -1,20 +1,16 @@
 -- The first fault of the texts has a number where it holds of the text of that number, and only there.
-use Rattle.std.proofs.Common.{ℕ, zero, suc, ◌≡◌, ◌≢◌, ◌≤◌, ◌+◌, ◌<◌, Bool, true, false, not, ◌&&◌, ◌||◌, ◌==◌, nat_lt, List, [], ◌∷◌, length, Option, None, Some, Err, Ok, Result, refl, sym, ap, ◌∙◌, subst, ⊎_elim, arith}
-use Rattle.std.proofs.lemmas.Bool.{cases_Bool}
+use Rattle.std.proofs.Common.{ℕ, zero, suc, ◌≡◌, ◌≤◌, ◌+◌, List, [], ◌∷◌, Option, None, Some, refl, ap, ◌∙◌, ⊎_elim, arith}
 use Rattle.std.specs.Option.{option_or}
 use Rattle.html_template.specs.declared.faults.FillFault.{FillFault}
 use Rattle.html_template.specs.declared.faults.FillFault.TheVariants.{WrongCount, EmptyUnquoted, EmptySegment, DotSegment, NotALink, Memory}
 use Rattle.html_template.specs.declared.parts.SlotKind.{SlotKind}
 use Rattle.html_template.specs.declared.parts.SlotKind.TheVariants as kind
-use Rattle.html_template.specs.EachFault.{AreTooFewOrMany, AtText, IsDotSegment, IsEmptySegment, IsEmptyUnquoted, IsNoLink}
-use Rattle.html_template.specs.FillFaults.{empty_fault, fill_fault, segment_fault, text_fault}
+use Rattle.html_template.specs.EachFault.{AreTooFewOrMany, AtText}
+use Rattle.html_template.specs.FillFaults.{empty_fault, fill_fault, text_fault}
 use Rattle.html_template.specs.Templates.{Chunk, Markup, MayFill, Slot}
 use Rattle.html_template.proofs.EachFault.Why.{Why, dot_segment, empty_segment, empty_unquoted, fills, no_link, why}
 use Rattle.html_tokenizer.specs.declared.slot_place.SlotPlace.{SlotPlace}
 use Rattle.html_tokenizer.specs.declared.slot_place.SlotPlace.TheVariants as place
-use Rattle.html_urls.specs.Links.{is_link}
-use Rattle.html_urls.specs.Slots.{may_fill}
-use Rattle.html_urls.specs.declared.parts.UrlSlot.{UrlSlot}
 
 -- ---- a text in its slot
 

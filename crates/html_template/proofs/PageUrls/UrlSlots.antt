@@ -25,7 +25,7 @@ use Rattle.html_urls.specs.Components.{component}
 use Rattle.html_urls.specs.Links.{is_link}
 use Rattle.html_urls.specs.OpenParts.{after_text, open_of, slot_at}
 use Rattle.html_urls.specs.Slots as part
-use Rattle.html_urls.specs.Slots.{FillSlots, FillUrl, Given, Told, is_plain, slots_of, url_of}
+use Rattle.html_urls.specs.Slots.{FillSlots, Given, Told, is_plain, slots_of, url_of}
 use Rattle.html_urls.specs.declared.open_part.OpenPart.{OpenPart}
 use Rattle.html_urls.specs.declared.parts.UrlSlot.{UrlSlot}
 use Rattle.url.proofs.InputLemmas.{list_all_from_All}

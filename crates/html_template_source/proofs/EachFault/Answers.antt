@@ -1,5 +1,5 @@
 -- Each fault of the bindings is answered exactly where it is the first.
-use Rattle.std.proofs.Common.{ℕ, ◌≡◌, ◌↔◌, ◌+◌, List, [], ◌∷◌, map, Option, None, Some, Ok, Err, Result, refl, sym, ap, ◌∙◌, arith}
+use Rattle.std.proofs.Common.{ℕ, ◌≡◌, ◌+◌, List, [], ◌∷◌, map, Option, None, Some, Ok, Err, Result, refl, sym, ap, ◌∙◌, arith}
 use Rattle.std.specs.Option.{is_some, option_or}
 use Rattle.std.specs.Prelude.{⊤, IsErrOf, if◌then◌else◌}
 use Rattle.html_template.specs.FillFaults.{fill_fault}

@@ -1,5 +1,5 @@
 -- The first fault of the bindings has a number where it holds of the binding of that number, and only there.
-use Rattle.std.proofs.Common.{ℕ, zero, suc, ◌≡◌, ◌≤◌, ◌⊎◌, ◌+◌, true, false, List, [], ◌∷◌, Option, None, Some, inl, inr, refl, sym, ap, ◌∙◌, ⊎_elim, arith}
+use Rattle.std.proofs.Common.{ℕ, zero, suc, ◌≡◌, ◌≤◌, ◌⊎◌, ◌+◌, true, false, List, [], ◌∷◌, Option, None, Some, inl, inr, refl, ap, ◌∙◌, ⊎_elim, arith}
 use Rattle.std.proofs.lemmas.Bool.{cases_Bool}
 use Rattle.html_template_source.specs.Bindings.{Binding, binding_fault}
 use Rattle.html_template_source.specs.EachFault.{AreSound, AtBinding, IsDoubled, IsSound, IsUnknown, is_doubled, is_known}

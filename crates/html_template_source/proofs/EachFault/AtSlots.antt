@@ -1,10 +1,9 @@
 -- The first slot whose name has no text.
-use Rattle.std.proofs.Common.{ℕ, zero, suc, ◌≡◌, ◌≢◌, ◌≤◌, ◌+◌, true, false, List, [], ◌∷◌, Option, None, Some, refl, ap, ◌∙◌, arith}
+use Rattle.std.proofs.Common.{ℕ, zero, suc, ◌≡◌, ◌≤◌, ◌+◌, List, [], ◌∷◌, Option, None, Some, refl, ap, ◌∙◌, arith}
 use Rattle.std.specs.Option.{is_some}
 use Rattle.std.specs.Prelude.{if◌then◌else◌}
 use Rattle.html_template_source.specs.Bindings.{Binding, bound, missing_fault}
 use Rattle.html_template_source.specs.EachFault.{IsMissing}
-use Rattle.html_template_source.specs.declared.faults.BindFault.{BindFault}
 use Rattle.html_template_source.specs.declared.faults.BindFault.TheVariants.{Missing}
 
 module _ (bindings : List Binding) where

@@ -1,4 +1,4 @@
-use Rattle.std.proofs.Common.{◌≡◌, ◌++◌, refl, sym, ap, ◌∙◌, drop, map}
+use Rattle.std.proofs.Common.{◌++◌, refl, sym, ap, ◌∙◌, drop, map}
 use Rattle.hesc_sinks.proofs.Progress.{Progress-stop, on_err}
 use Rattle.html_template.specs.Templates.{chunk_of, page, written}
 use Rattle.html_template.proofs.FirstPieces.{markup_first, slot_first, written_encoded}

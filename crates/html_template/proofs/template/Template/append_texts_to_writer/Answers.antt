@@ -1,8 +1,8 @@
-use Rattle.std.proofs.Common.{Err, Ok, map, ap, sym, ◌∙◌}
+use Rattle.std.proofs.Common.{Err, map, ap, sym, ◌∙◌}
 use Rattle.html_template.specs.FillFaults.{fill_fault}
 use Rattle.html_template.specs.TemplatePieces.{pieces_of}
 use Rattle.html_template.specs.Templates.{chunk_of}
-use Rattle.html_template.specs.declared.faults.WriteFault.TheVariants.{Texts, Writer}
+use Rattle.html_template.specs.declared.faults.WriteFault.TheVariants.{Texts}
 use Rattle.html_template.proofs.EachFault.Answers.{each_written}
 use Rattle.html_template.proofs.FillAnswers.{no_fault}
 use Rattle.html_template.proofs.template.Template.append_texts_to_writer.Goals as goal
