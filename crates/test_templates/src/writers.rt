@@ -102,7 +102,7 @@ fn a_named_page_is_written(rt: HostRuntime) -> Result<(), Fail> {
     for bindings in &orders {
         let mut writer = WeakWriter::new(rt.alloc(), STRONG);
         assert!(rt; template.append_to_writer(&mut writer, bindings).is_ok());
-        assert!(rt; writer.taken.as_slice() == b"<p title=\"1&quot;\">&lt;</p>1\"");
+        assert!(rt; writer.taken.as_slice() == "<p title=\"1&quot;\">&lt;</p>1\"".as_bytes());
         assert!(rt; writer.was_only_written());
     }
     Ok(())
