@@ -68,7 +68,7 @@ impl From<AllocError> for FillFault {
 }
 
 /// Why a page was not written whole. Of `F` are the faults of the texts.
-#[derive(Debug)]
+#[derive(Debug, Drop)]
 pub enum WriteFault<F> {
     /// The texts do not fill the template. Nothing was written.
     Texts(F),
