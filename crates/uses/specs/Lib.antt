@@ -6,6 +6,7 @@ pub mod FormPages
 pub mod HomePages
 pub mod Labels
 pub mod LinkLists
+pub mod LogItems
 pub mod Logs
 pub mod OwnRows
 pub mod PriceLists

@@ -11,6 +11,7 @@ pub mod form_page;
 pub mod home_page;
 pub mod label;
 pub mod link_list;
+pub mod log_item;
 pub mod log_list;
 pub mod mail_rows;
 pub mod posted;
