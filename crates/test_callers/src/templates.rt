@@ -2,10 +2,12 @@
 
 use html_template::FillFault;
 use std::test::Fail;
+use test_support::{Trouble, WeakWriter, Weakness};
 use uses::breadcrumbs::{Breadcrumbs, Crumb};
 use uses::form_page::{Draft, FormTemplate};
 use uses::home_page::{Stranger, StrangerTemplates};
 use uses::link_list::{Found, LinkList};
+use uses::log_item::LogItem;
 use uses::mail_rows::{Mail, MailRows};
 use uses::price_list::{Item, ListTemplates};
 use uses::search_page::{search_page, search_template};
@@ -189,5 +191,25 @@ fn no_name_of_a_mail_is_missing(rt: HostRuntime) -> Result<(), Fail> {
         page.as_str()
             == "<tr><td>a@b.example<td>&lt;/td&gt;</tr><tr><td><td>{{from}}</tr>"
     );
+    Ok(())
+}
+
+#[test]
+fn an_item_of_a_log_is_written(rt: HostRuntime) -> Result<(), Fail> {
+    let Ok(item) = LogItem::new(rt.alloc()) else {
+        assert!(rt; false);
+        return Ok(());
+    };
+    let page = "<li title=\"12:00 &quot;\">&lt;b&gt;</li>";
+    for at in 0..=page.len() as u64 {
+        let mut writer = WeakWriter::new(rt.alloc(), Weakness::byte_by_byte(at, Trouble::Fails));
+        let is_written = item.write(&mut writer, "12:00 \"", "<b>").is_ok();
+        assert!(rt; is_written == (at == 0), "{at}");
+        if is_written {
+            assert!(rt; writer.taken.as_slice() == page.as_bytes());
+        } else {
+            assert!(rt; page.as_bytes().starts_with(&writer.taken), "{at}");
+        }
+    }
     Ok(())
 }
