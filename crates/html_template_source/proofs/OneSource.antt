@@ -50,12 +50,14 @@ pub is_source_of : (parts : List Given) (names : List (List ℕ)) (bytes : List 
 is_source_of parts names bytes is =
     let third = and_parts (bytes_eq (written parts names) bytes && are_plain parts && are_named parts names) (take_turns parts) is in
     let second = and_parts (bytes_eq (written parts names) bytes && are_plain parts) (are_named parts names) third.0 in
-    let first = and_parts (bytes_eq (written parts names) bytes) (are_plain parts) second.0 in
-    (record {
-      whole = (bytes_eq-Decides (written parts names) bytes).0 first.0;
-      plain = plain_parts parts first.1;
-      named = named_parts parts names second.1;
-    }, parts_turn parts third.1)
+    let first = and_parts (bytes_eq (written parts names) bytes) (are_plain parts) second.0 in (
+      record {
+        whole = (bytes_eq-Decides (written parts names) bytes).0 first.0;
+        plain = plain_parts parts first.1;
+        named = named_parts parts names second.1;
+      },
+      parts_turn parts third.1,
+    )
 
 -- ---- two lists of parts of one source
 

@@ -93,8 +93,8 @@ pub turns_more : (parts : List Part) (markup : Bor (List ℕ)) {longer : List Pa
     LeadsTurns parts → LeadsTurns longer
 turns_more parts markup {longer} longer_is leads rest turns =
     let parts_are : map given longer ++ rest ≡ map given parts ++ (GivenMarkup markup.now ∷ GivenSlot ∷ rest) =
-        rw (longer_is, append_assoc parts (part.Markup markup ∷ []) (part.Slot ∷ []), map-append given parts (part.Markup markup ∷ part.Slot ∷ []))
-        (append_assoc (map given parts) (GivenMarkup markup.now ∷ GivenSlot ∷ []) rest) in
+    rw (longer_is, append_assoc parts (part.Markup markup ∷ []) (part.Slot ∷ []), map-append given parts (part.Markup markup ∷ part.Slot ∷ []))
+    (append_assoc (map given parts) (GivenMarkup markup.now ∷ GivenSlot ∷ []) rest) in
     subst TakeTurns (sym parts_are) (leads (GivenMarkup markup.now ∷ GivenSlot ∷ rest) turns)
 
 pub turns_end : (parts : List Part) (markup : Bor (List ℕ)) {longer : List Part} → longer ≡ parts ++ part.Markup markup ∷ [] → LeadsTurns parts →

@@ -161,7 +161,6 @@ impl<'a, A: Allocator + Copy> NamedTemplate<'a, A> {
         }
     }
 
-
     // The text of each slot. Where the bindings stand is put down, if it is not in the order of the names.
     #[inline(always)]
     fn bind<'t>(
@@ -193,11 +192,7 @@ impl<'a, A: Allocator + Copy> NamedTemplate<'a, A> {
 
     // Puts down where the bindings of the names stand. The block is set up in this function and no other.
     #[inline(never)]
-    fn put_places(
-        &self,
-        bindings: &[(&str, &str)],
-        places: &mut Places<A>,
-    ) -> Result<(), BindFault>
+    fn put_places(&self, bindings: &[(&str, &str)], places: &mut Places<A>) -> Result<(), BindFault>
         ensures placed { OnOk result (AreListed (listed places.new) (bindings_of bindings.now)
             (texts_of self.now.names.distinct.items)) }
         ensures sound { OnOk result (option_or

@@ -188,8 +188,7 @@ fn no_name_of_a_mail_is_missing(rt: HostRuntime) -> Result<(), Fail> {
         assert!(rt; rows.append(&mut page, Mail { from, subject }) == Ok(()));
     }
     assert!(rt;
-        page.as_str()
-            == "<tr><td>a@b.example<td>&lt;/td&gt;</tr><tr><td><td>{{from}}</tr>"
+        page.as_str() == "<tr><td>a@b.example<td>&lt;/td&gt;</tr><tr><td><td>{{from}}</tr>"
     );
     Ok(())
 }

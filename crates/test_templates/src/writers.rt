@@ -10,8 +10,8 @@ use std::test::Fail;
 use test_support::{Trouble, WeakWriter, Weakness};
 
 static TEXTS: [&str; PLACES] = [
-    "a<b", "&amp;", "\"", "'", "a b", "';", "\"\\", "</style>", "\u{20AC}", "\"x", "</title>", "a/b",
-    "</svg>", "", "&\"", "<b>",
+    "a<b", "&amp;", "\"", "'", "a b", "';", "\"\\", "</style>", "\u{20AC}", "\"x", "</title>",
+    "a/b", "</svg>", "", "&\"", "<b>",
 ];
 
 // Takes all of a piece at a call.
@@ -57,7 +57,10 @@ fn a_fault_of_the_writer_leaves_a_beginning(rt: HostRuntime) -> Result<(), Fail>
                 Err(WriteFault::Texts(_)) | Ok(()) => panic!(rt; "{at}"),
             };
             assert!(rt; fault.kind() == kind_of(rt.alloc(), trouble, at)?, "{at}");
-            assert!(rt; writer.taken.as_slice() == &page.as_bytes()[..at as usize - 1], "{at}");
+            assert!(rt;
+                writer.taken.as_slice() == &page.as_bytes()[..at as usize - 1],
+                "{at}"
+            );
             assert!(rt; writer.calls == at);
         }
     }
@@ -117,7 +120,10 @@ fn bindings_that_do_not_fill_write_nothing(rt: HostRuntime) -> Result<(), Fail> 
         (&[("a", "1")], BindFault::Missing(1)),
         (&[("a", "1"), ("c", "2")], BindFault::Unknown(1)),
         (&[("b", "1"), ("b", "2"), ("a", "3")], BindFault::Doubled(0)),
-        (&[("b", "1"), ("a", "")], BindFault::Fill(FillFault::EmptyUnquoted(0))),
+        (
+            &[("b", "1"), ("a", "")],
+            BindFault::Fill(FillFault::EmptyUnquoted(0)),
+        ),
     ];
     for &(bindings, expected) in &cases {
         let mut writer = WeakWriter::new(rt.alloc(), STRONG);
@@ -143,7 +149,10 @@ fn a_fault_of_the_writer_leaves_a_beginning_of_a_named_page(rt: HostRuntime) -> 
             Err(WriteFault::Writer(_)) => {}
             Err(WriteFault::Texts(_)) | Ok(()) => panic!(rt; "{at}"),
         }
-        assert!(rt; writer.taken.as_slice() == &page.as_bytes()[..at as usize - 1], "{at}");
+        assert!(rt;
+            writer.taken.as_slice() == &page.as_bytes()[..at as usize - 1],
+            "{at}"
+        );
     }
     Ok(())
 }

@@ -54,6 +54,7 @@ impl MailRows {
             (string_bytes page.new)) }
         ensures memory { IfErr result (λ fault. fault ≡ Memory) }
     {
-        self.row.append(page, &[("from", mail.from), ("subject", mail.subject)])
+        self.row
+            .append(page, &[("from", mail.from), ("subject", mail.subject)])
     }
 }

@@ -137,9 +137,10 @@ chained first second = (λ a. second.0 (first.0 a), λ c. first.1 (second.1 c))
 at_text : (fault : ℕ → FillFault) (Holds : SlotPlace → SlotKind → List ℕ → Type 0) → IsFault fault Holds → (chunks : List Chunk) (texts : List (List ℕ)) (k : ℕ) →
     (fill_fault 0 chunks texts ≡ Some (fault k)) ↔ AtText Holds k chunks texts
 at_text fault Holds is_fault chunks texts k =
-    let same : 0 + k ≡ k = omega arith in
-    (λ is. to_text fault Holds is_fault chunks texts 0 k (is ∙ ap (λ m. Some (fault m)) (sym same)),
-     λ at. from_text fault Holds is_fault chunks texts 0 k at ∙ ap (λ m. Some (fault m)) same)
+    let same : 0 + k ≡ k = omega arith in (
+      λ is. to_text fault Holds is_fault chunks texts 0 k (is ∙ ap (λ m. Some (fault m)) (sym same)),
+      λ at. from_text fault Holds is_fault chunks texts 0 k at ∙ ap (λ m. Some (fault m)) same,
+    )
 
 each : (chunks : List Chunk) (texts : List (List ℕ)) (IsAnswered : FillFault → Type 0) →
     ((fault : FillFault) → (fault ≡ Memory → ⊥) → IsAnswered fault ↔ (fill_fault 0 chunks texts ≡ Some fault)) → AnswersEach chunks texts IsAnswered

@@ -118,7 +118,7 @@ first_bind T bindings names chunks result answers late = record {
   );
   missing = λ n. (
     (λ is. let both = of_second first second third n bindings_told (answered T first second third result (Missing n) (λ same. cc) is answers) in
-    (none_sound names bindings 0 both.0, to_slot bindings names 0 n (both.1 ∙ ap (λ m. Some (Missing m)) (sym (start n))))),
+        (none_sound names bindings 0 both.0, to_slot bindings names 0 n (both.1 ∙ ap (λ m. Some (Missing m)) (sym (start n))))),
     (λ at. in_slots n (sound_none names bindings 0 at.0) (from_slot bindings names 0 n at.1 ∙ ap (λ m. Some (Missing m)) (start n))),
   );
   fill = λ fault is. of_third first second third fault bindings_told slots_told (answered T first second third result (Fill fault) (λ same. cc) is answers);

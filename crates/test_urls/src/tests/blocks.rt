@@ -63,7 +63,9 @@ fn texts_of_letters_are_encoded(rt: HostRuntime) -> Result<(), Fail> {
 
 #[test]
 fn a_character_at_each_place_is_encoded(rt: HostRuntime) -> Result<(), Fail> {
-    for &letters in &[0, 1, 6, 7, 8, 14, 15, 16, 30, 31, 32, 33, 62, 63, 64, 65, 127, 128] {
+    for &letters in &[
+        0, 1, 6, 7, 8, 14, 15, 16, 30, 31, 32, 33, 62, 63, 64, 65, 127, 128,
+    ] {
         for before in 0..=letters {
             for &character in &CHARACTERS {
                 let text = text_with(rt.alloc(), letters, before, character)?;

@@ -8,5 +8,5 @@ pub returns : goal.returns
 returns g c =
     let own = is_source_of (map given c.args.parts.now) (texts_of c.args.names.now) c.args.source.now c.requires.own in
     let same = same_source (map part_of (chunks_of c.args.template.now)) (map given c.args.parts.now) (names_of c.args.template.now) (texts_of c.args.names.now) c.args.source.now
-        c.requires.turns c.requires.parsed own.1 own.0 in
+    c.requires.turns c.requires.parsed own.1 own.0 in
     record { parts = same.0; names = same.1 }

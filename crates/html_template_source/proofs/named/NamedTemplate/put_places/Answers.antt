@@ -30,11 +30,11 @@ returns-clause-placed g c =
     let same = length-map distinct.items (λ (text : Bor (List ℕ)). text.now) in
     let whole : length new ≡ c.in-Ok.many.len = c.place_bindings-first.auto.places ∙ c.deref_mut.ensures.len in
     let items_are : take c.in-Ok.many.len (new ++ drop (length new) c.in-Ok.many.items) ≡ new =
-        subst (λ n. take n (new ++ drop (length new) c.in-Ok.many.items) ≡ new) whole (take-append_seam new (drop (length new) c.in-Ok.many.items)) in
+    subst (λ n. take n (new ++ drop (length new) c.in-Ok.many.items) ≡ new) whole (take-append_seam new (drop (length new) c.in-Ok.many.items)) in
     let placed : (k : ℕ) → k < length new → k < length (texts_of distinct.items) → text_at bindings (get_or new k 0) ≡ bound bindings (name_at (texts_of distinct.items) k) =
-        λ k within named.
-        let start : 0 + k ≡ k = omega arith in
-        c.place_bindings-first.ensures.placed k within (omega (arith, same, named)) ∙ ap (λ n. bound bindings (name_at (texts_of distinct.items) n)) start in
+    λ k within named.
+    let start : 0 + k ≡ k = omega arith in
+    c.place_bindings-first.ensures.placed k within (omega (arith, same, named)) ∙ ap (λ n. bound bindings (name_at (texts_of distinct.items) n)) start in
     subst (λ l. AreListed (Some l) bindings (texts_of distinct.items)) (sym items_are)
     (listed_places new bindings (texts_of distinct.items)
     (omega (arith, same, whole, c.in-Ok.ensures.len, c.len.ensures, distinct.ok))
