@@ -1,23 +1,17 @@
 -- Where the value of a URL ends.
-use Rattle.std.proofs.Common.{ℕ, ◌≡◌, true, false, List, [], ◌∷◌, ◌++◌, ◌==◌, Some, refl, ap, ◌∙◌, subst, ⊎_elim, append-nil}
-use Rattle.std.specs.List.{list_any}
+use Rattle.std.proofs.Common.{ℕ, ◌≡◌, true, false, List, [], ◌∷◌, ◌==◌, refl, ap, ⊎_elim, append-nil}
 use Rattle.std.proofs.lemmas.Bool.{cases_Bool, false≢true}
 use Rattle.hesc_specs.specs.Text.Ascii.{greater_than}
 use Rattle.html_tokenizer.specs.declared.elements.Content.{Content}
 use Rattle.html_tokenizer.specs.declared.slot_place.SlotPlace.{SlotPlace}
 use Rattle.html_tokenizer.specs.declared.slot_place.SlotPlace.TheVariants.{DoubleQuoted, SingleQuoted, Unquoted}
-use Rattle.html_tokenizer.specs.Standing.{is_refused}
 use Rattle.html_tokenizer.specs.Tokenizer.States.{Attribute, In, Tokenizer, at_value}
 use Rattle.html_tokenizer.specs.Tokenizer.Tags.{is_space}
-use Rattle.html_tokenizer.specs.Tokenizer.Tokenization.{consume, state_after}
-use Rattle.html_tokenizer.specs.UrlValues.{ends_value, is_url, open_url, url_text, urls_from, value_bytes}
-use Rattle.html_tokenizer.proofs.Passing.{state_after-append}
-use Rattle.html_tokenizer.proofs.UrlValues.Appending.{urls_from-anew, urls_from-append}
+use Rattle.html_tokenizer.specs.Tokenizer.Tokenization.{consume}
+use Rattle.html_tokenizer.specs.UrlValues.{ends_value, is_url, urls_from, value_bytes}
+use Rattle.html_tokenizer.proofs.UrlValues.Appending.{urls_from-anew}
 use Rattle.html_tokenizer.proofs.UrlValues.Attributes.{ends_settled}
 use Rattle.html_tokenizer.proofs.UrlValues.Places.{is_value_place}
-use Rattle.html_tokenizer.proofs.UrlValues.Reading.{reads_on}
-use Rattle.html_tokenizer.proofs.UrlValues.Slots.Refusals.{not_refused}
-use Rattle.html_tokenizer.proofs.UrlValues.Staying.{StaysUrl}
 
 -- the byte ends the value, and adds nothing to it
 pub record Ends (t : Tokenizer) (b : ℕ) : Type 0 where
@@ -61,37 +55,3 @@ pub ends_url_at : (p : SlotPlace) (content : Content) (attribute : Attribute) (v
     urls_from (at_value (In p) content attribute) value (b ∷ bytes) ≡ value ∷ urls_from (consume (at_value (In p) content attribute) b).next other bytes
 ends_url_at p content attribute value other b bytes place is ends =
     ends_whole (at_value (In p) content attribute) value other b bytes is (ends_at p content attribute b place is ends)
-
--- ---- the rest of a URL, after a slot
-
--- the value goes on with these bytes, which stand for the text, and ends at the next
-pub record EndsWith (p : SlotPlace) (content : Content) (attribute : Attribute) (raw text : List ℕ) (b : ℕ) (rest : List ℕ) : Type 0 where
-  pub place : is_value_place p ≡ true
-  pub url : is_url attribute ≡ true
-  pub inner : list_any (ends_value p) raw ≡ false
-  pub is : url_text raw ≡ Some text
-  pub ends : ends_value p b ≡ true
-  pub unrefused : is_refused (state_after (at_value (In p) content attribute) (raw ++ b ∷ rest)).state ≡ false
-
-module _ {p : SlotPlace} {content : Content} {attribute : Attribute} {raw text : List ℕ} {b : ℕ} {rest : List ℕ} (value : EndsWith p content attribute raw text b rest) where
-  rest_stays : StaysUrl (at_value (In p) content attribute) raw text (at_value (In p) content attribute)
-  rest_stays =
-      let here : Tokenizer = at_value (In p) content attribute in
-      let whole : state_after here (raw ++ b ∷ rest) ≡ state_after (state_after here raw) (b ∷ rest) = state_after-append here raw (b ∷ rest) in
-      reads_on p content attribute raw text value.place value.url value.inner value.is
-      (not_refused (state_after here raw) (b ∷ rest) (subst (λ (x : Tokenizer). is_refused x.state ≡ false) whole value.unrefused))
-
-  pub rest_ends : (before other : List ℕ) →
-      urls_from (at_value (In p) content attribute) before (raw ++ b ∷ rest)
-      ≡ (before ++ text) ∷ urls_from (consume (at_value (In p) content attribute) b).next other rest
-  rest_ends before other =
-      let here : Tokenizer = at_value (In p) content attribute in
-      urls_from-append here before raw (b ∷ rest)
-      ∙ ap (λ x. x ++ urls_from (state_after here raw) (open_url here before raw) (b ∷ rest)) (rest_stays.none_ends before)
-      ∙ ap (λ x. urls_from x (open_url here before raw) (b ∷ rest)) rest_stays.passes.after
-      ∙ ap (λ x. urls_from here x (b ∷ rest)) (rest_stays.value before)
-      ∙ ends_url_at p content attribute (before ++ text) other b rest value.place value.url value.ends
-
-  pub state_after_rest : state_after (at_value (In p) content attribute) (raw ++ b ∷ rest) ≡ state_after (consume (at_value (In p) content attribute) b).next rest
-  state_after_rest =
-      state_after-append (at_value (In p) content attribute) raw (b ∷ rest) ∙ ap (λ x. state_after x (b ∷ rest)) rest_stays.passes.after
