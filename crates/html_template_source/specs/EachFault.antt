@@ -43,8 +43,11 @@ IsMissing zero bindings (name ∷ names) = bound bindings name ≡ None
 IsMissing (suc number) bindings (name ∷ names) = (bound bindings name ≢ None) × IsMissing number bindings names
 
 -- each fault is answered exactly where it is the first that applies; before one of the texts, memory may run out
-pub record AnswersFirstBind {T : Type 0} (bindings : List Binding) (names : List (List ℕ)) (chunks : List Chunk) (result : Result T BindFault) : Type 0 where
-  pub unknown : (number : ℕ) → IsErrOf result (Unknown number) ↔ AtBinding IsUnknown number names bindings
-  pub doubled : (number : ℕ) → IsErrOf result (Doubled number) ↔ AtBinding IsDoubled number names bindings
-  pub missing : (number : ℕ) → IsErrOf result (Missing number) ↔ (AreSound names bindings × IsMissing number bindings names)
-  pub fill : (fault : FillFault) → IsErrOf result (Fill fault) → fill_fault 0 chunks (map (text_of bindings) names) ≡ Some fault
+pub record AnswersEachBind (bindings : List Binding) (names : List (List ℕ)) (chunks : List Chunk) (IsAnswered : BindFault → Type 0) : Type 0 where
+  pub unknown : (number : ℕ) → IsAnswered (Unknown number) ↔ AtBinding IsUnknown number names bindings
+  pub doubled : (number : ℕ) → IsAnswered (Doubled number) ↔ AtBinding IsDoubled number names bindings
+  pub missing : (number : ℕ) → IsAnswered (Missing number) ↔ (AreSound names bindings × IsMissing number bindings names)
+  pub fill : (fault : FillFault) → IsAnswered (Fill fault) → fill_fault 0 chunks (map (text_of bindings) names) ≡ Some fault
+
+abbrev pub AnswersFirstBind : {T : Type 0} → List Binding → List (List ℕ) → List Chunk → Result T BindFault → Type 0
+AnswersFirstBind bindings names chunks result = AnswersEachBind bindings names chunks (IsErrOf result)

@@ -1,10 +1,11 @@
 //! Templates whose slots have names.
-ghost use Rattle.std.specs.Prelude.{◌≡◌, ◌≢◌, ◌++◌, ℕ, List, None, IfErr, IfOk, OnErr, OnOk, map};
+ghost use Rattle.std.specs.Prelude.{◌≡◌, ◌≢◌, ◌++◌, ℕ, List, None, IfErr, IfOk, IsErrOf, OnErr, OnOk, map};
 ghost use Rattle.std.specs.Io.KnownBytes.{Appends};
 ghost use Rattle.std.specs.Option.{option_or};
 ghost use Rattle.std.specs.String.{string_bytes};
 ghost use Rattle.hesc_specs.specs.Text.Beginning.{AppendsBeginning};
 ghost use Rattle.hesc_engine.specs.Forms.{Appended};
+ghost use Rattle.html_template.specs.declared.faults.WriteFault.TheVariants.{Texts};
 ghost use Rattle.html_template.specs.FilledUrls.{HasUrlsOf};
 ghost use Rattle.html_template.specs.PageUrls.{LeadsAsAny};
 ghost use Rattle.html_template.specs.Structure.{IsPageOf, IsReadAs};
@@ -21,7 +22,7 @@ ghost use Rattle.html_template_source.specs.Bindings.{
   of_fill,
   text_of,
 };
-ghost use Rattle.html_template_source.specs.EachFault.{AnswersFirstBind};
+ghost use Rattle.html_template_source.specs.EachFault.{AnswersEachBind, AnswersFirstBind};
 ghost use Rattle.html_template_source.specs.Places.{AreListed, listed, texts_by};
 ghost use Rattle.html_template_source.specs.SourceFaults.{AnswersSource};
 ghost use Rattle.html_template_source.specs.Sources.{IsSourceOf, TakeTurns};
@@ -140,6 +141,8 @@ impl<'a, A: Allocator + Copy> NamedTemplate<'a, A> {
             (chunks_of self.now) ≢ None → output.new ≡ output.old }
         ensures faults { AnswersBinding (bind_fault (bindings_of bindings.now) (names_of self.now)
             (chunks_of self.now)) result }
+        ensures each { AnswersEachBind (bindings_of bindings.now) (names_of self.now)
+            (chunks_of self.now) (λ fault. IsErrOf result (Texts fault)) }
         ensures read { OnOk result (IsReadAs (chunks_of self.now)
             (map (text_of (bindings_of bindings.now)) (names_of self.now))
             (page (chunks_of self.now)

@@ -1,12 +1,14 @@
 -- Each fault of the bindings is answered exactly where it is the first.
 use Rattle.std.proofs.Common.{ℕ, ◌≡◌, ◌+◌, List, [], ◌∷◌, map, Option, None, Some, Ok, Err, Result, refl, sym, ap, ◌∙◌, arith}
 use Rattle.std.specs.Option.{is_some, option_or}
-use Rattle.std.specs.Prelude.{⊤, IsErrOf, if◌then◌else◌}
+use Rattle.std.specs.Prelude.{⊤, ◌↔◌, IsErrOf, if◌then◌else◌}
 use Rattle.html_template.specs.FillFaults.{fill_fault}
 use Rattle.html_template.specs.Templates.{Chunk}
 use Rattle.html_template.specs.declared.faults.FillFault.{FillFault}
-use Rattle.html_template_source.specs.Bindings.{AnswersBind, Binding, IsEarlyFault, bind_fault, binding_fault, bound, filled, missing_fault, text_of}
-use Rattle.html_template_source.specs.EachFault.{AnswersFirstBind, IsDoubled, IsUnknown}
+use Rattle.html_template.specs.declared.faults.WriteFault.{WriteFault}
+use Rattle.html_template.specs.declared.faults.WriteFault.TheVariants.{Texts, Writer}
+use Rattle.html_template_source.specs.Bindings.{AnswersBind, AnswersBinding, Binding, IsEarlyFault, bind_fault, binding_fault, bound, filled, missing_fault, text_of}
+use Rattle.html_template_source.specs.EachFault.{AnswersEachBind, AnswersFirstBind, IsDoubled, IsUnknown}
 use Rattle.html_template_source.specs.declared.faults.BindFault.{BindFault}
 use Rattle.html_template_source.specs.declared.faults.BindFault.TheVariants.{Unknown, Doubled, Missing, Fill, Memory}
 use Rattle.html_template_source.proofs.EachFault.AtBindings.{Why, doubled, doubled_fault, from_binding, none_sound, sound, sound_none, to_binding, unknown, unknown_fault, why}
@@ -221,3 +223,52 @@ late_sound T first second (Err (Unknown n)) none = tt
 late_sound T first second (Err (Doubled n)) none = tt
 late_sound T first second (Err (Missing n)) none = tt
 late_sound T first second (Err (Fill f)) none = tt
+
+-- ---- when a page is written to a writer
+
+abbrev IsTold : Result (Unit {0}) (WriteFault BindFault) → BindFault → Type 0
+IsTold result fault = IsErrOf result (Texts fault)
+
+-- the answer, where the writer's own fault counts as none
+abbrev of_texts : Result (Unit {0}) (WriteFault BindFault) → Result (Unit {0}) BindFault
+of_texts (Ok done) = Ok done
+of_texts (Err (Texts fault)) = Err fault
+of_texts (Err (Writer refusal)) = Ok tt
+
+same_fault : (result : Result (Unit {0}) (WriteFault BindFault)) (fault : BindFault) → IsTold result fault ↔ IsErrOf (of_texts result) fault
+same_fault (Ok done) fault = (λ is. absurd (cc), λ is. absurd (cc))
+same_fault (Err (Texts told)) fault = (λ is. cc, λ is. cc)
+same_fault (Err (Writer refusal)) fault = (λ is. absurd (cc), λ is. absurd (cc))
+
+of_texts_answers : (first : Option BindFault) (result : Result (Unit {0}) (WriteFault BindFault)) → AnswersBinding first result → AnswersBind first (of_texts result)
+of_texts_answers first (Ok done) answers = answers
+of_texts_answers first (Err (Texts Memory)) answers = tt
+of_texts_answers first (Err (Texts other)) answers = answers
+of_texts_answers first (Err (Writer refusal)) answers = answers
+
+chained : {A B C : Type 0} → A ↔ B → B ↔ C → A ↔ C
+chained first second = (λ a. second.0 (first.0 a), λ c. first.1 (second.1 c))
+
+told_written : (bindings : List Binding) (names : List (List ℕ)) (chunks : List Chunk) (result : Result (Unit {0}) (WriteFault BindFault)) →
+    AnswersFirstBind bindings names chunks (of_texts result) → AnswersEachBind bindings names chunks (IsTold result)
+told_written bindings names chunks result each = record {
+  unknown = λ n. chained (same_fault result (Unknown n)) (each.unknown n);
+  doubled = λ n. chained (same_fault result (Doubled n)) (each.doubled n);
+  missing = λ n. chained (same_fault result (Missing n)) (each.missing n);
+  fill = λ fault is. each.fill fault ((same_fault result (Fill fault)).0 is);
+}
+
+-- the texts were looked at, since neither the bindings nor the names have a fault
+pub first_written : (bindings : List Binding) (names : List (List ℕ)) (chunks : List Chunk) (result : Result (Unit {0}) (WriteFault BindFault)) →
+    AnswersBinding (bind_fault bindings names chunks) result → option_or (binding_fault 0 names bindings) (missing_fault 0 bindings names) ≡ None →
+    AnswersEachBind bindings names chunks (IsTold result)
+first_written bindings names chunks result answers none =
+    let texts = of_texts result in
+    told_written bindings names chunks result
+    (first_bind (Unit {0}) bindings names chunks texts (of_texts_answers (bind_fault bindings names chunks) result answers)
+    (late_sound (Unit {0}) (binding_fault 0 names bindings) (missing_fault 0 bindings names) texts none))
+
+pub early_written : (bindings : List Binding) (names : List (List ℕ)) (chunks : List Chunk) (fault : BindFault) → IsEarlyFault bindings names fault →
+    AnswersEachBind bindings names chunks (IsTold (Err (Texts fault)))
+early_written bindings names chunks fault early =
+    told_written bindings names chunks (Err (Texts fault)) (early_answers (Unit {0}) bindings names chunks fault early)
