@@ -1,4 +1,3 @@
-pub mod HomePieces
 pub mod LinkRows
 pub mod LogRows
 pub mod PriceRows

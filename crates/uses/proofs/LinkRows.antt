@@ -2,8 +2,8 @@
 use Rattle.std.proofs.Common.{ℕ, ◌<◌, ◌+◌, List, [], ◌∷◌, get_or, length, take, sym, append_assoc, append-nil}
 use Rattle.std.proofs.lemmas.List.{take_more}
 use Rattle.std.proofs.lemmas.List.Concat.{flat_map-append}
-use Rattle.uses.specs.declared.link_list.Found.{Found}
-use Rattle.uses.specs.LinkLists.{AddsLinks, item_texts, link_parts, link_texts, links}
+use Rattle.uses.specs.declared.templates.link_list.Found.{Found}
+use Rattle.uses.specs.Templates.LinkLists.{AddsLinks, item_texts, link_parts, link_texts, links}
 
 -- no row, and then rows and more rows
 pub none_yet : (query page : List ℕ) → AddsLinks query [] page page

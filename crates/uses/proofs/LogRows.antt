@@ -6,7 +6,7 @@ use Rattle.std.proofs.lemmas.List.{take_more}
 use Rattle.std.proofs.lemmas.List.Concat.{flat_map-append}
 use Rattle.hesc_specs.specs.Text.Beginning.{AppendsBeginning}
 use Rattle.html_escape.proofs.JoinedWrites.{begins_first, begins_later}
-use Rattle.uses.specs.Logs.{item_text, items_text}
+use Rattle.uses.specs.Writers.Logs.{item_text, items_text}
 
 pub on_fault : {T E P : Type 0} (result : Result T E) → P → OnErr result P
 on_fault (Ok done) holds = tt

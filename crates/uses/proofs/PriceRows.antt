@@ -2,8 +2,8 @@
 use Rattle.std.proofs.Common.{ℕ, ◌<◌, ◌+◌, List, [], ◌∷◌, get_or, length, take, sym, append_assoc, append-nil}
 use Rattle.std.proofs.lemmas.List.{take_more}
 use Rattle.std.proofs.lemmas.List.Concat.{flat_map-append}
-use Rattle.uses.specs.declared.price_list.Item.{Item}
-use Rattle.uses.specs.PriceLists.{AddsRows, item_texts, row_parts, row_texts, rows}
+use Rattle.uses.specs.declared.templates.price_list.Item.{Item}
+use Rattle.uses.specs.Templates.PriceLists.{AddsRows, item_texts, row_parts, row_texts, rows}
 
 -- no row, and then rows and more rows
 pub none_yet : (page : List ℕ) → AddsRows [] page page

@@ -1,0 +1,2 @@
+-- What callers of the decoders are handed.
+pub mod OwnRows

@@ -1,0 +1,8 @@
+-- What callers of templates make.
+pub mod Breadcrumbs
+pub mod FormPages
+pub mod HomePages
+pub mod LinkLists
+pub mod MailRows
+pub mod PriceLists
+pub mod SearchPages

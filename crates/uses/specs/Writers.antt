@@ -1,0 +1,3 @@
+-- What callers write to a writer.
+pub mod LogItems
+pub mod Logs

@@ -1,0 +1,9 @@
+//! Callers that make pages by templates.
+
+pub mod breadcrumbs;
+pub mod form_page;
+pub mod home_page;
+pub mod link_list;
+pub mod mail_rows;
+pub mod price_list;
+pub mod search_page;

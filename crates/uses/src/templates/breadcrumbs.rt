@@ -1,0 +1,49 @@
+//! A caller of templates: the way to a page, as links. The contract says what is appended, byte by byte,
+//! and which path is a fault.
+ghost use Rattle.std.specs.Prelude.{◌≡◌, ◌↔◌, ◌++◌, [], IsErrOf, OnOk};
+ghost use Rattle.std.specs.String.{string_bytes};
+ghost use Rattle.html_template.specs.TemplatePieces.{pieces_of};
+ghost use Rattle.html_template.specs.declared.faults.FillFault.TheVariants.{EmptySegment};
+ghost use Rattle.uses.specs.Templates.Breadcrumbs.{crumb_pieces, crumb_text};
+
+use html_template::{FillFault, Part, Template, TemplateFault};
+use std::alloc::Global;
+
+/// A page on the way: the one segment of its path, and its name.
+#[derive(Clone, Copy)]
+pub struct Crumb<'c> {
+    pub path: &'c str,
+    pub name: &'c str,
+}
+
+/// The template of a crumb, which is made once.
+#[derive(Drop)]
+pub struct Breadcrumbs {
+    crumb: Template<'static>,
+    ghost told: { pieces_of crumb ≡ crumb_pieces },
+}
+
+impl Breadcrumbs {
+    /// Makes the template.
+    #[tactic(auto, unfolding(html_tokenizer::specs::Tokenizer::Tokenization::consume))]
+    pub fn new(alloc: Global) -> Result<Breadcrumbs, TemplateFault> {
+        let parts = [
+            Part::Markup("<a href=\"/"),
+            Part::Slot,
+            Part::Markup("\">"),
+            Part::Slot,
+            Part::Markup("</a> / "),
+        ];
+        let crumb = Template::new(alloc, &parts)?;
+        Ok(Breadcrumbs { crumb })
+    }
+
+    /// Appends a crumb. A path that is empty, `.` or `..` is a fault.
+    pub fn append(&self, page: &mut String, crumb: Crumb) -> Result<(), FillFault>
+        ensures text { OnOk result
+            (string_bytes page.new ≡ string_bytes page.old ++ crumb_text crumb.entry) }
+        ensures empty { IsErrOf result (EmptySegment 0) ↔ (crumb.entry.path.now ≡ []) }
+    {
+        self.crumb.append(page, &[crumb.path, crumb.name])
+    }
+}
