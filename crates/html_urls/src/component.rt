@@ -3,7 +3,8 @@ ghost use Rattle.std.specs.Prelude.{◌≡◌, ◌≤◌, ◌<◌, ◌+◌, ◌+
 ghost use Rattle.hesc_specs.specs.Text.Beginning.{TookBeginning};
 ghost use Rattle.html_urls.specs.Components.{IsUnreservedText, component};
 
-use crate::blocks::{ROOM, encode_block, first_block};
+use crate::blocks::{ROOM, SHORT_ROOM, first_block, kept_block, made_block};
+use crate::lanes::LANES;
 use crate::length::component_length;
 use crate::unreserved::is_unreserved_block;
 use hesc_engine::forms::Parts;
@@ -66,14 +67,54 @@ pub fn put_component<S: Sink>(text: &str, sink: &mut S) -> Result<(), S::Fault>
     ensures same_reference { S.reference sink.new ≡ S.reference sink.old }
     ensures same_before { S.before sink.new ≡ S.before sink.old }
 {
-    let mut room = [0; ROOM];
     let mut rest = text.as_bytes();
     'putting: while !rest.is_empty() {
         let (block, later) = first_block(rest);
-        sink.put(encode_block(block, &mut room))?;
+        put_block(block, sink)?;
         rest = later;
     }
     Ok(())
+}
+
+#[inline(always)]
+fn put_block<S: Sink>(block: &[u8], sink: &mut S) -> Result<(), S::Fault>
+    requires { length block.now ≤ 64 }
+    ensures ok_taken { OnOk result (S.taken sink.new ≡ S.taken sink.old ++ component block.now) }
+    ensures ok_failures { OnOk result (S.failures sink.new ≡ S.failures sink.old) }
+    ensures err_taken { OnErr result
+        (TookBeginning (S.taken sink.old) (S.taken sink.new) (component block.now)) }
+    ensures err_failures { OnErr result (S.failures sink.new ≡ S.failures sink.old + 1) }
+    ensures fits { length (component block.now) ≤ S.room sink.old → IsOk result }
+    ensures room { OnOk result (S.room sink.old ≤ S.room sink.new + length (component block.now)) }
+    ensures same_reference { S.reference sink.new ≡ S.reference sink.old }
+    ensures same_before { S.before sink.new ≡ S.before sink.old }
+{
+    if is_unreserved_block(block) {
+        return sink.put(kept_block(block));
+    }
+    if block.len() < LANES {
+        let mut short = [0; SHORT_ROOM];
+        return sink.put(made_block(block, &mut short));
+    }
+    put_long_block(block, sink)
+}
+
+// The long room is set up in this function and no other.
+#[inline(never)]
+fn put_long_block<S: Sink>(block: &[u8], sink: &mut S) -> Result<(), S::Fault>
+    requires { length block.now ≤ 64 }
+    ensures ok_taken { OnOk result (S.taken sink.new ≡ S.taken sink.old ++ component block.now) }
+    ensures ok_failures { OnOk result (S.failures sink.new ≡ S.failures sink.old) }
+    ensures err_taken { OnErr result
+        (TookBeginning (S.taken sink.old) (S.taken sink.new) (component block.now)) }
+    ensures err_failures { OnErr result (S.failures sink.new ≡ S.failures sink.old + 1) }
+    ensures fits { length (component block.now) ≤ S.room sink.old → IsOk result }
+    ensures room { OnOk result (S.room sink.old ≤ S.room sink.new + length (component block.now)) }
+    ensures same_reference { S.reference sink.new ≡ S.reference sink.old }
+    ensures same_before { S.before sink.new ≡ S.before sink.old }
+{
+    let mut room = [0; ROOM];
+    sink.put(made_block(block, &mut room))
 }
 
 /// Whether no byte of `text` is percent-encoded, so that the text is its own component.

@@ -9,8 +9,9 @@ ghost use Rattle.percent_encoding.specs.Cow.{IsBorrowedStr};
 ghost use Rattle.hesc_engine.specs.Forms.{Appended, AnswersPart, StringAppended, VecAppended, WritesText, string_room, vec_room};
 ghost use Rattle.html_urls.specs.Components.{IsUnreservedText, component};
 
-use crate::blocks::{BLOCK, ROOM, encode_block};
+use crate::blocks::{BLOCK, ROOM, SHORT_ROOM, made_block};
 use crate::component::{Component, is_unreserved, put_component};
+use crate::lanes::LANES;
 use hesc_engine::WriterSink;
 use hesc_engine::forms::{append_parts, append_parts_to_vec};
 use std::alloc::{AllocError, Allocator};
@@ -53,7 +54,7 @@ pub fn append_component<'o, A: Allocator>(
     Ok(part_from(output, start))
 }
 
-// A text of one block is appended as it is made, and one that stays as it is as it stands: neither is
+// A text that stays as it is is appended as it stands, and one of one block as it is made: neither is
 // measured.
 #[inline(always)]
 fn append_text<A: Allocator>(output: &mut String<A>, text: &str) -> Result<(), AllocError>
@@ -61,12 +62,16 @@ fn append_text<A: Allocator>(output: &mut String<A>, text: &str) -> Result<(), A
         (component text.now) result }
     ensures fits { length (component text.now) ≤ string_room output.old → IsOk result }
 {
-    if text.len() <= BLOCK {
-        let mut room = [0; ROOM];
-        return output.push_str(encode_block(text.as_bytes(), &mut room));
-    }
     if let Some(same) = unchanged(text) {
         return output.push_str(same);
+    }
+    if text.len() < LANES {
+        let mut short = [0; SHORT_ROOM];
+        return output.push_str(made_block(text.as_bytes(), &mut short));
+    }
+    if text.len() <= BLOCK {
+        let mut room = [0; ROOM];
+        return output.push_str(made_block(text.as_bytes(), &mut room));
     }
     append_parts(output, &Component(text))
 }
@@ -110,13 +115,18 @@ fn append_text_to_vec<A: Allocator>(output: &mut Vec<u8, A>, text: &str) -> Resu
     ensures appended { Appended output.old.items output.new.items (component text.now) result }
     ensures fits { length (component text.now) ≤ vec_room output.old → IsOk result }
 {
-    if text.len() <= BLOCK {
-        let mut room = [0; ROOM];
-        let made = encode_block(text.as_bytes(), &mut room);
-        return output.extend_from_slice(made.as_bytes());
-    }
     if let Some(same) = unchanged(text) {
         return output.extend_from_slice(same.as_bytes());
+    }
+    if text.len() < LANES {
+        let mut short = [0; SHORT_ROOM];
+        let made = made_block(text.as_bytes(), &mut short);
+        return output.extend_from_slice(made.as_bytes());
+    }
+    if text.len() <= BLOCK {
+        let mut room = [0; ROOM];
+        let made = made_block(text.as_bytes(), &mut room);
+        return output.extend_from_slice(made.as_bytes());
     }
     append_parts_to_vec(output, &Component(text))
 }

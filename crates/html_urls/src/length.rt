@@ -25,7 +25,7 @@ fn encoded_count(bytes: &[u8]) -> usize
     let mut count = 0;
     let mut place = 0;
     'counting: while bytes.len() - place >= 16 {
-        count += encoded_mask::<16>(bytes, place).count_ones() as usize;
+        count += encoded_mask(bytes, place).count_ones() as usize;
         place += 16;
     }
     count + encoded_among(&bytes[place..])

@@ -9,6 +9,7 @@
 mod blocks;
 pub mod component;
 pub mod forms;
+mod lanes;
 pub mod laws;
 pub mod length;
 pub mod link;

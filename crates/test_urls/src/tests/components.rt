@@ -94,6 +94,6 @@ fn a_component_is_put(rt: HostRuntime) -> Result<(), Fail> {
     assert!(rt; counter.count() == 5);
     assert!(rt; Component("a&b").put_into(&mut counter).is_ok());
     assert!(rt; counter.count() == 10);
-    assert!(rt; Component("a&b").short_bound() == Some(9));
+    assert!(rt; Component("a&b").most() == 9);
     Ok(())
 }

@@ -5,4 +5,4 @@ use Rattle.html_urls.proofs.rows.store_encoded.Goals as goal
 
 pub returns : goal.returns
 returns c =
-    stored_row c.args.room.now c.row_of-count.result.0 _ c.args.place c.row_of-count.result.1 (omega (arith, c.row_of-count.type_inv)) c.row_of-count.ensures.bytes (count_is_few _ _ c.row_of-count.ensures.count) c.requires
+    stored_row c.args.room.now c.row_of-count.result.0 _ c.args.place 4 c.row_of-count.result.1 (omega (arith, c.row_of-count.type_inv)) c.row_of-count.ensures.bytes (omega (arith, count_is_few _ _ c.row_of-count.ensures.count)) c.requires
