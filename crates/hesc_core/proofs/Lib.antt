@@ -1,8 +1,10 @@
 mod AsciiTables
-mod CommonNames
+mod ClassEscapes
+mod ClassRows
 pub mod ClassWords
+mod CommonNames
+pub mod EachPlace
 pub mod ElementWords
 pub mod HandsOnConstant
 pub mod HandsOnTable
-mod StringEscapes
 mod StyleEscapes

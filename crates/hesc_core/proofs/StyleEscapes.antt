@@ -5,7 +5,7 @@ use Rattle.hesc_specs.specs.Text.Ascii.{backslash, space}
 use Rattle.hesc_specs.specs.Text.HexDigits.{hex_digit}
 use Rattle.hesc_specs.specs.declared.elements.Element.TheVariants.{Style}
 use Rattle.hesc_sinks.specs.AsciiRows.{text_at}
-use Rattle.hesc_core.specs.declared.rules.strings.escapes.TheConstants.{STYLE_ESCAPES}
+use Rattle.hesc_core.specs.declared.rules.escape.escapes.TheConstants.{STYLE_ESCAPES}
 use Rattle.hesc_core.proofs.AsciiTables.{row_is_text, row_of}
 
 -- the escape, and nothing for NUL

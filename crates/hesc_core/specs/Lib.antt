@@ -1,4 +1,4 @@
-pub mod Sought
+pub mod ClassTexts
 pub use Rattle.hesc_engine.specs.Forms
 pub use Rattle.hesc_engine.specs.Next
 pub use Rattle.hesc_engine.specs.Pieces

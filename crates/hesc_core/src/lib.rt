@@ -7,9 +7,9 @@
 pub mod rules;
 
 pub use hesc_engine::{
-    CountOverflow, Counter, Found, Piece, Pieces, Replacement, Rule, Segment, Sink, SmallText,
-    StringSink, VecSink, WriterSink, engine, forms, found, pieces, rule, run, segment, sink, sinks,
-    small_text,
+    AsciiTexts, CountOverflow, Counter, Found, Length, Piece, Pieces, Replacement, Rule, Seek,
+    Segment, Sink, SmallText, Sought, StringSink, VecSink, WriterSink, engine, forms, found,
+    pieces, rule, run, segment, sink, sinks, small_text,
 };
 pub use hesc_laws as laws;
 pub use hesc_scan::{find, openings, scan};

@@ -6,7 +6,7 @@ ghost use Rattle.hesc_specs.specs.Text.Escaped.{unescaped};
 ghost use Rattle.hesc_engine.specs.Forms.{AnswersPart, StringAppended, VecAppended, string_room, vec_room};
 
 use hesc_core::forms::{onto_string, onto_vec};
-use hesc_core::rules::{DecodeScript, DecodeStyle, StringUnescape, Unchanged, string_class};
+use hesc_core::rules::{DecodeBody, Unescape};
 use hesc_core::{Class, Element};
 use std::alloc::{AllocError, Allocator};
 
@@ -20,10 +20,7 @@ pub(crate) fn decode_onto_string<'o, A: Allocator>(
     ensures* appended { sem 𝓛 (StringAppended A.row A.Allocator output.entry
         (unescaped class text.now) result) }
 {
-    match string_class(class) {
-        Some((element, quotes)) => onto_string(output, &StringUnescape(element, quotes), text),
-        None => onto_string(output, &Unchanged, text),
-    }
+    onto_string(output, &Unescape(class), text)
 }
 
 #[inline(always)]
@@ -36,10 +33,7 @@ pub(crate) fn decode_onto_vec<'o, A: Allocator>(
     ensures* appended { sem 𝓛 (VecAppended A.row A.Allocator output.entry
         (unescaped class text.now) result) }
 {
-    match string_class(class) {
-        Some((element, quotes)) => onto_vec(output, &StringUnescape(element, quotes), text),
-        None => onto_vec(output, &Unchanged, text),
-    }
+    onto_vec(output, &Unescape(class), text)
 }
 
 #[inline(always)]
@@ -52,10 +46,7 @@ pub(crate) fn decode_body_onto_string<'o, A: Allocator>(
     ensures* appended { sem 𝓛 (StringAppended A.row A.Allocator output.entry
         (body_decoding element text.now) result) }
 {
-    match element {
-        Element::Script => onto_string(output, &DecodeScript, text),
-        Element::Style => onto_string(output, &DecodeStyle, text),
-    }
+    onto_string(output, &DecodeBody(element), text)
 }
 
 #[inline(always)]
@@ -68,8 +59,5 @@ pub(crate) fn decode_body_onto_vec<'o, A: Allocator>(
     ensures* appended { sem 𝓛 (VecAppended A.row A.Allocator output.entry
         (body_decoding element text.now) result) }
 {
-    match element {
-        Element::Script => onto_vec(output, &DecodeScript, text),
-        Element::Style => onto_vec(output, &DecodeStyle, text),
-    }
+    onto_vec(output, &DecodeBody(element), text)
 }

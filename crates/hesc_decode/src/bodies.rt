@@ -8,7 +8,7 @@ ghost use Rattle.hesc_engine.specs.Forms.{AnswersPart, AnswersText, StringAppend
 use crate::appends::{decode_body_onto_string, decode_body_onto_vec};
 use hesc_core::Element;
 use hesc_core::forms::{to_cow, to_writer};
-use hesc_core::rules::{DecodeScript, DecodeStyle};
+use hesc_core::rules::DecodeBody;
 use std::alloc::{AllocError, Allocator};
 use std::borrow::CowStr;
 use std::io::{self, Write};
@@ -24,7 +24,7 @@ pub fn decode_script<'t, A: Allocator>(alloc: A, text: &'t str) -> Result<CowStr
     ensures { AnswersText text.now (body_decoding Script text.now)
         (body_decoding_changes Script text.now 0) result }
 {
-    to_cow(alloc, &DecodeScript, text)
+    to_cow(alloc, &DecodeBody(Element::Script), text)
 }
 
 /// Appends `text` decoded to `output`, and answers the part that was added. On a refusal
@@ -68,7 +68,7 @@ pub fn decode_script_to_writer<W: Write>(text: &str, output: &mut W) -> Result<(
     ensures { WritesText (W.contents output.old) (W.contents output.new)
         (body_decoding Script text.now) result }
 {
-    to_writer(&DecodeScript, text, output)
+    to_writer(&DecodeBody(Element::Script), text, output)
 }
 
 // `decode_style`: each escaped opening of a style's body loses its `\`. So `<\!--` becomes `<!--`,
@@ -82,7 +82,7 @@ pub fn decode_style<'t, A: Allocator>(alloc: A, text: &'t str) -> Result<CowStr<
     ensures { AnswersText text.now (body_decoding Style text.now)
         (body_decoding_changes Style text.now 0) result }
 {
-    to_cow(alloc, &DecodeStyle, text)
+    to_cow(alloc, &DecodeBody(Element::Style), text)
 }
 
 /// Appends `text` decoded to `output`, and answers the part that was added. On a refusal
@@ -126,5 +126,5 @@ pub fn decode_style_to_writer<W: Write>(text: &str, output: &mut W) -> Result<()
     ensures { WritesText (W.contents output.old) (W.contents output.new)
         (body_decoding Style text.now) result }
 {
-    to_writer(&DecodeStyle, text, output)
+    to_writer(&DecodeBody(Element::Style), text, output)
 }

@@ -7,24 +7,24 @@ ghost use Rattle.hesc_specs.specs.declared.quotes.Quotes.TheVariants.{Single, Do
 ghost use Rattle.hesc_engine.specs.Forms.{AnswersPart, AnswersText, StringAppended, VecAppended, WritesText, string_room, vec_room};
 
 use crate::appends::{decode_onto_string, decode_onto_vec};
+use hesc_core::Class;
 use hesc_core::forms::{to_cow, to_writer};
-use hesc_core::rules::StringUnescape;
-use hesc_core::{Class, Element, Quotes};
+use hesc_core::rules::Unescape;
 use std::alloc::{AllocError, Allocator};
 use std::borrow::CowStr;
 use std::io::{self, Write};
 
-const SCRIPT_SINGLE: StringUnescape = StringUnescape(Element::Script, Quotes::Single);
+const SCRIPT_SINGLE: Unescape = Unescape(Class::ScriptSingleQuoted);
 
-const SCRIPT_DOUBLE: StringUnescape = StringUnescape(Element::Script, Quotes::Double);
+const SCRIPT_DOUBLE: Unescape = Unescape(Class::ScriptDoubleQuoted);
 
-const SCRIPT_BOTH: StringUnescape = StringUnescape(Element::Script, Quotes::Both);
+const SCRIPT_BOTH: Unescape = Unescape(Class::ScriptQuoted);
 
-const STYLE_SINGLE: StringUnescape = StringUnescape(Element::Style, Quotes::Single);
+const STYLE_SINGLE: Unescape = Unescape(Class::StyleSingleQuoted);
 
-const STYLE_DOUBLE: StringUnescape = StringUnescape(Element::Style, Quotes::Double);
+const STYLE_DOUBLE: Unescape = Unescape(Class::StyleDoubleQuoted);
 
-const STYLE_BOTH: StringUnescape = StringUnescape(Element::Style, Quotes::Both);
+const STYLE_BOTH: Unescape = Unescape(Class::StyleQuoted);
 
 // `decode_script_single_quoted_text`: in a script's string `\\`, `\'`, `\x` and two upper-case hex
 // digits of a C0 control or of `<`, `\u2028` and `\u2029` become their characters. Right after a

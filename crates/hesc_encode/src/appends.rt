@@ -1,13 +1,13 @@
 //! What the encoder of a class, or of a body, makes of a text, borrowed, or appended with the output
 //! first: the order in which the checker follows a loan by itself. The functions of the ported order
-//! hand on to these. The class is a constant in each call, so the branch by its kind is compiled away.
+//! hand on to these. The class is a constant in each call, so that the first search is compiled for it.
 ghost use Rattle.std.specs.Borrow.{sem};
 ghost use Rattle.hesc_specs.specs.Bodies.Encoding.{body_encoding};
 ghost use Rattle.hesc_specs.specs.Text.Escaped.{escape_changes, escaped};
 ghost use Rattle.hesc_engine.specs.Forms.{AnswersPart, AnswersText, StringAppended, VecAppended, string_room, vec_room};
 
 use hesc_core::forms::{onto_string, onto_vec, to_cow};
-use hesc_core::rules::{EncodeScript, EncodeStyle, HtmlEscape, StringEscape, string_class};
+use hesc_core::rules::{EncodeBody, Escape};
 use hesc_core::{Class, Element};
 use std::alloc::{AllocError, Allocator};
 use std::borrow::CowStr;
@@ -21,10 +21,7 @@ pub(crate) fn encode_to_cow<'t, A: Allocator>(
     ensures { AnswersText text.now (escaped class text.now)
         (escape_changes class text.now 0) result }
 {
-    match string_class(class) {
-        Some((element, _)) => to_cow(alloc, &StringEscape { class, element }, text),
-        None => to_cow(alloc, &HtmlEscape { class }, text),
-    }
+    to_cow(alloc, &Escape(class), text)
 }
 
 #[inline(always)]
@@ -37,10 +34,7 @@ pub(crate) fn encode_onto_string<'o, A: Allocator>(
     ensures* appended { sem 𝓛 (StringAppended A.row A.Allocator output.entry
         (escaped class text.now) result) }
 {
-    match string_class(class) {
-        Some((element, _)) => onto_string(output, &StringEscape { class, element }, text),
-        None => onto_string(output, &HtmlEscape { class }, text),
-    }
+    onto_string(output, &Escape(class), text)
 }
 
 #[inline(always)]
@@ -53,10 +47,7 @@ pub(crate) fn encode_onto_vec<'o, A: Allocator>(
     ensures* appended { sem 𝓛 (VecAppended A.row A.Allocator output.entry
         (escaped class text.now) result) }
 {
-    match string_class(class) {
-        Some((element, _)) => onto_vec(output, &StringEscape { class, element }, text),
-        None => onto_vec(output, &HtmlEscape { class }, text),
-    }
+    onto_vec(output, &Escape(class), text)
 }
 
 #[inline(always)]
@@ -69,10 +60,7 @@ pub(crate) fn encode_body_onto_string<'o, A: Allocator>(
     ensures* appended { sem 𝓛 (StringAppended A.row A.Allocator output.entry
         (body_encoding element text.now) result) }
 {
-    match element {
-        Element::Script => onto_string(output, &EncodeScript, text),
-        Element::Style => onto_string(output, &EncodeStyle, text),
-    }
+    onto_string(output, &EncodeBody(element), text)
 }
 
 #[inline(always)]
@@ -85,8 +73,5 @@ pub(crate) fn encode_body_onto_vec<'o, A: Allocator>(
     ensures* appended { sem 𝓛 (VecAppended A.row A.Allocator output.entry
         (body_encoding element text.now) result) }
 {
-    match element {
-        Element::Script => onto_vec(output, &EncodeScript, text),
-        Element::Style => onto_vec(output, &EncodeStyle, text),
-    }
+    onto_vec(output, &EncodeBody(element), text)
 }

@@ -8,7 +8,7 @@ ghost use Rattle.hesc_engine.specs.Forms.{AnswersPart, AnswersText, StringAppend
 use crate::appends::{encode_body_onto_string, encode_body_onto_vec};
 use hesc_core::Element;
 use hesc_core::forms::{to_cow, to_writer};
-use hesc_core::rules::{EncodeScript, EncodeStyle};
+use hesc_core::rules::EncodeBody;
 use std::alloc::{AllocError, Allocator};
 use std::borrow::CowStr;
 use std::io::{self, Write};
@@ -24,7 +24,7 @@ pub fn encode_script<'t, A: Allocator>(alloc: A, text: &'t str) -> Result<CowStr
     ensures { AnswersText text.now (body_encoding Script text.now)
         (body_encoding_changes Script text.now 0) result }
 {
-    to_cow(alloc, &EncodeScript, text)
+    to_cow(alloc, &EncodeBody(Element::Script), text)
 }
 
 /// Appends the encoding of `text` to `output`, and answers the part that was added. On a refusal
@@ -68,7 +68,7 @@ pub fn encode_script_to_writer<W: Write>(text: &str, output: &mut W) -> Result<(
     ensures { WritesText (W.contents output.old) (W.contents output.new)
         (body_encoding Script text.now) result }
 {
-    to_writer(&EncodeScript, text, output)
+    to_writer(&EncodeBody(Element::Script), text, output)
 }
 
 // `encode_style`: a `\` goes into each opening of a style's body, after its `<`. An opening is
@@ -82,7 +82,7 @@ pub fn encode_style<'t, A: Allocator>(alloc: A, text: &'t str) -> Result<CowStr<
     ensures { AnswersText text.now (body_encoding Style text.now)
         (body_encoding_changes Style text.now 0) result }
 {
-    to_cow(alloc, &EncodeStyle, text)
+    to_cow(alloc, &EncodeBody(Element::Style), text)
 }
 
 /// Appends the encoding of `text` to `output`, and answers the part that was added. On a refusal
@@ -126,5 +126,5 @@ pub fn encode_style_to_writer<W: Write>(text: &str, output: &mut W) -> Result<()
     ensures { WritesText (W.contents output.old) (W.contents output.new)
         (body_encoding Style text.now) result }
 {
-    to_writer(&EncodeStyle, text, output)
+    to_writer(&EncodeBody(Element::Style), text, output)
 }

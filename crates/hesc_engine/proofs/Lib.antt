@@ -1,3 +1,4 @@
 pub mod HandsOn
 pub mod Seam
+mod Searches
 pub mod Segments

@@ -21,8 +21,8 @@ joined-parts start (b ∷ bytes) new later =
 pub joined-segment : (segment : Segment) (later : List Part) → joined (stretch_of segment ++ (renewed (replacement_bytes segment.new) ++ later)) ≡ segment_bytes segment ++ joined later
 joined-segment segment later = joined-parts segment.start segment.kept.now (replacement_bytes segment.new) later
 
--- what a rule makes begins with the bytes of the segment of its first change
-pub made-from_first : (source : List ℕ) (changes_from : ℕ → List Change) (first : Found) (kept made : List ℕ) → IsNext source 0 changes_from first → applied source 0 (changes_from 0) ≡ made → kept ≡ slice_range source 0 first.start
-    → made ≡ (kept ++ replacement_bytes first.replacement) ++ applied source first.end (changes_from first.end)
-made-from_first source changes_from first kept made next makes is =
-    rw is (sym makes ∙ ap (applied source 0) next.changes ∙ sym (append_assoc (slice_range source 0 first.start) (replacement_bytes first.replacement) (applied source first.end (changes_from first.end))))
+-- the source from a place on, with the changes made, begins with the bytes of the segment of the first change
+pub applied-next : (source : List ℕ) (from : ℕ) (changes_from : ℕ → List Change) (found : Found) (kept new : List ℕ) → IsNext source from changes_from found → kept ≡ slice_range source from found.start → new ≡ replacement_bytes found.replacement
+    → applied source from (changes_from from) ≡ (kept ++ new) ++ applied source found.end (changes_from found.end)
+applied-next source from changes_from found kept new next is becomes =
+    rw (is, becomes) (ap (applied source from) next.changes ∙ sym (append_assoc (slice_range source from found.start) (replacement_bytes found.replacement) (applied source found.end (changes_from found.end))))

@@ -1,7 +1,11 @@
 pub mod Ahead
 pub mod Forms
+pub mod Lengths
 pub mod Next
 pub mod Pieces
+pub mod Rules
+pub mod Searches
+pub mod Sought
 pub use Rattle.hesc_sinks.specs.AsciiRows
 pub use Rattle.hesc_sinks.specs.Hits
 pub use Rattle.hesc_sinks.specs.Sinks

@@ -1,7 +1,8 @@
 -- What a found change says of a rule's changes.
-use Rattle.std.specs.Prelude.{◌≡◌, ℕ, ◌<◌, ◌≤◌, List, ◌∷◌, length}
+use Rattle.std.specs.Prelude.{◌≡◌, ℕ, ◌<◌, ◌≤◌, Bool, true, List, ◌∷◌, length}
 use Rattle.std.specs.Str.{IsCharBoundary}
 use Rattle.hesc_specs.specs.Text.Changes.{Change}
+use Rattle.hesc_specs.specs.Text.FirstPlace.{IsFirstAt}
 use Rattle.hesc_sinks.specs.Text.{replacement_bytes}
 use Rattle.hesc_sinks.specs.declared.found.Found.{Found}
 
@@ -17,3 +18,8 @@ pub record IsNext (source : List ℕ) (from : ℕ) (changes_from : ℕ → List 
   pub start_boundary : IsCharBoundary source found.start
   pub end_boundary : IsCharBoundary source found.end
   pub changes : changes_from from ≡ change_of found ∷ changes_from found.end
+
+-- a change begins at the place, and the found one is the first from any place on from which none begins before
+pub record IsChangeAt (begins_at : ℕ → Bool) (source : List ℕ) (changes_from : ℕ → List Change) (place : ℕ) (found : Found) : Type 0 where
+  pub begins : begins_at place ≡ true
+  pub next : (from : ℕ) → IsCharBoundary source from → IsFirstAt begins_at from (length source) place → IsNext source from changes_from found

@@ -1,9 +1,7 @@
 -- The parts that pieces stand for, and those that are still to come.
-use Rattle.std.specs.Prelude.{◌≡◌, ℕ, ◌+◌, ◌-◌, List, [], ◌∷◌, ◌++◌, Option, Some, None, drop, false, length, if◌then◌else◌}
+use Rattle.std.specs.Prelude.{◌≡◌, ℕ, ◌+◌, ◌-◌, List, [], ◌∷◌, ◌++◌, Option, Some, None, length, if◌then◌else◌}
 use Rattle.hesc_specs.specs.Text.Parts.{Part, kept, fresh, parts}
 use Rattle.hesc_sinks.specs.Text.{replacement_bytes}
-use Rattle.hesc_engine.specs.Next.{IsNext}
-use Rattle.hesc_sinks.specs.declared.found.Found.{Found}
 use Rattle.hesc_sinks.specs.declared.found.Replacement.{Replacement}
 use Rattle.hesc_engine.specs.declared.pieces.Piece.{Piece}
 use Rattle.hesc_engine.specs.declared.pieces.Piece.TheVariants.{Kept, New}
@@ -32,19 +30,6 @@ parts_left {rules = rules} pieces =
 abbrev pub IsAtSegment : {R : Type 0} {rules : Ghosts R} → Pieces R rules → Type 0
 IsAtSegment pieces = pieces.pending ≡ None
 
--- and the stretch after all changes is still to come
-abbrev pub IsBeforeRest : {R : Type 0} {rules : Ghosts R} → Pieces R rules → Type 0
-IsBeforeRest pieces = IsAtSegment pieces × (pieces.is_done ≡ false)
-
--- the source from where the pieces have come to
-abbrev pub rest_bytes : {R : Type 0} {rules : Ghosts R} → Pieces R rules → List ℕ
-rest_bytes pieces = drop pieces.from pieces.text.now
-
--- and the next segment ends with this change
-abbrev pub IsFoundNext : {R : Type 0} {rules : Ghosts R} → Pieces R rules → Found → Type 0
-IsFoundNext {rules = rules} pieces found =
-    IsBeforeRest pieces × IsNext pieces.text.now pieces.from (rules.changes_from pieces.rule.now pieces.text.now) found
-
 -- the stretch of a segment, unless it is empty
 abbrev pub stretch_of : Segment → List Part
 stretch_of segment = kept_unless_empty segment.start segment.kept.now
@@ -52,9 +37,3 @@ stretch_of segment = kept_unless_empty segment.start segment.kept.now
 -- more than the segments that pieces still have: a change ends after its place
 abbrev pub segments_left : {R : Type 0} {rules : Ghosts R} → Pieces R rules → ℕ
 segments_left pieces = if pieces.is_done then 0 else (length pieces.text.now - pieces.from) + 1
-
--- some bytes of what was to come were taken, and the others are still to come
-pub record TookFirst (coming later old new : List ℕ) : Type 0 where
-  pub put : List ℕ
-  pub taken : new ≡ old ++ put
-  pub left : coming ≡ put ++ later

@@ -1,6 +1,6 @@
 //! What is known of the bytes ahead: at which of them a rule that looks for certain bytes may change
 //! something.
-ghost use Rattle.std.specs.Prelude.{◌≤◌, ℕ, Bool, List, length};
+ghost use Rattle.std.specs.Prelude.{◌≡◌, ◌≤◌, ◌&&◌, ℕ, Bool, List, count_ones, length, nat_le};
 ghost use Rattle.hesc_sinks.specs.Hits.{AreHits};
 ghost use Rattle.hesc_engine.specs.Ahead.{IsAhead};
 
@@ -38,5 +38,14 @@ impl Ahead {
             return 0;
         }
         self.hits >> (from - self.start)
+    }
+
+    // Whether so many of the known bytes are looked for, and so much of the text is left, that it pays to
+    // hand them to the sink at once: near the end of the text it takes none.
+    #[inline(always)]
+    pub(crate) fn is_dense(&self, left: usize) -> bool
+        ensures { result ≡ (nat_le 4 (count_ones self.now.hits) && nat_le 20 left) }
+    {
+        self.hits.count_ones() >= 4 && left >= 20
     }
 }

@@ -3,14 +3,14 @@ ghost use Rattle.std.specs.Prelude.{◌≡◌, ◌≢◌, ◌≤◌, ◌<◌, �
 ghost use Rattle.std.specs.Str.{IsCharBoundary};
 ghost use Rattle.hesc_specs.specs.Text.Beginning.{TookBeginning};
 ghost use Rattle.hesc_specs.specs.Text.Changes.{applied};
-ghost use Rattle.hesc_specs.specs.Text.Parts.{joined};
 ghost use Rattle.hesc_engine.specs.Ahead.{IsAhead};
-ghost use Rattle.hesc_engine.specs.Pieces.{IsBeforeRest, parts_left};
+ghost use Rattle.hesc_engine.specs.Searches.{IsSeekOf, TookFirst};
 
 use crate::ahead::Ahead;
 use crate::forms::made::Made;
-use crate::pieces::Pieces;
 use crate::rule::Rule;
+use crate::search::{first_change, seek_of, segment_before};
+use crate::sought::Seek;
 use hesc_sinks::sink::Sink;
 
 /// Hands what `rule` makes of `text` to the sink, piece by piece.
@@ -58,16 +58,15 @@ pub fn run_made<R: Rule, S: Sink>(made: &Made<'_, R>, sink: &mut S) -> Result<()
 {
     // What the rest takes is read first, so that it stays in registers.
     let (rule, text, from, ahead) = (made.rule, made.text, made.first.end, made.ahead);
-    sink.put_segment(made.first_segment())?;
+    let segment = segment_before(text, 0, made.first.start, made.first.replacement);
+    sink.put_segment(segment)?;
     run_from(rule, text, from, ahead, sink)
 }
 
-/// Hands what `rule` makes of `text` from `from` on, a character boundary, to the sink, where something
-/// is known of the bytes ahead.
-///
-/// Of the encoder of text and `a<b` from 1 the sink takes `&lt;b`.
+// Hands what `rule` makes of `text` from `from` on, a character boundary, to the sink, where something
+// is known of the bytes ahead.
 #[inline(always)]
-pub fn run_from<R: Rule, S: Sink>(
+fn run_from<R: Rule, S: Sink>(
     rule: &R,
     text: &str,
     from: usize,
@@ -89,39 +88,52 @@ pub fn run_from<R: Rule, S: Sink>(
     ensures same_reference { S.reference sink.new ≡ S.reference sink.old }
     ensures same_before { S.before sink.new ≡ S.before sink.old }
 {
-    match rule.dispatch(text, from, ahead, sink) {
-        Some(outcome) => outcome,
-        None => put_left(&mut Pieces::from_place(rule, text, from, ahead), sink),
+    let seek = seek_of(rule);
+    let (mut place, mut known) = (from, ahead);
+    // No mask with a change begins at the end.
+    let mut handed_from = text.len();
+    'putting: while let Some(found) = first_change(rule, seek, text, place, &mut known) {
+        sink.put_segment(segment_before(text, place, found.start, found.replacement))?;
+        place = found.end;
+        // Once for a mask: where the sink stopped, it would mostly stop again.
+        if known.start != handed_from {
+            handed_from = known.start;
+            place = put_hits(rule, seek, text, place, known, sink);
+        }
     }
+    sink.put_some(&text[place..])
 }
 
-// Hands all segments that are left to the sink.
+// Hands the changes that are known to the sink, as many of them as it takes at once, and answers the
+// place after them.
 #[inline(always)]
-fn put_left<R: Rule, S: Sink>(pieces: &mut Pieces<'_, R>, sink: &mut S) -> Result<(), S::Fault>
-    requires { IsBeforeRest pieces.old }
-    ensures ok_taken { OnOk result
-        (S.taken sink.new ≡ S.taken sink.old ++ joined (parts_left pieces.old)) }
-    ensures ok_failures { OnOk result (S.failures sink.new ≡ S.failures sink.old) }
-    ensures err_taken { OnErr result
-        (TookBeginning (S.taken sink.old) (S.taken sink.new) (joined (parts_left pieces.old))) }
-    ensures err_failures { OnErr result (S.failures sink.old < S.failures sink.new) }
-    ensures fits { length (joined (parts_left pieces.old)) ≤ S.room sink.old → IsOk result }
-    ensures room { OnOk result
-        (S.room sink.old ≤ S.room sink.new + length (joined (parts_left pieces.old))) }
+fn put_hits<R: Rule, S: Sink>(
+    rule: &R,
+    seek: Seek,
+    text: &str,
+    from: usize,
+    ahead: Ahead,
+    sink: &mut S,
+) -> usize
+    requires boundary { IsCharBoundary text.now from }
+    requires seek { IsSeekOf R.Rule rule.now seek }
+    requires ahead { IsAhead (R.is_sought rule.now) text.now ahead }
+    ensures taken { TookFirst (applied text.now from (R.changes_from rule.now text.now from))
+        (applied text.now result (R.changes_from rule.now text.now result))
+        (S.taken sink.old) (S.taken sink.new) }
+    ensures ordered { from ≤ result }
+    ensures boundary { IsCharBoundary text.now result }
+    ensures failures { S.failures sink.new ≡ S.failures sink.old }
+    ensures room { S.room sink.old + length (S.taken sink.old)
+        ≤ S.room sink.new + length (S.taken sink.new) }
     ensures same_reference { S.reference sink.new ≡ S.reference sink.old }
     ensures same_before { S.before sink.new ≡ S.before sink.old }
 {
-    // No mask with a change begins at the end.
-    let mut handed_from = pieces.end();
-    'putting: while let Some(segment) = pieces.change() {
-        sink.put_segment(segment)?;
-        // Once for a mask: where the sink stopped, it would mostly stop again.
-        if pieces.known_from() != handed_from {
-            handed_from = pieces.known_from();
-            if pieces.is_dense() {
-                pieces.put_hits(sink);
-            }
+    let _rule = rule;
+    match seek.texts {
+        Some(texts) if ahead.is_dense(text.len() - from) => {
+            sink.put_hits(text, from, ahead.hits_from(from), texts)
         }
+        _ => from,
     }
-    sink.put_some(pieces.rest())
 }

@@ -16,4 +16,4 @@ pub use crate::forms::cow::to_cow;
 pub use crate::forms::parts::{Parts, append_parts, append_parts_to_vec};
 pub use crate::forms::string::{append_to_string, onto_string};
 pub use crate::forms::vec::{append_to_vec, onto_vec};
-pub use crate::forms::writer::to_writer;
+pub use crate::forms::writer::{kept_to_writer, to_writer};

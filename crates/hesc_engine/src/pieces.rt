@@ -4,9 +4,9 @@ ghost use Rattle.hesc_engine.specs.Ahead.{IsAhead};
 
 use crate::ahead::Ahead;
 use crate::rule::Rule;
-use hesc_sinks::found::{Found, Replacement};
+use crate::search::{first_change, seek_of, segment_before};
+use hesc_sinks::found::Replacement;
 use hesc_sinks::segment::Segment;
-use hesc_sinks::sink::Sink;
 
 /// A piece of a rule's text.
 #[derive(Clone, Copy)]
@@ -60,28 +60,14 @@ impl<'t, R: Rule> Pieces<'t, R> {
       ◌<◌,
       ◌*◌,
       ◌+◌,
-      ◌&&◌,
       [],
       ◌++◌,
       length,
       IfNone,
       IfSome,
-      None,
-      count_ones,
-      nat_le,
     };
-    ghost use Rattle.hesc_specs.specs.Text.Changes.{applied};
     ghost use Rattle.hesc_specs.specs.Text.Parts.{joined, parts, renewed};
-    ghost use Rattle.hesc_engine.specs.Pieces.{
-      IsAtSegment,
-      IsBeforeRest,
-      IsFoundNext,
-      TookFirst,
-      parts_left,
-      rest_bytes,
-      stretch_of,
-      segments_left,
-    };
+    ghost use Rattle.hesc_engine.specs.Pieces.{IsAtSegment, parts_left, stretch_of, segments_left};
     ghost use Rattle.hesc_sinks.specs.Text.{replacement_bytes};
 
     /// The pieces of what `rule` makes of `text`.
@@ -95,37 +81,21 @@ impl<'t, R: Rule> Pieces<'t, R> {
         ensures few { length (parts text.now 0 (R.changes_from rule.now text.now 0))
             ≤ 2 * length (R.changes_from rule.now text.now 0) + 1 }
         ensures at_segment { IsAtSegment result }
-        ensures before_rest { IsBeforeRest result }
-    {
-        Pieces::from_place(rule, text, 0, Ahead::nothing(text))
-    }
-
-    /// The pieces from `from` on, a character boundary, where something is known of the bytes ahead.
-    #[inline(always)]
-    pub(crate) fn from_place(rule: &'t R, text: &'t str, from: usize, ahead: Ahead) -> Pieces<'t, R>
-        requires boundary { IsCharBoundary text.now from }
-        requires ahead { IsAhead (R.is_sought rule.now) text.now ahead }
-        ensures pieces { parts_left result
-            ≡ parts text.now from (R.changes_from rule.now text.now from) }
-        ensures joined { joined (parts_left result)
-            ≡ applied text.now from (R.changes_from rule.now text.now from) }
-        ensures at_segment { IsAtSegment result }
-        ensures before_rest { IsBeforeRest result }
     {
         Pieces {
             rule,
             text,
-            from,
+            from: 0,
             pending: None,
             is_done: false,
-            ahead,
+            ahead: Ahead::nothing(text),
         }
     }
 
-    /// The next change and the stretch before it, or at last the stretch after all changes. `None`
-    /// where nothing is left.
+    // The next change and the stretch before it, or at last the stretch after all changes. `None`
+    // where nothing is left.
     #[inline(always)]
-    pub(crate) fn segment(&mut self) -> Option<Segment<'t>>
+    fn segment(&mut self) -> Option<Segment<'t>>
         requires { IsAtSegment self.old }
         ensures none { IfNone result ((parts_left self.old ≡ []) × (parts_left self.new ≡ [])) }
         ensures some { IfSome result (λ segment. parts_left self.old
@@ -136,107 +106,21 @@ impl<'t, R: Rule> Pieces<'t, R> {
         if self.is_done {
             return None;
         }
-        let start = self.from;
-        match self.rule.next_ahead(self.text, start, &mut self.ahead) {
-            Some(found) => Some(self.segment_before(found)),
+        let (seek, from) = (seek_of(self.rule), self.from);
+        match first_change(self.rule, seek, self.text, from, &mut self.ahead) {
+            Some(found) => {
+                self.from = found.end;
+                Some(segment_before(self.text, from, found.start, found.replacement))
+            }
             None => {
                 self.is_done = true;
                 Some(Segment {
-                    start,
-                    rest: &self.text.as_bytes()[start..],
-                    kept: &self.text[start..],
+                    start: from,
+                    rest: &self.text.as_bytes()[from..],
+                    kept: &self.text[from..],
                     new: Replacement::Borrowed(""),
                 })
             }
-        }
-    }
-
-    /// The next change and the stretch before it, or `None` where no change is left.
-    #[inline(always)]
-    pub(crate) fn change(&mut self) -> Option<Segment<'t>>
-        requires { IsBeforeRest self.old }
-        ensures none { IfNone result (joined (parts_left self.old) ≡ rest_bytes self.new) }
-        ensures some { IfSome result (λ segment. parts_left self.old
-            ≡ stretch_of segment ++ (renewed (replacement_bytes segment.new) ++ parts_left self.new)) }
-        ensures less { IfSome result (λ segment. segments_left self.new < segments_left self.old) }
-        ensures before_rest { IsBeforeRest self.new }
-    {
-        match self.rule.next_ahead(self.text, self.from, &mut self.ahead) {
-            Some(found) => Some(self.segment_before(found)),
-            None => None,
-        }
-    }
-
-    /// The place from which on the bytes ahead are known.
-    #[inline(always)]
-    pub(crate) fn known_from(&self) -> usize
-        ensures { result ≡ self.now.ahead.start }
-    {
-        self.ahead.start
-    }
-
-    /// The length of the text.
-    #[inline(always)]
-    pub(crate) fn end(&self) -> usize
-        ensures { result ≡ length self.now.text.now }
-    {
-        self.text.len()
-    }
-
-    /// Whether so many of the known bytes are looked for, and so much of the text is left, that it pays to
-    /// hand them to the sink at once: near the end of the text it takes none.
-    #[inline(always)]
-    pub(crate) fn is_dense(&self) -> bool
-        ensures { result ≡ (nat_le 4 (count_ones self.now.ahead.hits)
-            && nat_le 20 (length (rest_bytes self.now))) }
-    {
-        self.ahead.hits.count_ones() >= 4 && self.rest().len() >= 20
-    }
-
-    /// Hands the changes that are known to the sink, as many of them as it takes at once.
-    #[inline(always)]
-    pub(crate) fn put_hits<S: Sink>(&mut self, sink: &mut S)
-        requires { IsBeforeRest self.old }
-        ensures taken { TookFirst (joined (parts_left self.old)) (joined (parts_left self.new))
-            (S.taken sink.old) (S.taken sink.new) }
-        ensures failures { S.failures sink.new ≡ S.failures sink.old }
-        ensures room { S.room sink.old + length (S.taken sink.old)
-            ≤ S.room sink.new + length (S.taken sink.new) }
-        ensures same_reference { S.reference sink.new ≡ S.reference sink.old }
-        ensures same_before { S.before sink.new ≡ S.before sink.old }
-        ensures less { segments_left self.new ≤ segments_left self.old }
-        ensures before_rest { IsBeforeRest self.new }
-    {
-        let hits = self.ahead.hits_from(self.from);
-        if let Some(texts) = self.rule.texts(self.text) {
-            self.from = sink.put_hits(self.text, self.from, hits, texts);
-        }
-    }
-
-    /// The stretch after all changes.
-    #[inline(always)]
-    pub(crate) fn rest(&self) -> &'t str
-        ensures { result.now ≡ rest_bytes self.now }
-    {
-        &self.text[self.from..]
-    }
-
-    /// The next change, which was found, and the stretch before it.
-    #[inline(always)]
-    fn segment_before(&mut self, found: Found<'t>) -> Segment<'t>
-        requires { IsFoundNext self.old found }
-        ensures parts { parts_left self.old
-            ≡ stretch_of result ++ (renewed (replacement_bytes result.new) ++ parts_left self.new) }
-        ensures less { segments_left self.new < segments_left self.old }
-        ensures before_rest { IsBeforeRest self.new }
-    {
-        let start = self.from;
-        self.from = found.end;
-        Segment {
-            start,
-            rest: &self.text.as_bytes()[start..],
-            kept: &self.text[start..found.start],
-            new: found.replacement,
         }
     }
 }

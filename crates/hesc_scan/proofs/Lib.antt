@@ -1,6 +1,5 @@
 pub mod ChunkSearch
 pub mod Classes
-pub mod EscapeSearch
 pub mod FoundBytes
 pub mod KeptLanes
 pub mod LaneLemmas

@@ -5,8 +5,6 @@ use Rattle.std.proofs.lemmas.Bool.{cases_lt, eqb-true}
 use Rattle.std.proofs.lemmas.List.{drop_more}
 use Rattle.hesc_specs.specs.Text.Ascii.{less_than}
 use Rattle.hesc_specs.specs.Text.FirstPlace.{IsFirstPlace}
-use Rattle.hesc_specs.specs.Bodies.Openings.{is_opening, is_escaped_opening}
-use Rattle.hesc_specs.specs.declared.elements.Element.{Element}
 
 -- the test passes at no place from one up to another
 abbrev pub Nowhere : (List ℕ → Bool) → List ℕ → ℕ → ℕ → Type 0
@@ -15,13 +13,6 @@ Nowhere begins bytes from place = (k : ℕ) → from ≤ k → k < place → beg
 -- what begins with another byte than `<` does not pass
 abbrev pub NeedsLessThan : (List ℕ → Bool) → Type 0
 NeedsLessThan begins = (b : ℕ) (bytes : List ℕ) → (b == less_than) ≡ false → begins (b ∷ bytes) ≡ false
-
-pub is_opening-needs : (element : Element) → NeedsLessThan (is_opening element)
-is_opening-needs element b bytes other = rw other refl
-
-pub is_escaped_opening-needs : (element : Element) → NeedsLessThan (is_escaped_opening element)
-is_escaped_opening-needs element b [] other = refl
-is_escaped_opening-needs element b (c ∷ bytes) other = rw other refl
 
 -- a place whose byte is `<`
 pub at_less_than : (bytes : List ℕ) (place : ℕ) → place < length bytes → (slice_index bytes place == less_than) ≡ true → drop place bytes ≡ less_than ∷ drop (place + 1) bytes

@@ -45,6 +45,9 @@ pub fn first_byte_block(byte: u8, bytes: &[u8], from: usize) -> (usize, u64)
     if mask != 0 {
         return (from, mask);
     }
+    if bytes.len() - from <= 64 {
+        return last_byte_block(byte, bytes, from + 32);
+    }
     later_byte_block(byte, bytes, from + 32)
 }
 
@@ -54,9 +57,6 @@ fn later_byte_block(byte: u8, bytes: &[u8], from: usize) -> (usize, u64)
     requires { from ≤ length bytes.now }
     ensures { IsFirstBlock (is_byte byte) bytes.now from result.0 result.1 }
 {
-    if bytes.len() - from <= 32 {
-        return last_byte_block(byte, bytes, from);
-    }
     let lookup = OneByte(byte);
     let near = from + (bytes.len() - from).min(NEAR);
     let (reached, mask) = first_by_pairs(&lookup, bytes, from, near);
@@ -117,6 +117,9 @@ fn mask_of_rest(byte: u8, bytes: &[u8], place: usize) -> u64
     if bytes.len() - place >= 16 {
         return mask_of_halves(byte, bytes, place);
     }
+    if bytes.len() >= 16 {
+        return mask_of_last(byte, bytes, place);
+    }
     block_hits_of_one(byte, &Block::rest(bytes, place))
 }
 
@@ -131,4 +134,16 @@ fn mask_of_halves(byte: u8, bytes: &[u8], place: usize) -> u64
     let skip = last - place;
     let front = half_hits_of_one(byte, bytes, place) & ((1 << skip) - 1);
     (half_hits_of_one(byte, bytes, last) << skip) | front
+}
+
+// The mask of the last 16 bytes, without those before `place`.
+#[inline(always)]
+fn mask_of_last(byte: u8, bytes: &[u8], place: usize) -> u64
+    requires long { 16 ≤ length bytes.now }
+    requires within { place ≤ length bytes.now }
+    requires few { length bytes.now ≤ place + 16 }
+    ensures { result ≡ mask_from (is_byte byte) bytes.now place }
+{
+    let start = bytes.len() - 16;
+    half_hits_of_one(byte, bytes, start) >> (place - start)
 }

@@ -1,71 +1,17 @@
-//! The search for the next opening of a body: `<!--`, or `</` and the element's name where it ends.
-ghost use Rattle.std.specs.Prelude.{◌≡◌, ◌≤◌, ◌∷◌, length};
-ghost use Rattle.hesc_specs.specs.Text.Ascii.{less_than};
+//! The openings of a body: `<!--`, or `</` and the element's name where it ends.
+ghost use Rattle.std.specs.Prelude.{◌≡◌};
 ghost use Rattle.hesc_specs.specs.Text.Elements.{element_name};
-ghost use Rattle.hesc_specs.specs.Text.FirstPlace.{IsFirstAt};
-ghost use Rattle.hesc_specs.specs.Bodies.Openings.{
-  completes_opening as completes,
-  ends_name as ends,
-  is_escaped_opening,
-  opens_at,
-  opens_escaped_at,
-};
+ghost use Rattle.hesc_specs.specs.Bodies.Openings.{completes_opening, ends_name};
 ghost use Rattle.hesc_specs.specs.Text.Words.{begins_in_any_case};
 
-use crate::find::first_byte;
 use hesc_specs::Element;
 
-/// The least place at or after `from` at which an opening begins, or the length where there is
-/// none.
+/// Whether the bytes right after a `<` complete an opening.
 ///
-/// `first_opening(Element::Script, b"a</b></script>", 0)` is 5.
+/// `completes_opening(Element::Script, b"/script>")`, and not `completes_opening(Element::Script, b"/b>")`.
 #[inline(always)]
-pub fn first_opening(element: Element, bytes: &[u8], from: usize) -> usize
-    requires { from ≤ length bytes.now }
-    ensures { IsFirstAt (opens_at element bytes.now) from (length bytes.now) result }
-{
-    let mut place = first_byte(b'<', bytes, from);
-    'seeking: while place < bytes.len() {
-        if completes_opening(element, &bytes[place + 1..]) {
-            return place;
-        }
-        place = first_byte(b'<', bytes, place + 1);
-    }
-    place
-}
-
-/// The least place at or after `from` at which an escaped opening begins, or the length where
-/// there is none.
-///
-/// `first_escaped_opening(Element::Script, b"<!--<\\!--", 0)` is 4.
-#[inline(always)]
-pub fn first_escaped_opening(element: Element, bytes: &[u8], from: usize) -> usize
-    requires { from ≤ length bytes.now }
-    ensures { IsFirstAt (opens_escaped_at element bytes.now) from (length bytes.now) result }
-{
-    let mut place = first_byte(b'<', bytes, from);
-    'seeking: while place < bytes.len() {
-        if completes_escaped_opening(element, &bytes[place + 1..]) {
-            return place;
-        }
-        place = first_byte(b'<', bytes, place + 1);
-    }
-    place
-}
-
-#[inline(always)]
-fn completes_escaped_opening(element: Element, rest: &[u8]) -> bool
-    ensures { result ≡ is_escaped_opening element (less_than ∷ rest.now) }
-{
-    match rest {
-        [b'\\', after @ ..] => completes_opening(element, after),
-        _ => false,
-    }
-}
-
-#[inline(always)]
-fn completes_opening(element: Element, rest: &[u8]) -> bool
-    ensures { result ≡ completes element rest.now }
+pub fn completes_opening(element: Element, rest: &[u8]) -> bool
+    ensures { result ≡ completes_opening element rest.now }
 {
     match rest {
         [b'!', b'-', b'-', ..] => true,
@@ -78,7 +24,7 @@ fn completes_opening(element: Element, rest: &[u8]) -> bool
 ///
 /// `is_named(Element::Script, b"SCRIPT>")`, and not `is_named(Element::Script, b"scripts>")`.
 pub fn is_named(element: Element, tag: &[u8]) -> bool
-    ensures { result ≡ begins_in_any_case (element_name element) ends tag.now }
+    ensures { result ≡ begins_in_any_case (element_name element) ends_name tag.now }
 {
     let name = name_of(element);
     for (i, letter) in name.iter().enumerate() {
@@ -91,7 +37,7 @@ pub fn is_named(element: Element, tag: &[u8]) -> bool
 }
 
 fn ends_name(rest: &[u8]) -> bool
-    ensures { result ≡ ends rest.now }
+    ensures { result ≡ ends_name rest.now }
 {
     match rest {
         [] => true,

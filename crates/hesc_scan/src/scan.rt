@@ -1,11 +1,8 @@
-//! The search for the next place at which an encoder may change something, and at which it does.
+//! The search for the next place at which an encoder may change something.
 ghost use Rattle.std.specs.Prelude.{◌≡◌, ◌≢◌, ◌≤◌, length};
 ghost use Rattle.hesc_specs.specs.Text.Classes.{in_class};
-ghost use Rattle.hesc_specs.specs.Text.EscapedPlaces.{
-  completes_separator as completes,
-  escapes_at,
-};
-ghost use Rattle.hesc_specs.specs.Text.FirstPlace.{IsFirstAt, IsFirstPlace};
+ghost use Rattle.hesc_specs.specs.Text.EscapedPlaces.{completes_separator};
+ghost use Rattle.hesc_specs.specs.Text.FirstPlace.{IsFirstPlace};
 ghost use Rattle.hesc_scan.specs.Blocks.{IsFirstBlock, IsPassed, mask_from};
 
 use crate::block::Block;
@@ -146,44 +143,12 @@ pub(crate) fn first_by_chunks<L: Lookup>(lookup: &L, bytes: &[u8], from: usize) 
     (place, mask)
 }
 
-/// The least place at or after `from` where something begins that the encoder of the class
-/// replaces, or the length where there is none.
-///
-/// `first_escaped(Class::ScriptQuoted, "\u{20AC}'".as_bytes(), 0)` is 3: U+20AC begins with E2 too,
-/// and stays.
-#[inline(always)]
-pub fn first_escaped(class: Class, bytes: &[u8], from: usize) -> usize
-    requires { from ≤ length bytes.now }
-    ensures { IsFirstAt (escapes_at class bytes.now) from (length bytes.now) result }
-{
-    // Where much is replaced, the first byte often is.
-    if from < bytes.len() && is_in(class, bytes[from]) && bytes[from] != 0xE2 {
-        return from;
-    }
-    first_escaped_in(class, bytes, from)
-}
-
-#[inline(never)]
-fn first_escaped_in(class: Class, bytes: &[u8], from: usize) -> usize
-    requires { from ≤ length bytes.now }
-    ensures { IsFirstAt (escapes_at class bytes.now) from (length bytes.now) result }
-{
-    let mut place = first_by_blocks(class, bytes, from);
-    'seeking: while place < bytes.len() {
-        if bytes[place] != 0xE2 || completes_separator(&bytes[place + 1..]) {
-            return place;
-        }
-        place = first_by_blocks(class, bytes, place + 1);
-    }
-    place
-}
-
 /// Whether the bytes after an E2 make a separator of it.
 ///
 /// `completes_separator(&[0x80, 0xA8])`, and not `completes_separator(&[0x82, 0xAC])`.
 #[inline(always)]
 pub fn completes_separator(rest: &[u8]) -> bool
-    ensures { result ≡ completes rest.now }
+    ensures { result ≡ completes_separator rest.now }
 {
     matches!(rest, [0x80, 0xA8 | 0xA9, ..])
 }

@@ -10,3 +10,4 @@ pub mod Same
 pub mod Decided
 pub mod Steps
 pub mod DecidedChanges
+pub mod Dropped

@@ -4,3 +4,4 @@ pub mod Decoded
 pub mod Next
 pub mod Undone
 pub mod Tables
+pub mod Places

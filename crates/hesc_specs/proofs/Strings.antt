@@ -8,3 +8,4 @@ pub mod EncodingChanges
 pub mod EscapeEnds
 pub mod Numbers
 pub mod Undone
+pub mod Places

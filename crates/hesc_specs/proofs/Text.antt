@@ -7,3 +7,4 @@ pub mod Parts
 pub mod SliceRanges
 pub mod SomeImages
 pub mod UnescapeChanges
+pub mod EachPlace

@@ -1,4 +1,5 @@
 mod DecidedBound
+mod DecidedPlaces
 mod DecoderBounds
 pub mod EncoderBounds
 pub mod Sessions

@@ -1,9 +1,7 @@
 -- What each decoder reads from a text, and where it changes it.
-use Rattle.std.specs.Prelude.{◌≡◌, ℕ, Bool, false, List}
-use Rattle.memchr.specs.Find.{is_byte}
+use Rattle.std.specs.Prelude.{◌≡◌, ℕ, List}
 use Rattle.hesc_specs.specs.Bodies.Encoding.{body_decoding}
 use Rattle.hesc_specs.specs.Bodies.Changes.{body_decoding_changes}
-use Rattle.hesc_specs.specs.Text.Ascii.{ampersand, backslash}
 use Rattle.hesc_specs.specs.Text.Changes.{Change, applied}
 use Rattle.hesc_specs.specs.References.Changes.{reference_changes}
 use Rattle.hesc_specs.specs.References.Decoding.{decoded}
@@ -41,17 +39,6 @@ decoder_changes ScriptQuoted = string_decoding_changes element.Script quotes.Bot
 decoder_changes StyleSingleQuoted = string_decoding_changes element.Style quotes.Single
 decoder_changes StyleDoubleQuoted = string_decoding_changes element.Style quotes.Double
 decoder_changes StyleQuoted = string_decoding_changes element.Style quotes.Both
-
--- the bytes that a decoder looks for by masks
-abbrev pub decoder_sought : Decoder → ℕ → Bool
-decoder_sought HtmlEntities = is_byte ampersand
-decoder_sought ScriptSingleQuoted = is_byte backslash
-decoder_sought ScriptDoubleQuoted = is_byte backslash
-decoder_sought ScriptQuoted = is_byte backslash
-decoder_sought StyleSingleQuoted = is_byte backslash
-decoder_sought StyleDoubleQuoted = is_byte backslash
-decoder_sought StyleQuoted = is_byte backslash
-decoder_sought other = λ byte. false
 
 -- a decoder's changes, made, are what it reads
 pub applied-decoder_changes : (decoder : Decoder) (source : List ℕ) → applied source 0 (decoder_changes decoder source 0) ≡ decoder_text decoder source

@@ -1,10 +1,9 @@
 -- What each encoder writes for a text, and where it changes it.
-use Rattle.std.specs.Prelude.{◌≡◌, ℕ, Bool, false, List}
+use Rattle.std.specs.Prelude.{◌≡◌, ℕ, List}
 use Rattle.std.specs.Str.{IsUtf8}
 use Rattle.hesc_specs.specs.Bodies.Encoding.{body_encoding}
 use Rattle.hesc_specs.specs.Bodies.Changes.{body_encoding_changes}
 use Rattle.hesc_specs.specs.Text.Changes.{Change, applied, html_changes}
-use Rattle.hesc_specs.specs.Text.Classes.{in_class}
 use Rattle.hesc_specs.specs.Html.{encoding}
 use Rattle.hesc_specs.specs.Strings.Changes.{string_encoding_changes}
 use Rattle.hesc_specs.specs.Strings.Encoding.{string_encoding}
@@ -52,23 +51,6 @@ encoder_changes ScriptQuoted = string_encoding_changes element.Script quotes.Bot
 encoder_changes StyleSingleQuoted = string_encoding_changes element.Style quotes.Single
 encoder_changes StyleDoubleQuoted = string_encoding_changes element.Style quotes.Double
 encoder_changes StyleQuoted = string_encoding_changes element.Style quotes.Both
-
--- the bytes that an encoder looks for by masks
-abbrev pub encoder_sought : Encoder → ℕ → Bool
-encoder_sought TextMinimal = in_class class.TextMinimal
-encoder_sought Text = in_class class.Text
-encoder_sought DoubleQuotedAttribute = in_class class.DoubleQuotedAttribute
-encoder_sought SingleQuotedAttribute = in_class class.SingleQuotedAttribute
-encoder_sought QuotedAttribute = in_class class.QuotedAttribute
-encoder_sought Safe = in_class class.Safe
-encoder_sought UnquotedAttribute = in_class class.UnquotedAttribute
-encoder_sought ScriptSingleQuoted = in_class class.ScriptSingleQuoted
-encoder_sought ScriptDoubleQuoted = in_class class.ScriptDoubleQuoted
-encoder_sought ScriptQuoted = in_class class.ScriptQuoted
-encoder_sought StyleSingleQuoted = in_class class.StyleSingleQuoted
-encoder_sought StyleDoubleQuoted = in_class class.StyleDoubleQuoted
-encoder_sought StyleQuoted = in_class class.StyleQuoted
-encoder_sought other = λ byte. false
 
 -- an encoder's changes, made, are what it writes
 pub applied-encoder_changes : (encoder : Encoder) (source : List ℕ) → IsUtf8 source → applied source 0 (encoder_changes encoder source 0) ≡ encoded encoder source

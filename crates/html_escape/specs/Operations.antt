@@ -1,11 +1,14 @@
 -- What an operation makes of a text, and where it changes it.
-use Rattle.std.specs.Prelude.{◌≡◌, ℕ, Bool, List}
+use Rattle.std.specs.Prelude.{◌≡◌, ℕ, Bool, List, []}
 use Rattle.std.specs.Str.{IsUtf8}
 use Rattle.hesc_specs.specs.Text.Changes.{Change, applied}
+use Rattle.hesc_engine.specs.AsciiRows.{Rows}
 use Rattle.html_escape.specs.declared.operation.Operation.{Operation}
 use Rattle.html_escape.specs.declared.operation.Operation.TheVariants.{Encode, Decode}
-use Rattle.html_escape.specs.Decoders.{decoder_text, decoder_changes, decoder_sought, applied-decoder_changes}
-use Rattle.html_escape.specs.Encoders.{encoded, encoder_changes, encoder_sought, applied-encoder_changes}
+use Rattle.html_escape.specs.Decoders.{decoder_text, decoder_changes, applied-decoder_changes}
+use Rattle.html_escape.specs.Encoders.{encoded, encoder_changes, applied-encoder_changes}
+use Rattle.html_escape.specs.Replaced.{replaced_of, replaced_rows, replaced_sought, replaces_at}
+use Rattle.html_escape.specs.Restored.{restored_of, restored_sought, restores_at}
 
 abbrev pub operation_text : Operation → List ℕ → List ℕ
 operation_text (Encode encoder) = encoded encoder
@@ -16,10 +19,19 @@ abbrev pub operation_changes : Operation → List ℕ → ℕ → List Change
 operation_changes (Encode encoder) = encoder_changes encoder
 operation_changes (Decode decoder) = decoder_changes decoder
 
--- the bytes that an operation looks for by masks
+-- a change begins at a place, at a byte that is sought
+abbrev pub operates_at : Operation → List ℕ → ℕ → Bool
+operates_at (Encode encoder) = replaces_at (replaced_of encoder)
+operates_at (Decode decoder) = restores_at (restored_of decoder)
+
 abbrev pub operation_sought : Operation → ℕ → Bool
-operation_sought (Encode encoder) = encoder_sought encoder
-operation_sought (Decode decoder) = decoder_sought decoder
+operation_sought (Encode encoder) = replaced_sought (replaced_of encoder)
+operation_sought (Decode decoder) = restored_sought (restored_of decoder)
+
+-- the texts of bytes
+abbrev pub operation_rows : Operation → Rows
+operation_rows (Encode encoder) = replaced_rows (replaced_of encoder)
+operation_rows (Decode decoder) = []
 
 -- an operation's changes, made, are its text
 pub applied-operation_changes : (operation : Operation) (source : List ℕ) → IsUtf8 source → applied source 0 (operation_changes operation source 0) ≡ operation_text operation source

@@ -1,22 +1,20 @@
 //! The decoders by name.
 ghost use Rattle.std.specs.Prelude.{◌≡◌, [], IfNone, IfSome};
 ghost use Rattle.std.specs.Str.{IsCharBoundary};
-ghost use Rattle.hesc_engine.specs.Ahead.{IsAhead};
 ghost use Rattle.hesc_engine.specs.Next.{IsNext};
-ghost use Rattle.html_escape.specs.Decoders.{
-  applied-decoder_changes,
-  decoder_changes,
-  decoder_sought,
-  decoder_text,
+ghost use Rattle.html_escape.specs.Decoders.{applied-decoder_changes, decoder_changes, decoder_text};
+ghost use Rattle.html_escape.specs.Restored.{
+  restored_changes,
+  restored_of,
+  restored_sought,
+  restores_at,
 };
-ghost use Rattle.html_escape.specs.Restored.{restored_changes, restored_sought};
 
-use hesc_core::rules::references::next_references_ahead;
-use hesc_core::rules::unescape::next_unescape_ahead;
-use hesc_core::rules::{DecodeScript, DecodeStyle, References, Unescape, next_body_unescape};
-use hesc_core::{Class, Element, EntityTable, Found, Rule, Sink};
-use hesc_engine::ahead::Ahead;
-use hesc_engine::engine::run_from;
+use hesc_core::rules::{
+    DecodeBody, References, Unescape, body_unescape_at, reference_at, unescape_at,
+};
+use hesc_core::{Class, Element, EntityTable, Found, Rule, Seek};
+use hesc_engine::search::change_from;
 
 /// A decoder by its name.
 #[derive(Clone, Copy, Debug, PartialEq, Eq)]
@@ -46,42 +44,33 @@ impl Rule for Decoder {
 
     ghost made = { decoder_text };
 
-    ghost is_sought = { decoder_sought };
+    ghost begins_at = { λ decoder. restores_at (restored_of decoder) };
+
+    ghost is_sought = { λ decoder. restored_sought (restored_of decoder) };
+
+    ghost rows = { λ decoder. [] };
 
     #[inline(always)]
-    fn next(&self, text: &str, from: usize) -> Option<Found<'_>> {
-        next_decoded(*self, text, from)
+    fn seeks(&self) -> Seek {
+        match restored_by(*self) {
+            Restored::References => References(&EntityTable::built_in()).seeks(),
+            Restored::Openings(element) => DecodeBody(element).seeks(),
+            Restored::Characters(class) => Unescape(class).seeks(),
+        }
     }
 
     #[inline(always)]
-    fn next_ahead(&self, text: &str, from: usize, ahead: &mut Ahead) -> Option<Found<'_>> {
-        next_decoded_ahead(*self, text, from, ahead)
-    }
-
-    #[inline(always)]
-    fn dispatch<S: Sink>(
-        &self,
-        text: &str,
-        from: usize,
-        ahead: Ahead,
-        sink: &mut S,
-    ) -> Option<Result<(), S::Fault>> {
-        Some(match restored_by(*self) {
-            Restored::References => {
-                let table = EntityTable::built_in();
-                run_from(&References(&table), text, from, ahead, sink)
-            }
-            Restored::Openings(Element::Script) => {
-                run_from(&DecodeScript, text, from, ahead, sink)
-            }
-            Restored::Openings(Element::Style) => run_from(&DecodeStyle, text, from, ahead, sink),
-            Restored::Characters(class) => run_from(&Unescape(class), text, from, ahead, sink),
-        })
+    fn change_at(&self, text: &str, place: usize) -> Option<Found<'_>> {
+        match restored_by(*self) {
+            Restored::References => reference_at(&EntityTable::built_in(), text, place),
+            Restored::Openings(element) => body_unescape_at(element, text, place),
+            Restored::Characters(class) => unescape_at(class, text, place),
+        }
     }
 
     /// The source's length: no decoder lengthens a text.
     #[inline(always)]
-    fn bound(&self, text: &str) -> Option<usize> {
+    fn longest(&self, text: &str) -> Option<usize> {
         Some(text.len())
     }
 
@@ -99,8 +88,8 @@ enum Restored {
 
 // What the decoder restores.
 fn restored_by(decoder: Decoder) -> Restored
+    ensures is { result ≡ restored_of decoder }
     ensures changes { decoder_changes decoder ≡ restored_changes result }
-    ensures sought { decoder_sought decoder ≡ restored_sought result }
 {
     match decoder {
         Decoder::HtmlEntities => Restored::References,
@@ -124,26 +113,22 @@ pub fn next_decoded(decoder: Decoder, text: &str, from: usize) -> Option<Found<'
     ensures none { IfNone result (decoder_changes decoder text.now from ≡ []) }
     ensures found { IfSome result (IsNext text.now from (decoder_changes decoder text.now)) }
 {
-    let mut ahead = Ahead::nothing(text);
-    next_decoded_ahead(decoder, text, from, &mut ahead)
+    change_from(constant(decoder), text, from)
 }
 
-/// The same, by what is known of the bytes ahead, which stays true.
-fn next_decoded_ahead(
-    decoder: Decoder,
-    text: &str,
-    from: usize,
-    ahead: &mut Ahead,
-) -> Option<Found<'static>>
-    requires boundary { IsCharBoundary text.now from }
-    requires ahead { IsAhead (decoder_sought decoder) text.now ahead.old }
-    ensures none { IfNone result (decoder_changes decoder text.now from ≡ []) }
-    ensures found { IfSome result (IsNext text.now from (decoder_changes decoder text.now)) }
-    ensures ahead { IsAhead (decoder_sought decoder) text.now ahead.new }
+// The decoder as a constant, so that what is found outlives the call.
+fn constant(decoder: Decoder) -> &'static Decoder
+    ensures { result.now ≡ decoder }
 {
-    match restored_by(decoder) {
-        Restored::References => next_references_ahead(&EntityTable::built_in(), text, from, ahead),
-        Restored::Openings(element) => next_body_unescape(element, text, from),
-        Restored::Characters(class) => next_unescape_ahead(class, text, from, ahead),
+    match decoder {
+        Decoder::HtmlEntities => &Decoder::HtmlEntities,
+        Decoder::Script => &Decoder::Script,
+        Decoder::Style => &Decoder::Style,
+        Decoder::ScriptSingleQuoted => &Decoder::ScriptSingleQuoted,
+        Decoder::ScriptDoubleQuoted => &Decoder::ScriptDoubleQuoted,
+        Decoder::ScriptQuoted => &Decoder::ScriptQuoted,
+        Decoder::StyleSingleQuoted => &Decoder::StyleSingleQuoted,
+        Decoder::StyleDoubleQuoted => &Decoder::StyleDoubleQuoted,
+        Decoder::StyleQuoted => &Decoder::StyleQuoted,
     }
 }

@@ -1,22 +1,20 @@
 //! The encoders by name.
 ghost use Rattle.std.specs.Prelude.{◌≡◌, [], IfNone, IfSome};
 ghost use Rattle.std.specs.Str.{IsCharBoundary};
-ghost use Rattle.hesc_engine.specs.Ahead.{IsAhead};
 ghost use Rattle.hesc_engine.specs.Next.{IsNext};
-ghost use Rattle.html_escape.specs.Encoders.{
-  applied-encoder_changes,
-  encoded,
-  encoder_changes,
-  encoder_sought,
+ghost use Rattle.html_escape.specs.Encoders.{applied-encoder_changes, encoded, encoder_changes};
+ghost use Rattle.html_escape.specs.Replaced.{
+  replaced_changes,
+  replaced_of,
+  replaced_rows,
+  replaced_sought,
+  replaced_text,
+  replaces_at,
 };
-ghost use Rattle.html_escape.specs.Replaced.{replaced_changes, replaced_sought, replaced_text};
 
-use hesc_core::rules::escape::next_escape_ahead;
-use hesc_core::rules::{EncodeScript, EncodeStyle, Escape, next_body_escape};
-use hesc_core::{Class, Element, Found, Rule, Sink};
-use hesc_engine::ahead::Ahead;
-use hesc_engine::engine::run_from;
-use hesc_scan::length::{body_bound, longest_body};
+use hesc_core::rules::{EncodeBody, Escape, body_escape_at, escape_at};
+use hesc_core::{Class, Element, Found, Length, Rule, Seek};
+use hesc_engine::search::change_from;
 
 /// An encoder by its name.
 #[derive(Clone, Copy, Debug, PartialEq, Eq)]
@@ -58,49 +56,33 @@ impl Rule for Encoder {
 
     ghost made = { encoded };
 
-    ghost is_sought = { encoder_sought };
+    ghost begins_at = { λ encoder. replaces_at (replaced_of encoder) };
+
+    ghost is_sought = { λ encoder. replaced_sought (replaced_of encoder) };
+
+    ghost rows = { λ encoder. replaced_rows (replaced_of encoder) };
 
     #[inline(always)]
-    fn next(&self, text: &str, from: usize) -> Option<Found<'_>> {
-        next_encoded(*self, text, from)
-    }
-
-    #[inline(always)]
-    fn next_ahead(&self, text: &str, from: usize, ahead: &mut Ahead) -> Option<Found<'_>> {
-        next_encoded_ahead(*self, text, from, ahead)
-    }
-
-    #[inline(always)]
-    fn dispatch<S: Sink>(
-        &self,
-        text: &str,
-        from: usize,
-        ahead: Ahead,
-        sink: &mut S,
-    ) -> Option<Result<(), S::Fault>> {
-        Some(match replaced_by(*self) {
-            Replaced::Characters(class) => run_from(&Escape(class), text, from, ahead, sink),
-            Replaced::Openings(Element::Script) => {
-                run_from(&EncodeScript, text, from, ahead, sink)
-            }
-            Replaced::Openings(Element::Style) => run_from(&EncodeStyle, text, from, ahead, sink),
-        })
-    }
-
-    // That of the rule that the name stands for.
-    #[inline(always)]
-    fn total(&self, text: &str) -> Option<usize> {
+    fn seeks(&self) -> Seek {
         match replaced_by(*self) {
-            Replaced::Characters(class) => Escape(class).total(text),
-            Replaced::Openings(_) => self.total_by_changes(text),
+            Replaced::Characters(class) => Escape(class).seeks(),
+            Replaced::Openings(element) => EncodeBody(element).seeks(),
         }
     }
 
     #[inline(always)]
-    fn bound(&self, text: &str) -> Option<usize> {
+    fn change_at(&self, text: &str, place: usize) -> Option<Found<'_>> {
         match replaced_by(*self) {
-            Replaced::Characters(class) => Escape(class).bound(text),
-            Replaced::Openings(_) => body_bound(text.as_bytes()),
+            Replaced::Characters(class) => escape_at(class, text, place),
+            Replaced::Openings(element) => body_escape_at(element, text, place),
+        }
+    }
+
+    #[inline(always)]
+    fn length(&self, text: &str) -> Length {
+        match replaced_by(*self) {
+            Replaced::Characters(class) => Escape(class).length(text),
+            Replaced::Openings(element) => EncodeBody(element).length(text),
         }
     }
 
@@ -108,7 +90,7 @@ impl Rule for Encoder {
     fn longest(&self, text: &str) -> Option<usize> {
         match replaced_by(*self) {
             Replaced::Characters(class) => Escape(class).longest(text),
-            Replaced::Openings(_) => longest_body(text.as_bytes()),
+            Replaced::Openings(element) => EncodeBody(element).longest(text),
         }
     }
 
@@ -124,9 +106,9 @@ enum Replaced {
 
 // What the encoder replaces.
 fn replaced_by(encoder: Encoder) -> Replaced
+    ensures is { result ≡ replaced_of encoder }
     ensures text { encoded encoder ≡ replaced_text result }
     ensures changes { encoder_changes encoder ≡ replaced_changes result }
-    ensures sought { encoder_sought encoder ≡ replaced_sought result }
 {
     match encoder {
         Encoder::TextMinimal => Replaced::Characters(Class::TextMinimal),
@@ -155,25 +137,28 @@ pub fn next_encoded(encoder: Encoder, text: &str, from: usize) -> Option<Found<'
     ensures none { IfNone result (encoder_changes encoder text.now from ≡ []) }
     ensures found { IfSome result (IsNext text.now from (encoder_changes encoder text.now)) }
 {
-    let mut ahead = Ahead::nothing(text);
-    next_encoded_ahead(encoder, text, from, &mut ahead)
+    change_from(constant(encoder), text, from)
 }
 
-/// The same, by what is known of the bytes ahead, which stays true.
-fn next_encoded_ahead(
-    encoder: Encoder,
-    text: &str,
-    from: usize,
-    ahead: &mut Ahead,
-) -> Option<Found<'static>>
-    requires boundary { IsCharBoundary text.now from }
-    requires ahead { IsAhead (encoder_sought encoder) text.now ahead.old }
-    ensures none { IfNone result (encoder_changes encoder text.now from ≡ []) }
-    ensures found { IfSome result (IsNext text.now from (encoder_changes encoder text.now)) }
-    ensures ahead { IsAhead (encoder_sought encoder) text.now ahead.new }
+// The encoder as a constant, so that what is found outlives the call.
+fn constant(encoder: Encoder) -> &'static Encoder
+    ensures { result.now ≡ encoder }
 {
-    match replaced_by(encoder) {
-        Replaced::Characters(class) => next_escape_ahead(class, text, from, ahead),
-        Replaced::Openings(element) => next_body_escape(element, text, from),
+    match encoder {
+        Encoder::TextMinimal => &Encoder::TextMinimal,
+        Encoder::Text => &Encoder::Text,
+        Encoder::DoubleQuotedAttribute => &Encoder::DoubleQuotedAttribute,
+        Encoder::SingleQuotedAttribute => &Encoder::SingleQuotedAttribute,
+        Encoder::QuotedAttribute => &Encoder::QuotedAttribute,
+        Encoder::Safe => &Encoder::Safe,
+        Encoder::UnquotedAttribute => &Encoder::UnquotedAttribute,
+        Encoder::Script => &Encoder::Script,
+        Encoder::Style => &Encoder::Style,
+        Encoder::ScriptSingleQuoted => &Encoder::ScriptSingleQuoted,
+        Encoder::ScriptDoubleQuoted => &Encoder::ScriptDoubleQuoted,
+        Encoder::ScriptQuoted => &Encoder::ScriptQuoted,
+        Encoder::StyleSingleQuoted => &Encoder::StyleSingleQuoted,
+        Encoder::StyleDoubleQuoted => &Encoder::StyleDoubleQuoted,
+        Encoder::StyleQuoted => &Encoder::StyleQuoted,
     }
 }

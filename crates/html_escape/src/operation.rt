@@ -4,16 +4,16 @@ ghost use Rattle.hesc_specs.specs.Text.Parts.{joined, parts};
 ghost use Rattle.hesc_engine.specs.Pieces.{parts_left};
 ghost use Rattle.html_escape.specs.Operations.{
   applied-operation_changes,
+  operates_at,
   operation_changes,
+  operation_rows,
   operation_sought,
   operation_text,
 };
 
-use crate::decoder::{Decoder, next_decoded};
-use crate::encoder::{Encoder, next_encoded};
-use hesc_core::{Found, Pieces, Rule, Sink};
-use hesc_engine::ahead::Ahead;
-use hesc_engine::engine::run_from;
+use crate::decoder::Decoder;
+use crate::encoder::Encoder;
+use hesc_core::{Found, Length, Pieces, Rule, Seek};
 
 /// An operation: an encoder or a decoder. References are decoded by the built-in table.
 #[derive(Clone, Copy, Debug, PartialEq, Eq)]
@@ -27,57 +27,39 @@ impl Rule for Operation {
 
     ghost made = { operation_text };
 
+    ghost begins_at = { operates_at };
+
     ghost is_sought = { operation_sought };
 
-    #[inline(always)]
-    fn next(&self, text: &str, from: usize) -> Option<Found<'_>> {
-        match *self {
-            Operation::Encode(encoder) => next_encoded(encoder, text, from),
-            Operation::Decode(decoder) => next_decoded(decoder, text, from),
-        }
-    }
+    ghost rows = { operation_rows };
 
     #[inline(always)]
-    fn next_ahead(&self, text: &str, from: usize, ahead: &mut Ahead) -> Option<Found<'_>> {
+    fn seeks(&self) -> Seek {
         match self {
-            Operation::Encode(encoder) => encoder.next_ahead(text, from, ahead),
-            Operation::Decode(decoder) => decoder.next_ahead(text, from, ahead),
+            Operation::Encode(encoder) => encoder.seeks(),
+            Operation::Decode(decoder) => decoder.seeks(),
         }
     }
 
     #[inline(always)]
-    fn dispatch<S: Sink>(
-        &self,
-        text: &str,
-        from: usize,
-        ahead: Ahead,
-        sink: &mut S,
-    ) -> Option<Result<(), S::Fault>> {
-        Some(match self {
-            Operation::Encode(encoder) => run_from(encoder, text, from, ahead, sink),
-            Operation::Decode(decoder) => run_from(decoder, text, from, ahead, sink),
-        })
-    }
-
-    #[inline(always)]
-    fn total(&self, text: &str) -> Option<usize> {
-        match *self {
-            Operation::Encode(encoder) => encoder.total(text),
-            Operation::Decode(decoder) => decoder.total(text),
+    fn change_at(&self, text: &str, place: usize) -> Option<Found<'_>> {
+        match self {
+            Operation::Encode(encoder) => encoder.change_at(text, place),
+            Operation::Decode(decoder) => decoder.change_at(text, place),
         }
     }
 
     #[inline(always)]
-    fn bound(&self, text: &str) -> Option<usize> {
-        match *self {
-            Operation::Encode(encoder) => encoder.bound(text),
-            Operation::Decode(decoder) => decoder.bound(text),
+    fn length(&self, text: &str) -> Length {
+        match self {
+            Operation::Encode(encoder) => encoder.length(text),
+            Operation::Decode(decoder) => decoder.length(text),
         }
     }
 
     #[inline(always)]
     fn longest(&self, text: &str) -> Option<usize> {
-        match *self {
+        match self {
             Operation::Encode(encoder) => encoder.longest(text),
             Operation::Decode(decoder) => decoder.longest(text),
         }

@@ -1,8 +1,7 @@
 //! A page's own markup, written to a writer.
 ghost use Rattle.hesc_engine.specs.Forms.{WritesText};
 
-use hesc_core::forms::to_writer;
-use hesc_core::rules::Unchanged;
+use hesc_core::forms::kept_to_writer;
 use std::io::{self, Write};
 
 /// Writes the markup as it stands, or a beginning of it and then the writer's fault. It takes no
@@ -15,5 +14,5 @@ use std::io::{self, Write};
 pub fn write_markup<W: Write>(output: &mut W, markup: &str) -> io::Result<()>
     ensures { WritesText (W.contents output.old) (W.contents output.new) markup.now result }
 {
-    to_writer(&Unchanged, markup, output)
+    kept_to_writer(markup, output)
 }

@@ -1,27 +1,23 @@
 //! The page of a template and texts, as parts that are put.
 ghost use Rattle.std.specs.Prelude.{◌≡◌, [], ◌<◌, ◌≤◌, ◌+◌, ◌^◌, ◌++◌, length, map, IfSome, IsOk, IsSome, OnErr, OnOk};
-ghost use Rattle.std.specs.String.{string_bytes};
 ghost use Rattle.hesc_specs.specs.Text.Beginning.{TookBeginning};
-ghost use Rattle.hesc_engine.specs.Forms.{Appended, WritesText, string_room};
+ghost use Rattle.hesc_specs.specs.Text.Escaped.{escaped};
+ghost use Rattle.hesc_engine.specs.Forms.{WritesText};
 ghost use Rattle.html_template.specs.Templates.{chunk_of, page, written};
 
 use crate::fill::total_length;
 use crate::parts::SlotKind;
 use crate::stored::{Stored, StoredSlot};
 use crate::texts::Texts;
-use hesc_core::forms::{Parts, append_parts, append_to_string};
-use hesc_core::rules::{Escape, Unchanged};
-use hesc_core::{CountOverflow, Rule, Sink};
+use hesc_core::forms::Parts;
+use hesc_core::forms::measure::total;
+use hesc_core::rules::Escape;
+use hesc_core::{Class, CountOverflow, Rule, Sink};
 use hesc_engine::WriterSink;
 use hesc_engine::engine::run_made;
 use hesc_engine::forms::made::Made;
-use hesc_engine::sinks::stack::StackSink;
 use html_urls::{component_length, put_component};
-use std::alloc::{AllocError, Allocator};
 use std::io::{self, Write};
-
-/// The most bytes of a page that is made on the stack.
-const SHORT: usize = 2048;
 
 /// The page of these texts. Whether they fill the pieces is the caller's to know.
 #[derive(Clone, Copy)]
@@ -42,74 +38,23 @@ impl<T: Texts> Parts for Page<'_, T> {
         put_pieces(self.pieces, &self.texts, sink)
     }
 
-    // A page that is made again and again mostly fits, and is then not measured.
-    #[inline(always)]
-    fn may_fit(&self, spare: usize) -> bool {
-        self.markup < spare
-    }
-
     // Counted by lanes, in place of writing each text twice.
     fn room_for(&self, spare: usize) -> Result<usize, CountOverflow> {
         let _spare = spare;
         page_length(self.pieces, &self.texts).ok_or(CountOverflow)
     }
-}
 
-impl<T: Texts> Page<'_, T> {
-    // About how long the page is at least.
+    // A page that is made again and again mostly fits, and its texts are not summed up.
     #[inline(always)]
-    fn least(&self) -> usize {
-        self.markup.saturating_add(total_length(&self.texts))
+    fn may_fit(&self, spare: usize) -> bool {
+        self.markup < spare
     }
-}
 
-/// Appends the page, or leaves the output as it was.
-#[inline(always)]
-pub(crate) fn append_page<T: Texts, B: Allocator>(
-    output: &mut String<B>,
-    made: &Page<'_, T>,
-) -> Result<(), AllocError>
-    ensures appended { Appended (string_bytes output.old) (string_bytes output.new)
-        (page (map chunk_of made.now.pieces.now) (T.list made.now.texts)) result }
-    ensures fits { length (page (map chunk_of made.now.pieces.now) (T.list made.now.texts))
-        ≤ string_room output.old → IsOk result }
-{
-    if made.may_fit(output.capacity() - output.len()) || made.least() > SHORT {
-        return append_long_page(output, made);
+    // A page has few bytes more than its markup and its texts.
+    #[inline(always)]
+    fn about(&self) -> Option<usize> {
+        Some(self.markup.saturating_add(total_length(&self.texts)))
     }
-    append_short_page(output, made)
-}
-
-// By the stack, which is set up in this function and no other.
-#[inline(never)]
-fn append_short_page<T: Texts, B: Allocator>(
-    output: &mut String<B>,
-    made: &Page<'_, T>,
-) -> Result<(), AllocError>
-    ensures appended { Appended (string_bytes output.old) (string_bytes output.new)
-        (page (map chunk_of made.now.pieces.now) (T.list made.now.texts)) result }
-    ensures fits { length (page (map chunk_of made.now.pieces.now) (T.list made.now.texts))
-        ≤ string_room output.old → IsOk result }
-{
-    let mut short = StackSink::<SHORT>::new();
-    if made.put_into(&mut short).is_ok() {
-        return append_to_string(output, &Unchanged, short.as_str());
-    }
-    append_long_page(output, made)
-}
-
-// Measured first, where the room that is there does not suffice.
-#[inline(never)]
-fn append_long_page<T: Texts, B: Allocator>(
-    output: &mut String<B>,
-    made: &Page<'_, T>,
-) -> Result<(), AllocError>
-    ensures appended { Appended (string_bytes output.old) (string_bytes output.new)
-        (page (map chunk_of made.now.pieces.now) (T.list made.now.texts)) result }
-    ensures fits { length (page (map chunk_of made.now.pieces.now) (T.list made.now.texts))
-        ≤ string_room output.old → IsOk result }
-{
-    append_parts(output, made)
 }
 
 /// Writes the page, or a beginning of it and then the writer's fault.
@@ -161,7 +106,7 @@ fn text_length(slot: &StoredSlot, text: &str) -> Option<usize>
 {
     match slot.kind {
         SlotKind::UrlPart(_) => component_length(text),
-        SlotKind::Text | SlotKind::Link => Escape(slot.class).total(text),
+        SlotKind::Text | SlotKind::Link => total(&Escape(slot.class), text),
     }
 }
 
@@ -199,15 +144,31 @@ fn put_pieces<T: Texts, S: Sink>(pieces: &[Stored], texts: &T, sink: &mut S) -> 
         if let SlotKind::UrlPart(_) = slot.kind {
             put_component(text, sink)?;
         } else {
-            // Most texts stay as they are.
-            match Made::of(&Escape(slot.class), text) {
-                Some(made) => run_made(&made, sink)?,
-                None => put_kept(&Escape(slot.class), text, sink)?,
-            }
+            put_escaped(slot.class, text, sink)?;
         }
         left = more;
     }
     Ok(())
+}
+
+// Puts what the encoder of the class makes of a text. Most texts stay as they are.
+#[inline(always)]
+fn put_escaped<S: Sink>(class: Class, text: &str, sink: &mut S) -> Result<(), S::Fault>
+    ensures ok_taken { OnOk result (S.taken sink.new ≡ S.taken sink.old ++ escaped class text.now) }
+    ensures ok_failures { OnOk result (S.failures sink.new ≡ S.failures sink.old) }
+    ensures err_taken { OnErr result
+        (TookBeginning (S.taken sink.old) (S.taken sink.new) (escaped class text.now)) }
+    ensures fits { length (escaped class text.now) ≤ S.room sink.old → IsOk result }
+    ensures room { OnOk result
+        (S.room sink.old ≤ S.room sink.new + length (escaped class text.now)) }
+    ensures same_reference { S.reference sink.new ≡ S.reference sink.old }
+    ensures same_before { S.before sink.new ≡ S.before sink.old }
+{
+    let rule = Escape(class);
+    match Made::of(&rule, text) {
+        Some(made) => run_made(&made, sink),
+        None => put_kept(&rule, text, sink),
+    }
 }
 
 // Puts a text that the rule leaves as it is.

@@ -29,11 +29,12 @@ ghost use Rattle.html_template.specs.Templates.{
 
 use crate::faults::{FillFault, TemplateFault, WriteFault};
 use crate::fill::{Summary, check};
-use crate::page::{Page, append_page, write_page};
+use crate::page::{Page, write_page};
 use crate::parts::Part;
 use crate::stored::{Stored, StoredMarkup, StoredSlot};
 use crate::texts::Texts;
 use crate::walk::Walk;
+use hesc_core::forms::append_parts;
 use std::alloc::{Allocator, Global};
 use std::io::Write;
 
@@ -140,7 +141,7 @@ impl<'a, A: Allocator + Copy> Template<'a, A> {
         if let Err(fault) = check(&self.pieces, self.summary, texts) {
             return Err(fault);
         }
-        append_page(output, &self.page_of(texts))?;
+        append_parts(output, &self.page_of(texts))?;
         Ok(())
     }
 

@@ -41,12 +41,8 @@ impl Parts for Component<'_> {
 
     // Each byte becomes three at most.
     #[inline(always)]
-    fn short_bound(&self) -> Option<usize> {
-        if self.0.len() <= 128 {
-            Some(self.0.len() * 3)
-        } else {
-            None
-        }
+    fn most(&self) -> usize {
+        self.0.len().saturating_mul(3)
     }
 }
 

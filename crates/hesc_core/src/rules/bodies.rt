@@ -1,186 +1,152 @@
 //! The bodies of scripts and styles: an encoder puts a `\` into each opening, after its `<`, and a
 //! decoder drops it.
-ghost use Rattle.std.specs.Prelude.{◌≡◌, [], IfNone, IfSome};
-ghost use Rattle.std.specs.Str.{IsCharBoundary};
-ghost use Rattle.hesc_specs.specs.Bodies.Encoding.{body_decoding, body_encoding};
+ghost use Rattle.std.specs.Prelude.{◌≡◌, ◌<◌, [], false, true, length, slice_index, IfNone, IfSome};
 ghost use Rattle.hesc_specs.specs.Bodies.Changes.{body_decoding_changes, body_encoding_changes};
-ghost use Rattle.hesc_specs.specs.declared.elements.Element.TheVariants.{Script, Style};
+ghost use Rattle.hesc_specs.specs.Bodies.Encoding.{body_decoding, body_encoding};
+ghost use Rattle.hesc_specs.specs.Bodies.Openings.{drops_at, opens_at};
+ghost use Rattle.hesc_specs.specs.Text.Ascii.{backslash, less_than};
 ghost use Rattle.hesc_specs.proofs.Bodies.DecodingChanges.{applied-body_decoding_changes};
 ghost use Rattle.hesc_specs.proofs.Bodies.EncodingChanges.{applied-body_encoding_changes};
-ghost use Rattle.hesc_engine.specs.Next.{IsNext};
+ghost use Rattle.memchr.specs.Find.{is_byte};
+ghost use Rattle.hesc_engine.specs.Next.{IsChangeAt};
 
-use hesc_engine::ahead::Ahead;
 use hesc_engine::found::{Found, Replacement};
+use hesc_engine::length::Length;
 use hesc_engine::rule::Rule;
 use hesc_engine::small_text::SmallText;
+use hesc_engine::sought::{Seek, Sought};
 use hesc_scan::length::{body_bound, longest_body};
-use hesc_scan::openings::{first_escaped_opening, first_opening};
+use hesc_scan::openings::completes_opening;
 use hesc_specs::Element;
 
-/// The encoder of a script's body.
-#[derive(Clone, Copy)]
-pub struct EncodeScript;
-
-/// The encoder of a style's body.
-#[derive(Clone, Copy)]
-pub struct EncodeStyle;
-
-/// The decoder of a script's body.
-#[derive(Clone, Copy)]
-pub struct DecodeScript;
-
-/// The decoder of a style's body.
-#[derive(Clone, Copy)]
-pub struct DecodeStyle;
-
-impl Rule for EncodeScript {
-    ghost changes_from = { λ rule. body_encoding_changes Script };
-
-    ghost made = { λ rule. body_encoding Script };
-
-    #[inline(always)]
-    fn next(&self, text: &str, from: usize) -> Option<Found<'_>> {
-        next_body_escape(Element::Script, text, from)
-    }
-
-    #[inline(always)]
-    fn next_ahead(&self, text: &str, from: usize, ahead: &mut Ahead) -> Option<Found<'_>> {
-        let _known = *ahead;
-        self.next(text, from)
-    }
-
-    #[inline(always)]
-    fn bound(&self, text: &str) -> Option<usize> {
-        body_bound(text.as_bytes())
-    }
-
-    #[inline(always)]
-    fn longest(&self, text: &str) -> Option<usize> {
-        longest_body(text.as_bytes())
-    }
-
-    ghost makes = { λ rule source _. applied-body_encoding_changes Script source };
-}
-
-impl Rule for EncodeStyle {
-    ghost changes_from = { λ rule. body_encoding_changes Style };
-
-    ghost made = { λ rule. body_encoding Style };
-
-    #[inline(always)]
-    fn next(&self, text: &str, from: usize) -> Option<Found<'_>> {
-        next_body_escape(Element::Style, text, from)
-    }
-
-    #[inline(always)]
-    fn next_ahead(&self, text: &str, from: usize, ahead: &mut Ahead) -> Option<Found<'_>> {
-        let _known = *ahead;
-        self.next(text, from)
-    }
-
-    #[inline(always)]
-    fn bound(&self, text: &str) -> Option<usize> {
-        body_bound(text.as_bytes())
-    }
-
-    #[inline(always)]
-    fn longest(&self, text: &str) -> Option<usize> {
-        longest_body(text.as_bytes())
-    }
-
-    ghost makes = { λ rule source _. applied-body_encoding_changes Style source };
-}
-
-impl Rule for DecodeScript {
-    ghost changes_from = { λ rule. body_decoding_changes Script };
-
-    ghost made = { λ rule. body_decoding Script };
-
-    #[inline(always)]
-    fn next(&self, text: &str, from: usize) -> Option<Found<'_>> {
-        next_body_unescape(Element::Script, text, from)
-    }
-
-    #[inline(always)]
-    fn next_ahead(&self, text: &str, from: usize, ahead: &mut Ahead) -> Option<Found<'_>> {
-        let _known = *ahead;
-        self.next(text, from)
-    }
-
-    /// The source's length: nothing is put in.
-    #[inline(always)]
-    fn bound(&self, text: &str) -> Option<usize> {
-        Some(text.len())
-    }
-
-    ghost makes = { λ rule source _. applied-body_decoding_changes Script source };
-}
-
-impl Rule for DecodeStyle {
-    ghost changes_from = { λ rule. body_decoding_changes Style };
-
-    ghost made = { λ rule. body_decoding Style };
-
-    #[inline(always)]
-    fn next(&self, text: &str, from: usize) -> Option<Found<'_>> {
-        next_body_unescape(Element::Style, text, from)
-    }
-
-    #[inline(always)]
-    fn next_ahead(&self, text: &str, from: usize, ahead: &mut Ahead) -> Option<Found<'_>> {
-        let _known = *ahead;
-        self.next(text, from)
-    }
-
-    /// The source's length: nothing is put in.
-    #[inline(always)]
-    fn bound(&self, text: &str) -> Option<usize> {
-        Some(text.len())
-    }
-
-    ghost makes = { λ rule source _. applied-body_decoding_changes Style source };
-}
-
-/// The `\` that goes into the first opening at or after `from`, a character boundary.
+/// The encoder of an element's body.
 ///
-/// In `a</script>` from 0, of a script, it goes in at the byte 2.
+/// Of a script it puts a `\` into `a</script>` at 2.
+#[derive(Clone, Copy)]
+pub struct EncodeBody(pub Element);
+
+/// The decoder of an element's body.
+///
+/// Of a script it drops the byte 2 of `a<\/script>`.
+#[derive(Clone, Copy)]
+pub struct DecodeBody(pub Element);
+
+impl Rule for EncodeBody {
+    ghost changes_from = { λ rule. body_encoding_changes rule.0 };
+
+    ghost made = { λ rule. body_encoding rule.0 };
+
+    ghost begins_at = { λ rule. opens_at rule.0 };
+
+    ghost is_sought = { λ rule. is_byte less_than };
+
+    ghost rows = { λ rule. [] };
+
+    #[inline(always)]
+    fn seeks(&self) -> Seek {
+        Seek {
+            sought: Sought::Byte(b'<'),
+            texts: None,
+        }
+    }
+
+    #[inline(always)]
+    fn change_at(&self, text: &str, place: usize) -> Option<Found<'_>> {
+        body_escape_at(self.0, text, place)
+    }
+
+    #[inline(always)]
+    fn length(&self, text: &str) -> Length {
+        match body_bound(text.as_bytes()) {
+            Some(bound) => Length::AtMost(bound),
+            None => Length::Unknown,
+        }
+    }
+
+    #[inline(always)]
+    fn longest(&self, text: &str) -> Option<usize> {
+        longest_body(text.as_bytes())
+    }
+
+    ghost makes = { λ rule source _. applied-body_encoding_changes rule.0 source };
+}
+
+impl Rule for DecodeBody {
+    ghost changes_from = { λ rule. body_decoding_changes rule.0 };
+
+    ghost made = { λ rule. body_decoding rule.0 };
+
+    ghost begins_at = { λ rule. drops_at rule.0 };
+
+    ghost is_sought = { λ rule. is_byte backslash };
+
+    ghost rows = { λ rule. [] };
+
+    #[inline(always)]
+    fn seeks(&self) -> Seek {
+        Seek {
+            sought: Sought::Byte(b'\\'),
+            texts: None,
+        }
+    }
+
+    #[inline(always)]
+    fn change_at(&self, text: &str, place: usize) -> Option<Found<'_>> {
+        body_unescape_at(self.0, text, place)
+    }
+
+    /// The source's length: nothing is put in.
+    #[inline(always)]
+    fn longest(&self, text: &str) -> Option<usize> {
+        Some(text.len())
+    }
+
+    ghost makes = { λ rule source _. applied-body_decoding_changes rule.0 source };
+}
+
+/// The `\` that goes into the opening at a `<`, or `None` where none begins there.
+///
+/// In `a</script>` at 1, of a script, it goes in at 2.
 #[inline(always)]
-pub fn next_body_escape(element: Element, text: &str, from: usize) -> Option<Found<'static>>
-    requires { IsCharBoundary text.now from }
-    ensures none { IfNone result (body_encoding_changes element text.now from ≡ []) }
-    ensures found { IfSome result (IsNext text.now from (body_encoding_changes element text.now)) }
+pub fn body_escape_at(element: Element, text: &str, place: usize) -> Option<Found<'static>>
+    requires within { place < length text.now }
+    requires sought { is_byte less_than (slice_index text.now place) ≡ true }
+    ensures none { IfNone result (opens_at element text.now place ≡ false) }
+    ensures found { IfSome result (IsChangeAt (opens_at element text.now) text.now
+        (body_encoding_changes element text.now) place) }
 {
     let bytes = text.as_bytes();
-    let place = first_opening(element, bytes, from);
-    if place == bytes.len() {
+    if !completes_opening(element, &bytes[place + 1..]) {
         return None;
     }
     Some(Found {
         start: place + 1,
         end: place + 1,
-        replacement: Replacement::Small(SmallText::from_ascii([b'\\', 0, 0, 0, 0, 0, 0, 0], 1)),
+        replacement: Replacement::Small(SmallText::from_ascii(*b"\\\0\0\0\0\0\0\0", 1)),
     })
 }
 
-/// The first `\` at or after `from`, a character boundary, that an escaped opening loses. Its `<`
-/// may stand right before `from`.
+/// The `\` that an escaped opening loses, or `None` where it stands in none.
 ///
-/// In `a<\/script>` from 0, of a script, it is the byte 2.
+/// In `a<\/script>` at 2, of a script, it is that byte.
 #[inline(always)]
-pub fn next_body_unescape(element: Element, text: &str, from: usize) -> Option<Found<'static>>
-    requires { IsCharBoundary text.now from }
-    ensures none { IfNone result (body_decoding_changes element text.now from ≡ []) }
-    ensures found { IfSome result (IsNext text.now from (body_decoding_changes element text.now)) }
+pub fn body_unescape_at(element: Element, text: &str, place: usize) -> Option<Found<'static>>
+    requires within { place < length text.now }
+    requires sought { is_byte backslash (slice_index text.now place) ≡ true }
+    ensures none { IfNone result (drops_at element text.now place ≡ false) }
+    ensures found { IfSome result (IsChangeAt (drops_at element text.now) text.now
+        (body_decoding_changes element text.now) place) }
 {
     let bytes = text.as_bytes();
-    let place = first_escaped_opening(element, bytes, from.saturating_sub(1));
-    if place == bytes.len() {
+    if place == 0 || bytes[place - 1] != b'<' {
         return None;
     }
-    let start = place + 1;
+    if !completes_opening(element, &bytes[place + 1..]) {
+        return None;
+    }
     Some(Found {
-        start,
-        end: start + 1,
+        start: place,
+        end: place + 1,
         replacement: Replacement::Borrowed(""),
     })
 }

@@ -1,28 +1,26 @@
 //! Decoding by a table: each reference that has a value becomes it.
-ghost use Rattle.std.specs.Prelude.{◌≡◌, [], IfNone, IfSome};
-ghost use Rattle.std.specs.Str.{IsCharBoundary};
+ghost use Rattle.std.specs.Prelude.{◌≡◌, ◌<◌, [], false, true, length, slice_index, IfNone, IfSome};
 ghost use Rattle.hesc_specs.specs.Text.Ascii.{ampersand};
-ghost use Rattle.hesc_specs.specs.References.Changes.{reference_changes};
+ghost use Rattle.hesc_specs.specs.References.Changes.{reference_changes, refers_at};
 ghost use Rattle.hesc_specs.specs.References.Decoding.{decoded};
 ghost use Rattle.hesc_specs.proofs.References.Applied.{applied-reference_changes};
 ghost use Rattle.memchr.specs.Find.{is_byte};
-ghost use Rattle.hesc_engine.specs.Ahead.{IsAhead};
-ghost use Rattle.hesc_engine.specs.Next.{IsNext};
 ghost use Rattle.hesc_table.specs.Table.{rows_of};
+ghost use Rattle.hesc_engine.specs.Next.{IsChangeAt};
 
 mod values;
 
-use crate::rules::ahead::{Sought, next_hit_or_end};
 use crate::rules::references::values::value_of_body;
-use hesc_engine::ahead::Ahead;
-use hesc_engine::ascii_texts::AsciiTexts;
 use hesc_engine::found::Found;
 use hesc_engine::rule::Rule;
+use hesc_engine::sought::{Seek, Sought};
 use hesc_scan::find::first_of_two;
 use hesc_table::EntityTable;
 use hesc_table::growth::Growth;
 
 /// The decoder of the references of a table.
+///
+/// Of the built-in table it changes the bytes 1 to 5 of `a&lt;b` to `<`.
 #[derive(Clone, Copy)]
 pub struct References<'a>(pub &'a EntityTable<'a>);
 
@@ -31,21 +29,28 @@ impl Rule for References<'_> {
 
     ghost made = { λ rule. decoded (rows_of rule.0.now) };
 
+    ghost begins_at = { λ rule. refers_at (rows_of rule.0.now) };
+
     ghost is_sought = { λ rule. is_byte ampersand };
 
+    ghost rows = { λ rule. [] };
+
     #[inline(always)]
-    fn next(&self, text: &str, from: usize) -> Option<Found<'_>> {
-        next_references(self.0, text, from)
+    fn seeks(&self) -> Seek {
+        Seek {
+            sought: Sought::Byte(b'&'),
+            texts: None,
+        }
     }
 
     #[inline(always)]
-    fn next_ahead(&self, text: &str, from: usize, ahead: &mut Ahead) -> Option<Found<'_>> {
-        next_references_ahead(self.0, text, from, ahead)
+    fn change_at(&self, text: &str, place: usize) -> Option<Found<'_>> {
+        reference_at(self.0, text, place)
     }
 
     /// The source's length, or a fifth more, where the table knows that its values are so short.
     #[inline(always)]
-    fn bound(&self, text: &str) -> Option<usize> {
+    fn longest(&self, text: &str) -> Option<usize> {
         match self.0.growth() {
             Growth::Never => Some(text.len()),
             Growth::AtMostAFifth => text.len().checked_add(text.len() / 5),
@@ -53,67 +58,37 @@ impl Rule for References<'_> {
         }
     }
 
-    #[inline(always)]
-    fn texts(&self, _text: &str) -> Option<AsciiTexts> {
-        None
-    }
-
     ghost makes = { λ rule source _. applied-reference_changes (rows_of rule.0.now) source };
 }
 
-/// The first reference at or after `from`, a character boundary, that has a value, and its value.
+/// The reference at a `&`, and its value, or `None` where there is none that has a value.
 ///
-/// Each `&` is judged by itself: what follows it goes up to the next `&` or `;`, and no byte is
+/// Each `&` is judged by itself: what follows it goes up to the next `&` or `;`, so that no byte is
 /// looked at more than twice for either.
 ///
-/// In `a&lt;b` from 0 it is the bytes 1 to 5, which become `<`.
+/// In `a&lt;b` at 1 it is the bytes 1 to 5, which become `<`.
 #[inline(always)]
-pub fn next_references<'a>(table: &EntityTable<'a>, text: &str, from: usize) -> Option<Found<'a>>
-    requires { IsCharBoundary text.now from }
-    ensures none { IfNone result (reference_changes (rows_of table.now) text.now from ≡ []) }
-    ensures found { IfSome result
-        (IsNext text.now from (reference_changes (rows_of table.now) text.now)) }
-{
-    let mut ahead = Ahead::nothing(text);
-    next_references_ahead(table, text, from, &mut ahead)
-}
-
-/// The same, by what is known of the bytes ahead, which stays true.
-///
-/// In `a&lt;b` from 0 it is the bytes 1 to 5 again, and of `ahead` the `hits` are then `0b10`.
-#[inline(always)]
-pub fn next_references_ahead<'a>(
-    table: &EntityTable<'a>,
-    text: &str,
-    from: usize,
-    ahead: &mut Ahead,
-) -> Option<Found<'a>>
-    requires boundary { IsCharBoundary text.now from }
-    requires ahead { IsAhead (is_byte ampersand) text.now ahead.old }
-    ensures none { IfNone result (reference_changes (rows_of table.now) text.now from ≡ []) }
-    ensures found { IfSome result
-        (IsNext text.now from (reference_changes (rows_of table.now) text.now)) }
-    ensures ahead { IsAhead (is_byte ampersand) text.now ahead.new }
+pub fn reference_at<'a>(table: &EntityTable<'a>, text: &str, place: usize) -> Option<Found<'a>>
+    requires within { place < length text.now }
+    requires sought { is_byte ampersand (slice_index text.now place) ≡ true }
+    ensures none { IfNone result (refers_at (rows_of table.now) text.now place ≡ false) }
+    ensures found { IfSome result (IsChangeAt (refers_at (rows_of table.now) text.now) text.now
+        (reference_changes (rows_of table.now) text.now) place) }
 {
     let bytes = text.as_bytes();
-    let mut start = next_hit_or_end(Sought::Byte(b'&'), text, from, ahead);
-    'seeking: while start < bytes.len() {
-        let end = first_of_two(b'&', b';', bytes, start + 1);
-        if end == bytes.len() {
-            return None;
-        }
-        if bytes[end] == b'&' {
-            start = end;
-        } else {
-            if let Some(replacement) = value_of_body(table, &bytes[start + 1..end]) {
-                return Some(Found {
-                    start,
-                    end: end + 1,
-                    replacement,
-                });
-            }
-            start = next_hit_or_end(Sought::Byte(b'&'), text, end + 1, ahead);
-        }
+    let end = first_of_two(b'&', b';', bytes, place + 1);
+    if end == bytes.len() {
+        return None;
     }
-    None
+    if bytes[end] == b'&' {
+        return None;
+    }
+    match value_of_body(table, &bytes[place + 1..end]) {
+        Some(replacement) => Some(Found {
+            start: place,
+            end: end + 1,
+            replacement,
+        }),
+        None => None,
+    }
 }

@@ -1,23 +1,25 @@
 //! Unescaping by a class: in an encoded string each escape becomes the character that it stands for.
-ghost use Rattle.std.specs.Prelude.{◌≡◌, [], IfNone, IfSome};
-ghost use Rattle.std.specs.Str.{IsCharBoundary};
+ghost use Rattle.std.specs.Prelude.{◌≡◌, ◌<◌, [], false, true, length, slice_index, IfNone, IfSome};
+ghost use Rattle.hesc_specs.specs.Strings.Changes.{string_decoding_changes, string_escapes_at};
 ghost use Rattle.hesc_specs.specs.Text.Ascii.{backslash};
-ghost use Rattle.hesc_specs.specs.Text.Escaped.{unescape_changes, unescaped};
+ghost use Rattle.hesc_specs.specs.Text.Escaped.{unescape_changes, unescaped, unescapes_at};
 ghost use Rattle.hesc_specs.proofs.Text.UnescapeChanges.{applied-unescape_changes};
 ghost use Rattle.memchr.specs.Find.{is_byte};
-ghost use Rattle.hesc_engine.specs.Ahead.{IsAhead};
-ghost use Rattle.hesc_engine.specs.Next.{IsNext};
+ghost use Rattle.hesc_engine.specs.Next.{IsChangeAt};
 
-use crate::rules::strings::classes::string_class;
-use crate::rules::strings::unescape::{StringUnescape, next_string_unescape_ahead};
-use hesc_engine::ahead::Ahead;
-use hesc_engine::engine::run_from;
-use hesc_engine::found::Found;
+mod tokens;
+
+use crate::rules::classes::string_class;
+use crate::rules::unescape::tokens::{escape, is_after_less};
+use hesc_engine::found::{Found, Replacement};
 use hesc_engine::rule::Rule;
-use hesc_engine::sink::Sink;
-use hesc_specs::Class;
+use hesc_engine::small_text::SmallText;
+use hesc_engine::sought::{Seek, Sought};
+use hesc_specs::{Class, Element, Quotes};
 
 /// The decoder of a class. That of an HTML encoder's class changes nothing.
+///
+/// Of `Class::ScriptQuoted` it changes the bytes 2 to 4 of `it\'s` to `'`.
 #[derive(Clone, Copy)]
 pub struct Unescape(pub Class);
 
@@ -26,73 +28,73 @@ impl Rule for Unescape {
 
     ghost made = { λ rule. unescaped rule.0 };
 
+    ghost begins_at = { λ rule. unescapes_at rule.0 };
+
     ghost is_sought = { λ rule. is_byte backslash };
 
+    ghost rows = { λ rule. [] };
+
     #[inline(always)]
-    fn next(&self, text: &str, from: usize) -> Option<Found<'_>> {
-        next_unescape(self.0, text, from)
+    fn seeks(&self) -> Seek {
+        Seek {
+            sought: Sought::Byte(b'\\'),
+            texts: None,
+        }
     }
 
     #[inline(always)]
-    fn next_ahead(&self, text: &str, from: usize, ahead: &mut Ahead) -> Option<Found<'_>> {
-        next_unescape_ahead(self.0, text, from, ahead)
-    }
-
-    #[inline(always)]
-    fn dispatch<S: Sink>(
-        &self,
-        text: &str,
-        from: usize,
-        ahead: Ahead,
-        sink: &mut S,
-    ) -> Option<Result<(), S::Fault>> {
-        let (element, quotes) = string_class(self.0)?;
-        let rule = StringUnescape(element, quotes);
-        Some(run_from(&rule, text, from, ahead, sink))
+    fn change_at(&self, text: &str, place: usize) -> Option<Found<'_>> {
+        unescape_at(self.0, text, place)
     }
 
     /// The source's length: no escape is shorter than its character.
     #[inline(always)]
-    fn bound(&self, text: &str) -> Option<usize> {
+    fn longest(&self, text: &str) -> Option<usize> {
         Some(text.len())
     }
 
     ghost makes = { λ rule source _. applied-unescape_changes rule.0 source };
 }
 
-/// The first escape at or after `from`, a character boundary, where the reading begins, and its
-/// character. In an HTML encoder's class there is none.
+/// The escape that begins at a `\`, and its character, or `None` where none begins there.
 ///
-/// In `it\'s` from 0, of `Class::ScriptQuoted`, it is the bytes 2 to 4, which become `'`.
+/// In `it\'s` at 2, of `Class::ScriptQuoted`, it is the bytes 2 to 4, which become `'`.
 #[inline(always)]
-pub fn next_unescape(class: Class, text: &str, from: usize) -> Option<Found<'static>>
-    requires { IsCharBoundary text.now from }
-    ensures none { IfNone result (unescape_changes class text.now from ≡ []) }
-    ensures found { IfSome result (IsNext text.now from (unescape_changes class text.now)) }
-{
-    let mut ahead = Ahead::nothing(text);
-    next_unescape_ahead(class, text, from, &mut ahead)
-}
-
-/// The same, by what is known of the bytes ahead, which stays true.
-///
-/// In `it\'s` from 0, of `Class::ScriptQuoted`, it is the bytes 2 to 4 again, and of `ahead` the
-/// `hits` are then `0b100`.
-#[inline(always)]
-pub fn next_unescape_ahead(
-    class: Class,
-    text: &str,
-    from: usize,
-    ahead: &mut Ahead,
-) -> Option<Found<'static>>
-    requires boundary { IsCharBoundary text.now from }
-    requires ahead { IsAhead (is_byte backslash) text.now ahead.old }
-    ensures none { IfNone result (unescape_changes class text.now from ≡ []) }
-    ensures found { IfSome result (IsNext text.now from (unescape_changes class text.now)) }
-    ensures ahead { IsAhead (is_byte backslash) text.now ahead.new }
+pub fn unescape_at(class: Class, text: &str, place: usize) -> Option<Found<'static>>
+    requires within { place < length text.now }
+    requires sought { is_byte backslash (slice_index text.now place) ≡ true }
+    ensures none { IfNone result (unescapes_at class text.now place ≡ false) }
+    ensures found { IfSome result (IsChangeAt (unescapes_at class text.now) text.now
+        (unescape_changes class text.now) place) }
 {
     match string_class(class) {
-        Some((element, quotes)) => next_string_unescape_ahead(element, quotes, text, from, ahead),
+        Some((element, quotes)) => string_unescape_at(element, quotes, text, place),
+        None => None,
+    }
+}
+
+// The same, by the element and the quote marks.
+#[inline(always)]
+fn string_unescape_at(
+    element: Element,
+    quotes: Quotes,
+    text: &str,
+    place: usize,
+) -> Option<Found<'static>>
+    requires within { place < length text.now }
+    requires sought { is_byte backslash (slice_index text.now place) ≡ true }
+    ensures none { IfNone result (string_escapes_at element quotes text.now place ≡ false) }
+    ensures found { IfSome result (IsChangeAt (string_escapes_at element quotes text.now) text.now
+        (string_decoding_changes element quotes text.now) place) }
+{
+    let bytes = text.as_bytes();
+    let after_less = is_after_less(bytes, place);
+    match escape(element, quotes, after_less, &bytes[place + 1..]) {
+        Some((more, character)) => Some(Found {
+            start: place,
+            end: place + 1 + more,
+            replacement: Replacement::Small(SmallText::from_char(character)),
+        }),
         None => None,
     }
 }

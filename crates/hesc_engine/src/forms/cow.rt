@@ -4,7 +4,7 @@ ghost use Rattle.std.specs.String.{string_bytes};
 ghost use Rattle.hesc_engine.specs.Forms.{AnswersText};
 
 use crate::forms::made::Made;
-use crate::forms::parts::{Parts, SMALL_BOUND, SMALL_STACK, STACK, append_measured};
+use crate::forms::parts::{Parts, SMALL_BOUND, SMALL_STACK, STACK, STACK_BOUND, append_measured};
 use crate::rule::Rule;
 use hesc_sinks::sinks::stack::StackSink;
 use std::alloc::{AllocError, Allocator};
@@ -33,11 +33,14 @@ pub fn to_cow<'t, R: Rule, A: Allocator>(
 fn new_string<P: Parts, A: Allocator>(alloc: A, parts: &P) -> Result<String<A>, AllocError>
     ensures { IfOk result (λ string. string_bytes string ≡ P.text parts.now) }
 {
-    match parts.short_bound() {
-        Some(bound) if bound <= SMALL_BOUND => new_by_stack::<SMALL_STACK, P, A>(alloc, parts),
-        Some(_) => new_by_stack::<STACK, P, A>(alloc, parts),
-        None => new_measured(alloc, parts),
+    let most = parts.most();
+    if most <= SMALL_BOUND {
+        return new_by_stack::<SMALL_STACK, P, A>(alloc, parts);
     }
+    if most <= STACK_BOUND {
+        return new_by_stack::<STACK, P, A>(alloc, parts);
+    }
+    new_measured(alloc, parts)
 }
 
 // Made on the stack, so that its length is known before memory is asked for.

@@ -1,14 +1,18 @@
 //! What a rule makes of a text, as parts.
+ghost use Rattle.std.specs.Prelude.{◌≡◌};
+ghost use Rattle.std.specs.Str.{IsCharBoundary};
+ghost use Rattle.hesc_specs.specs.Text.Changes.{applied};
 ghost use Rattle.hesc_engine.specs.Ahead.{IsAhead};
 ghost use Rattle.hesc_engine.specs.Next.{IsNext};
 
 use crate::ahead::Ahead;
 use crate::engine::run_made;
 use crate::forms::measure::room_for;
-use crate::forms::parts::{Parts, STACK_BOUND};
+use crate::forms::parts::Parts;
 use crate::rule::Rule;
+use crate::search::{first_change, seek_of};
+use crate::sought::first_hit;
 use hesc_sinks::found::Found;
-use hesc_sinks::segment::Segment;
 use hesc_sinks::sink::Sink;
 use hesc_sinks::sinks::counter::CountOverflow;
 
@@ -22,12 +26,12 @@ pub struct Made<'m, R: Rule> {
     pub(crate) ahead: Ahead,
     ghost is_first: { IsNext text.now 0 (R.changes_from rule.now text.now) first },
     ghost known: { IsAhead (R.is_sought rule.now) text.now ahead },
+    ghost boundary: { IsCharBoundary text.now 0 },
+    ghost makes: { applied text.now 0 (R.changes_from rule.now text.now 0) ≡ R.made rule.now text.now },
 }
 
 impl<'m, R: Rule> Made<'m, R> {
-    ghost use Rattle.std.specs.Prelude.{◌≡◌, ◌≢◌, [], ◌++◌, IfNone, IfSome};
-    ghost use Rattle.hesc_specs.specs.Text.Changes.{applied};
-    ghost use Rattle.hesc_sinks.specs.Text.{segment_bytes};
+    ghost use Rattle.std.specs.Prelude.{◌≡◌, ◌≢◌, [], IfNone, IfSome};
 
     /// What `rule` makes of `text`, or `None` where nothing changes.
     ///
@@ -40,7 +44,13 @@ impl<'m, R: Rule> Made<'m, R> {
         ensures some { IfSome result (λ _. R.changes_from rule.now text.now 0 ≢ []) }
     {
         let mut ahead = Ahead::nothing(text);
-        match rule.next_ahead(text, 0, &mut ahead) {
+        // Most texts have no sought byte, and need no table.
+        let seek = seek_of(rule);
+        match first_hit(seek.sought, text, 0, &mut ahead) {
+            Some(_) => {}
+            None => return None,
+        }
+        match first_change(rule, seek, text, 0, &mut ahead) {
             Some(first) => Some(Made {
                 rule,
                 text,
@@ -50,29 +60,10 @@ impl<'m, R: Rule> Made<'m, R> {
             None => None,
         }
     }
-
-    /// The first change and the stretch before it.
-    #[inline(always)]
-    pub(crate) fn first_segment(&self) -> Segment<'m>
-        ensures { R.made self.now.rule.now self.now.text.now ≡ segment_bytes result
-            ++ applied self.now.text.now self.now.first.end
-            (R.changes_from self.now.rule.now self.now.text.now self.now.first.end) }
-    {
-        Segment {
-            start: 0,
-            rest: self.text.as_bytes(),
-            kept: &self.text[..self.first.start],
-            new: self.first.replacement,
-        }
-    }
 }
 
 impl<R: Rule> Parts for Made<'_, R> {
-    ghost use Rattle.std.specs.Prelude.{length};
-
     ghost text = { λ made. R.made made.rule.now made.text.now };
-
-    ghost known_length = { λ made. length (R.made made.rule.now made.text.now) };
 
     #[inline(always)]
     fn put_into<S: Sink>(&self, sink: &mut S) -> Result<(), S::Fault> {
@@ -84,12 +75,11 @@ impl<R: Rule> Parts for Made<'_, R> {
         room_for(self.rule, self.text, spare)
     }
 
-    // A decoded text is no longer than its source, so it is short more often than an encoded one.
     #[inline(always)]
-    fn short_bound(&self) -> Option<usize> {
+    fn most(&self) -> usize {
         match self.rule.longest(self.text) {
-            Some(longest) if longest <= STACK_BOUND => Some(longest),
-            _ => None,
+            Some(longest) => longest,
+            None => usize::MAX,
         }
     }
 }

@@ -2,8 +2,7 @@
 ghost use Rattle.std.specs.Prelude.{◌≤◌, ℕ, List, IsOk, length};
 ghost use Rattle.hesc_engine.specs.Forms.{Appended};
 
-use crate::engine::run;
-use crate::unchanged::Unchanged;
+use hesc_sinks::sink::Sink;
 use hesc_sinks::sinks::string::StringSink;
 use hesc_sinks::sinks::vec::VecSink;
 use std::alloc::{AllocError, Allocator};
@@ -13,6 +12,9 @@ pub(crate) trait Output {
     ghost bytes: { Self → List ℕ };
 
     ghost room: { Self → ℕ };
+
+    /// How many bytes it takes without asking for memory.
+    fn spare(&self) -> usize;
 
     /// Appends `text` as it is, or leaves the output as it was.
     fn append_kept(&mut self, text: &str) -> Result<(), AllocError>
@@ -29,10 +31,15 @@ impl<A: Allocator> Output for String<A> {
     ghost room = { string_room };
 
     #[inline(always)]
+    fn spare(&self) -> usize {
+        self.capacity() - self.len()
+    }
+
+    #[inline(always)]
     fn append_kept(&mut self, text: &str) -> Result<(), AllocError> {
         self.reserve(text.len())?;
         let mut sink = StringSink::new(self);
-        let outcome = run(&Unchanged, text, &mut sink);
+        let outcome = sink.put_some(text);
         let _output = sink.into_output();
         outcome
     }
@@ -46,10 +53,15 @@ impl<A: Allocator> Output for Vec<u8, A> {
     ghost room = { vec_room };
 
     #[inline(always)]
+    fn spare(&self) -> usize {
+        self.capacity() - self.len()
+    }
+
+    #[inline(always)]
     fn append_kept(&mut self, text: &str) -> Result<(), AllocError> {
         self.reserve(text.len())?;
         let mut sink = VecSink::new(self);
-        let outcome = run(&Unchanged, text, &mut sink);
+        let outcome = sink.put_some(text);
         let _output = sink.into_output();
         outcome
     }

@@ -1,5 +1,5 @@
 //! A text made of parts, appended: room is found out and reserved once, and then the parts are put.
-ghost use Rattle.std.specs.Prelude.{◌≡◌, ◌≤◌, ◌<◌, ◌^◌, ℕ, List, [], ◌++◌, if◌then◌else◌, length, IfNone, IfOk, IfSome, IsOk, IsTrue, OnOk};
+ghost use Rattle.std.specs.Prelude.{◌≡◌, ◌≤◌, ◌<◌, ◌-◌, ◌^◌, ℕ, List, [], ◌++◌, if◌then◌else◌, length, IfNone, IfOk, IfSome, IsOk, IsTrue, OnOk};
 ghost use Rattle.std.specs.Str.{IsUtf8};
 ghost use Rattle.std.specs.String.{string_bytes};
 ghost use Rattle.hesc_engine.specs.Forms.{Appended, string_room, vec_room};
@@ -12,8 +12,8 @@ use hesc_sinks::sinks::filled::FilledSink;
 use hesc_sinks::sinks::stack::StackSink;
 use std::alloc::{AllocError, Allocator};
 
-/// The bytes of the two arrays on the stack that a text is made in, and the longest text that is made in
-/// each: a block more fits after it.
+/// The bytes of the arrays on the stack that a text is made in, and the longest text that is made in each
+/// of the first two: a block more fits after it.
 pub(crate) const SMALL_STACK: usize = 128;
 
 pub(crate) const SMALL_BOUND: usize = 96;
@@ -22,11 +22,13 @@ pub(crate) const STACK: usize = 416;
 
 pub(crate) const STACK_BOUND: usize = 384;
 
+const LONG_STACK: usize = 2048;
+
 /// A text as the parts that are put into a sink, one after another.
 pub trait Parts {
     ghost text: { Self → List ℕ };
 
-    // How many of its bytes `may_fit` knows of: all of them, where nothing is put twice.
+    // How many of its bytes `may_fit` and `about` know of.
     ghost known_length: { Self → ℕ } = { λ _. 0 };
 
     /// Puts all parts, in order.
@@ -56,9 +58,19 @@ pub trait Parts {
         Ok(counter.count())
     }
 
-    /// Whether to put the parts into an output that has room for `spare` before anything is measured:
-    /// only where that room suffices, as far as is known. Where more comes than is known, they are put
-    /// twice.
+    /// An upper bound of the length, computed without a scan, where it is less than the greatest `usize`.
+    ///
+    /// Of what the encoder of text makes of `a<b` it is 18.
+    #[inline(always)]
+    fn most(&self) -> usize
+        ensures { result < 2 ^ 64 - 1 → length (text self.now) ≤ result }
+    {
+        usize::MAX
+    }
+
+    /// Whether the parts are put into an output that has room for `spare`, although no upper bound says
+    /// that they fit: only where that room suffices, as far as is known. Where more comes than is known,
+    /// they are put twice.
     ///
     /// Of what a rule makes of a text it is `false`.
     #[inline(always)]
@@ -69,13 +81,12 @@ pub trait Parts {
         false
     }
 
-    /// At least as many bytes as the text has, where they are so few that it is made on the stack first.
+    /// About how long the text is, and at least as long as is known, where no upper bound is near.
     ///
-    /// Of what the encoder of text makes of `a<b` it is 18.
+    /// Of what a rule makes of a text it is `None`.
     #[inline(always)]
-    fn short_bound(&self) -> Option<usize>
-        ensures enough { IfSome result (λ bound. length (text self.now) ≤ bound) }
-        ensures short { IfSome result (λ bound. bound ≤ 384) }
+    fn about(&self) -> Option<usize>
+        ensures { IfSome result (λ about. known_length self.now ≤ about) }
     {
         None
     }
@@ -93,7 +104,11 @@ pub fn append_parts<P: Parts, A: Allocator>(
         (P.text parts.now) result }
     ensures fits { length (P.text parts.now) ≤ string_room output.old → IsOk result }
 {
-    replace_with(output, parts, appended)
+    // A short text goes to the string itself: its bytes are not taken out and put back for it.
+    match append_short(output, parts) {
+        Some(outcome) => outcome,
+        None => replace_with(output, parts, appended),
+    }
 }
 
 // The string with the parts after it, or as it was.
@@ -107,7 +122,7 @@ fn appended<P: Parts, A: Allocator>(
     ensures fits { length (P.text parts.now) ≤ string_room string → IsOk result.1 }
 {
     let mut bytes = string.into_bytes();
-    let outcome = append_parts_to_vec(&mut bytes, parts);
+    let outcome = append_long(&mut bytes, parts);
     // UTF-8 after UTF-8 is UTF-8.
     (unsafe { String::from_utf8_unchecked(bytes) }, outcome)
 }
@@ -124,23 +139,16 @@ pub fn append_parts_to_vec<P: Parts, A: Allocator>(
     ensures fits { length (P.text parts.now) ≤ vec_room output.old → IsOk result }
     ensures utf8 { OnOk result (IsUtf8 (P.text parts.now)) }
 {
-    let spare = output.capacity() - output.len();
-    if parts.may_fit(spare) && put_in_room(output, parts) {
-        return Ok(());
-    }
     match append_short(output, parts) {
         Some(outcome) => outcome,
-        None => append_measured(output, parts),
+        None => append_long(output, parts),
     }
 }
 
-/// Appends a text that is made on the stack first, by the array that suffices for it, or answers
-/// `None` where it is too long for both.
+// Appends a text that is made on the stack first, by the array that seems to suffice for it, or answers
+// `None`.
 #[inline(always)]
-pub(crate) fn append_short<P: Parts, O: Output>(
-    output: &mut O,
-    parts: &P,
-) -> Option<Result<(), AllocError>>
+fn append_short<P: Parts, O: Output>(output: &mut O, parts: &P) -> Option<Result<(), AllocError>>
     ensures none { IfNone result (output.new ≡ output.old) }
     ensures appended { IfSome result (λ outcome.
         Appended (O.bytes output.old) (O.bytes output.new) (P.text parts.now) outcome) }
@@ -148,30 +156,56 @@ pub(crate) fn append_short<P: Parts, O: Output>(
         → IfSome result (λ outcome. IsOk outcome) }
     ensures utf8 { IfSome result (λ outcome. OnOk outcome (IsUtf8 (P.text parts.now))) }
 {
-    match parts.short_bound() {
-        Some(bound) if bound <= SMALL_BOUND => {
-            Some(append_by_stack::<SMALL_STACK, P, O>(output, parts))
-        }
-        Some(_) => Some(append_by_stack::<STACK, P, O>(output, parts)),
-        None => None,
+    let most = parts.most();
+    if most <= SMALL_BOUND {
+        return append_by_stack::<SMALL_STACK, P, O>(output, parts);
+    }
+    if most <= STACK_BOUND {
+        return append_by_stack::<STACK, P, O>(output, parts);
+    }
+    if parts.may_fit(output.spare()) {
+        return None;
+    }
+    match parts.about() {
+        Some(about) if about <= LONG_STACK => append_by_stack::<LONG_STACK, P, O>(output, parts),
+        _ => None,
     }
 }
 
-// The array is set up in this function and no other. It suffices, so that the text is put whole.
+// The array is set up in this function and no other.
 #[inline(never)]
 fn append_by_stack<const N: usize, P: Parts, O: Output>(
     output: &mut O,
     parts: &P,
-) -> Result<(), AllocError>
-    requires few { N ≤ 416 }
-    requires suffices { length (P.text parts.now) ≤ N }
-    ensures appended { Appended (O.bytes output.old) (O.bytes output.new) (P.text parts.now) result }
-    ensures fits { length (P.text parts.now) ≤ O.room output.old → IsOk result }
-    ensures utf8 { OnOk result (IsUtf8 (P.text parts.now)) }
+) -> Option<Result<(), AllocError>>
+    requires few { N ≤ 2048 }
+    ensures none { IfNone result (output.new ≡ output.old) }
+    ensures appended { IfSome result (λ outcome.
+        Appended (O.bytes output.old) (O.bytes output.new) (P.text parts.now) outcome) }
+    ensures fits { length (P.text parts.now) ≤ O.room output.old
+        → IfSome result (λ outcome. IsOk outcome) }
+    ensures utf8 { IfSome result (λ outcome. OnOk outcome (IsUtf8 (P.text parts.now))) }
 {
     let mut short = StackSink::<N>::new();
-    let _whole = parts.put_into(&mut short);
-    output.append_kept(short.as_str())
+    match parts.put_into(&mut short) {
+        Ok(()) => Some(output.append_kept(short.as_str())),
+        Err(_) => None,
+    }
+}
+
+// Into the room that is there, where the text seems to fit, or else measured first. A call of its own, so
+// that a short text takes no more registers than it needs.
+#[inline(never)]
+fn append_long<P: Parts, A: Allocator>(output: &mut Vec<u8, A>, parts: &P) -> Result<(), AllocError>
+    ensures appended { Appended output.old.items output.new.items (P.text parts.now) result }
+    ensures fits { length (P.text parts.now) ≤ vec_room output.old → IsOk result }
+    ensures utf8 { OnOk result (IsUtf8 (P.text parts.now)) }
+{
+    let spare = output.spare();
+    if (parts.most() <= spare || parts.may_fit(spare)) && put_in_room(output, parts) {
+        return Ok(());
+    }
+    append_measured(output, parts)
 }
 
 // By one request for as much room as is found out first. A call of its own, so that a short text takes

@@ -7,7 +7,7 @@ ghost use Rattle.hesc_engine.specs.Forms.{AnswersPart, Appended, StringAppended,
 
 use crate::forms::made::Made;
 use crate::forms::output::Output;
-use crate::forms::parts::{Parts, append_parts, append_short};
+use crate::forms::parts::{Parts, append_parts};
 use crate::rule::Rule;
 use std::alloc::{AllocError, Allocator};
 
@@ -38,11 +38,7 @@ fn append_made<P: Parts, A: Allocator>(output: &mut String<A>, parts: &P) -> Res
         (P.text parts.now) result }
     ensures fits { length (P.text parts.now) ≤ string_room output.old → IsOk result }
 {
-    // A short text goes to the string itself: its bytes are not taken out and put back for it.
-    match append_short(output, parts) {
-        Some(outcome) => outcome,
-        None => append_parts(output, parts),
-    }
+    append_parts(output, parts)
 }
 
 /// Appends what `rule` makes of `text`, and answers the part that was added. On a refusal the

@@ -6,7 +6,7 @@ ghost use Rattle.hesc_places.specs.Pages.FormTexts.{attribute_text, form_text, v
 
 use crate::markup::form_text::gap;
 use crate::markup::types::{Attribute, Quoting};
-use hesc_core::Rule;
+use hesc_core::forms::measure::total;
 use html_escape::Encoder;
 
 /// The length of the text of a form, or `None` where it would pass the greatest `usize`.
@@ -17,7 +17,7 @@ pub(crate) fn form_length(attributes: &[Attribute], script: &str) -> Option<usiz
         → IsSome result }
 {
     let tag = attributes_length(attributes)?.checked_add("<input".len())?;
-    let string = Encoder::ScriptSingleQuoted.total(script)?;
+    let string = total(&Encoder::ScriptSingleQuoted, script)?;
     let around = gap(attributes).len() + "/><script>alert('".len() + "');</script>".len();
     tag.checked_add(string)?.checked_add(around)
 }
@@ -52,8 +52,8 @@ fn value_length(quoting: Quoting, value: &str) -> Option<usize>
     ensures fits { length (value_text quoting value.now) < 2 ^ 64 → IsSome result }
 {
     match quoting {
-        Quoting::Unquoted => Encoder::UnquotedAttribute.total(value),
-        Quoting::Single => Encoder::SingleQuotedAttribute.total(value)?.checked_add(2),
-        Quoting::Double => Encoder::DoubleQuotedAttribute.total(value)?.checked_add(2),
+        Quoting::Unquoted => total(&Encoder::UnquotedAttribute, value),
+        Quoting::Single => total(&Encoder::SingleQuotedAttribute, value)?.checked_add(2),
+        Quoting::Double => total(&Encoder::DoubleQuotedAttribute, value)?.checked_add(2),
     }
 }

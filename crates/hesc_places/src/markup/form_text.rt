@@ -12,7 +12,7 @@ ghost use Rattle.hesc_places.specs.Pages.FormTexts.{
 
 use crate::markup::form_length::form_length;
 use crate::markup::types::{Attribute, Quoting};
-use crate::place::enclosed::{SHORT, most_encoded, put_between};
+use crate::place::enclosed::{most_encoded, put_between};
 use hesc_core::forms::Parts;
 use hesc_core::{CountOverflow, Sink, run};
 use html_escape::Encoder;
@@ -26,9 +26,6 @@ pub(crate) struct FormText<'f> {
 
 impl Parts for FormText<'_> {
     ghost text = { λ form. form_text (map written form.attributes.now) form.script.now };
-
-    ghost known_length = { λ form.
-        length (form_text (map written form.attributes.now) form.script.now) };
 
     fn put_into<S: Sink>(&self, sink: &mut S) -> Result<(), S::Fault> {
         sink.put("<input")?;
@@ -49,27 +46,7 @@ impl Parts for FormText<'_> {
         form_length(self.attributes, self.script).ok_or(CountOverflow)
     }
 
-    // Where there is room for what values of these lengths may become, nothing is measured.
-    #[inline(always)]
-    fn may_fit(&self, spare: usize) -> bool {
-        let most = self.most();
-        most > SHORT && most < spare
-    }
-
-    #[inline(always)]
-    fn short_bound(&self) -> Option<usize> {
-        let most = self.most();
-        if most <= SHORT { Some(most) } else { None }
-    }
-}
-
-impl FormText<'_> {
-    // An upper bound of the length, computed without a scan of the values, where it is less than the
-    // greatest `usize`.
-    fn most(&self) -> usize
-        ensures { result < 2 ^ 64 - 1
-            → length (form_text (map written self.now.attributes.now) self.now.script.now) ≤ result }
-    {
+    fn most(&self) -> usize {
         most_encoded(self.script)
             .saturating_add(AROUND)
             .saturating_add(most_attributes(self.attributes))

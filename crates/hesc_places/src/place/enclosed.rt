@@ -22,8 +22,6 @@ pub(crate) struct Enclosed<'t> {
 impl Parts for Enclosed<'_> {
     ghost text = { λ parts. enclosed parts.encoder parts.place parts.text.now };
 
-    ghost known_length = { λ parts. length (enclosed parts.encoder parts.place parts.text.now) };
-
     fn put_into<S: Sink>(&self, sink: &mut S) -> Result<(), S::Fault> {
         let (before, after) = (opening(self.place), closing(self.place));
         put_between(before, self.encoder, self.text, after, sink)
@@ -43,28 +41,8 @@ impl Parts for Enclosed<'_> {
             .ok_or(CountOverflow)
     }
 
-    // Where there is room for what any text of this length may become, nothing is measured.
     #[inline(always)]
-    fn may_fit(&self, spare: usize) -> bool {
-        let most = self.most();
-        most > SHORT && most < spare
-    }
-
-    #[inline(always)]
-    fn short_bound(&self) -> Option<usize> {
-        let most = self.most();
-        if most <= SHORT { Some(most) } else { None }
-    }
-}
-
-impl Enclosed<'_> {
-    // An upper bound of the length, computed without a scan of the text, where it is less than the
-    // greatest `usize`.
-    #[inline(always)]
-    fn most(&self) -> usize
-        ensures { result < 2 ^ 64 - 1
-            → length (enclosed self.now.encoder self.now.place self.now.text.now) ≤ result }
-    {
+    fn most(&self) -> usize {
         most_encoded(self.text).saturating_add(MARKS)
     }
 }
@@ -89,9 +67,6 @@ fn is_counted_by_lanes(encoder: Encoder) -> bool {
         | Encoder::StyleQuoted => false,
     }
 }
-
-/// The longest text that is made on the stack before it is appended.
-pub(crate) const SHORT: usize = 384;
 
 // The most bytes of both marks of a place: `<script>` and `</script>`.
 const MARKS: usize = 17;

@@ -1,68 +1,19 @@
--- The changes that make a decided encoding: which comes first, when none is left, and that they make it.
-use Rattle.std.proofs.Common.{◌≡◌, ℕ, zero, suc, add-zero, ◌+◌, ◌-◌, ◌≤◌, ◌<◌, List, [], ◌∷◌, ◌++◌, true, false, length, drop, refl, sym, ap, ◌∙◌, append_assoc, arith, inl, inr}
+-- The changes of what is decided of a body make its decided encoding.
+use Rattle.std.proofs.Common.{◌≡◌, ℕ, zero, suc, ◌+◌, ◌≤◌, ◌<◌, List, [], ◌∷◌, ◌++◌, true, false, length, drop, refl, sym, ap, ◌∙◌, append_assoc, arith, inl, inr}
 use Rattle.std.specs.Prelude.{slice_range}
 use Rattle.std.proofs.lemmas.Bool.{cases_Bool, cases_lt}
-use Rattle.std.proofs.lemmas.List.{drop-drop, drop_more, length-drop}
+use Rattle.std.proofs.lemmas.List.{drop-drop}
 use Rattle.std.proofs.lemmas.List.Folds.{drop_split}
 use Rattle.std.proofs.Math.Seq.{drop-length}
 use Rattle.hesc_specs.specs.Text.Ascii.{backslash}
 use Rattle.hesc_specs.specs.Text.Changes.{applied}
 use Rattle.hesc_specs.specs.Text.FirstPlace.{IsFirstAt}
-use Rattle.hesc_specs.specs.Bodies.Openings.{is_opening, opens_at}
+use Rattle.hesc_specs.specs.Bodies.Openings.{is_opening}
 use Rattle.hesc_specs.specs.Bodies.Sessions.{is_partial, partial_end, decided_encoding}
 use Rattle.hesc_specs.specs.Bodies.DecidedChanges.{decided_changes, decided_changes_of, partial_at}
 use Rattle.hesc_specs.specs.declared.elements.Element.{Element}
 use Rattle.hesc_specs.proofs.Bodies.Decided.{partial-whole}
 use Rattle.hesc_specs.proofs.Text.SliceRanges.{slice_range-more, slice_range-nothing, drop-next}
-
--- nothing begins at the first n places
-kept-changes_of : (element : Element) (at : ℕ) (bytes : List ℕ) (n : ℕ) → n ≤ length bytes → ((k : ℕ) → k < n → is_opening element (drop k bytes) ≡ false)
-    → ((k : ℕ) → k < n → is_partial element (drop k bytes) ≡ false)
-    → decided_changes_of element at bytes ≡ decided_changes_of element (at + n) (drop n bytes)
-kept-changes_of element at bytes zero within plain decided = rw add-zero refl
-kept-changes_of element at [] (suc n) within plain decided = absurd (omega arith)
-kept-changes_of element at (b ∷ bytes) (suc n) within plain decided =
-    let later : decided_changes_of element (at + 1) bytes ≡ decided_changes_of element ((at + 1) + n) (drop n bytes) =
-    kept-changes_of element (at + 1) bytes n (omega arith) (λ k below. plain (suc k) (omega arith)) (λ k below. decided (suc k) (omega arith)) in
-    let there : (at + 1) + n ≡ at + suc n = omega arith in
-    rw (decided 0 (omega arith), plain 0 (omega arith)) (rw there at later)
-
--- the changes from a place on are those from a later one on, where nothing begins between
-reached-changes : (element : Element) (source : List ℕ) (from place end at : ℕ) → IsFirstAt (opens_at element source) from (length source) place
-    → IsFirstAt (partial_at element source) from (length source) end → from ≤ at → at ≤ place → at ≤ end
-    → decided_changes element source from ≡ decided_changes element source at
-reached-changes element source from place end at opening partial ordered before_opening before_end =
-    let there : from + (at - from) ≡ at = omega arith in
-    kept-changes_of element from (drop from source) (at - from) (omega (arith, length-drop from source, opening.in_range))
-    (λ k below. rw (drop-drop k from source) (opening.before (from + k) (omega arith) (omega arith)))
-    (λ k below. rw (drop-drop k from source) (partial.before (from + k) (omega arith) (omega arith)))
-    ∙ rw (drop-drop (at - from) from source, there) refl
-
--- none is left where no opening begins any more, and nothing is partial
-pub no-decided_changes : (element : Element) (source : List ℕ) (from place end : ℕ) → IsFirstAt (opens_at element source) from (length source) place
-    → IsFirstAt (partial_at element source) from (length source) end → end ≤ place → end ≡ length source → decided_changes element source from ≡ []
-no-decided_changes element source from place end opening partial before is_end =
-    reached-changes element source from place end end opening partial partial.ordered before (omega arith) ∙ rw (is_end, drop-length source) refl
-
--- the last is that of the partial end
-pub last-decided_changes : (element : Element) (source : List ℕ) (from place end : ℕ) → IsFirstAt (opens_at element source) from (length source) place
-    → IsFirstAt (partial_at element source) from (length source) end → end ≤ place → end < length source
-    → decided_changes element source from ≡ record { start = end; end = length source; bytes = [] } ∷ decided_changes element source (length source)
-last-decided_changes element source from place end opening partial before within =
-    let open_end = rw (drop_more source end 0 within) at (partial.found within) in
-    let last : end + suc (length (drop (end + 1) source)) ≡ length source = omega (arith, length-drop (end + 1) source) in
-    reached-changes element source from place end end opening partial partial.ordered before (omega arith)
-    ∙ rw (drop_more source end 0 within) (rw (open_end, last, drop-length source) refl)
-
--- the first is that of the first opening, where it comes before the partial end
-pub next-decided_changes : (element : Element) (source : List ℕ) (from place end : ℕ) → IsFirstAt (opens_at element source) from (length source) place
-    → IsFirstAt (partial_at element source) from (length source) end → place < end
-    → decided_changes element source from ≡ record { start = place + 1; end = place + 1; bytes = backslash ∷ [] } ∷ decided_changes element source (place + 1)
-next-decided_changes element source from place end opening partial before =
-    let within : place < length source = omega (arith, partial.in_range) in
-    let decided = rw (drop_more source place 0 within) at (partial.before place opening.ordered before) in
-    reached-changes element source from place end place opening partial opening.ordered (omega arith) (omega arith)
-    ∙ rw (drop_more source place 0 within) (rw (decided, rw (drop_more source place 0 within) at (opening.found within)) refl)
 
 -- one byte more, by whether it is partial, or an opening begins at it
 applied-step : (element : Element) (source : List ℕ) (from at b : ℕ) (bytes : List ℕ) → from ≤ at → drop at source ≡ b ∷ bytes

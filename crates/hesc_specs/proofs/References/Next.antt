@@ -60,17 +60,17 @@ module _ (source : List ℕ) (from at : ℕ) (first : IsFirstPlace is_stop sourc
       (λ k below. rw (get_or-drop from source k 0) (first.before (from + k) (omega arith) (omega arith))) in
       skipped ∙ rw (drop-drop (at - from) from source, there) refl
 
-  body_of-unended : at ≡ length source → body_of (drop from source) ≡ None
+  pub body_of-unended : at ≡ length source → body_of (drop from source) ≡ None
   unfolding prepend
   body_of-unended is_end = body_of-reached ∙ rw (is_end, drop-length source) refl
 
-  body_of-cut : at < length source → is_start (slice_index source at) ≡ true → body_of (drop from source) ≡ None
+  pub body_of-cut : at < length source → is_start (slice_index source at) ≡ true → body_of (drop from source) ≡ None
   unfolding prepend
   body_of-cut within start =
       let no_end : slice_index source at == semicolon ≡ false = grind (arith, nat_tests, start) in
       body_of-reached ∙ rw (drop_more source at 0 within, no_end, start) refl
 
-  body_of-ended : at < length source → is_start (slice_index source at) ≡ false → body_of (drop from source) ≡ Some (slice_range source from at)
+  pub body_of-ended : at < length source → is_start (slice_index source at) ≡ false → body_of (drop from source) ≡ Some (slice_range source from at)
   unfolding prepend
   body_of-ended within no_start =
       let end : slice_index source at == semicolon ≡ true = grind (arith, nat_tests, no_start, first.found within) in
@@ -114,25 +114,13 @@ module _ (rows : List Row) where
       up_to_stop : reference_changes rows source (start + 1) ≡ reference_changes rows source end
       up_to_stop = skipped (start + 1) end first.ordered first.in_range (λ k low high. start_is_stop (slice_index source k) (first.before k low high))
 
-      from_start : reference_changes rows source start
+      pub from_start : reference_changes rows source start
           ≡ with_reference start (body_of (drop (start + 1) source)) (reference_value rows (drop (start + 1) source)) (reference_changes rows source (start + 1))
       from_start = rw (drop_more source start 0 within, begins) refl
 
-      -- no `&` or `;` comes any more
-      pub unended : end ≡ length source → reference_changes rows source start ≡ []
-      unended is_end = from_start ∙ rw (body_of-unended source (start + 1) end first is_end) (up_to_stop ∙ none_at_end end is_end)
-
-      -- another `&` comes before a `;`
-      pub cut : end < length source → is_start (slice_index source end) ≡ true → reference_changes rows source start ≡ reference_changes rows source end
-      cut inner stop = from_start ∙ rw (body_of-cut source (start + 1) end first inner stop) up_to_stop
-
       module _ (inner : end < length source) (ends : is_start (slice_index source end) ≡ false) where
-        after_end : reference_changes rows source (start + 1) ≡ reference_changes rows source (end + 1)
+        pub after_end : reference_changes rows source (start + 1) ≡ reference_changes rows source (end + 1)
         after_end = up_to_stop ∙ rw (drop_more source end 0 inner, ends) refl
-
-        -- the body has no value
-        pub unknown : body_value rows (slice_range source (start + 1) end) ≡ None → reference_changes rows source start ≡ reference_changes rows source (end + 1)
-        unknown is_none = from_start ∙ rw (body_of-ended source (start + 1) end first inner ends, is_none) after_end
 
         -- the body has a value
         pub replaced : (value : List ℕ) → body_value rows (slice_range source (start + 1) end) ≡ Some value

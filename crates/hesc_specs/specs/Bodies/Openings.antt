@@ -1,5 +1,5 @@
 -- Openings of a body: where a comment or the element's end tag could begin. Each place is judged by itself, by what the text from it on begins with.
-use Rattle.std.specs.Prelude.{◌≡◌, ℕ, Bool, true, false, ◌&&◌, ◌||◌, nat_le, ◌==◌, List, [], ◌∷◌, drop, codes}
+use Rattle.std.specs.Prelude.{◌≡◌, ℕ, zero, suc, Bool, true, false, ◌&&◌, ◌||◌, nat_le, ◌==◌, List, [], ◌∷◌, drop, codes}
 use Rattle.hesc_specs.specs.Text.Ascii.{slash, less_than, greater_than, backslash}
 use Rattle.hesc_specs.specs.Text.Words.{begins, begins_in_any_case}
 use Rattle.hesc_specs.specs.Text.Elements.{element_name}
@@ -32,6 +32,11 @@ opens_at element text place = is_opening element (drop place text)
 -- an escaped opening begins at a place of a text
 abbrev pub opens_escaped_at : Element → List ℕ → ℕ → Bool
 opens_escaped_at element text place = is_escaped_opening element (drop place text)
+
+-- a place has the `\` of an escaped opening, which begins right before
+abbrev pub drops_at : Element → List ℕ → ℕ → Bool
+drops_at element text zero = false
+drops_at element text (suc place) = opens_escaped_at element text place
 
 -- no opening begins at any place
 abbrev pub HasNoOpening : Element → List ℕ → Type 0

@@ -1,5 +1,5 @@
 -- The changes of decoding: the references that have a value.
-use Rattle.std.specs.Prelude.{ℕ, ◌+◌, List, [], ◌∷◌, drop, length, Option, Some, None, ◌==◌, if◌then◌else◌}
+use Rattle.std.specs.Prelude.{ℕ, ◌+◌, Bool, ◌&&◌, List, [], ◌∷◌, drop, length, slice_index, Option, Some, None, is_some, ◌==◌, if◌then◌else◌}
 use Rattle.hesc_specs.specs.Text.Ascii.{ampersand}
 use Rattle.hesc_specs.specs.Text.Changes.{Change}
 use Rattle.hesc_specs.specs.References.Rows.{Row}
@@ -21,3 +21,7 @@ reference_changes_of rows at (b ∷ bytes) =
 -- the changes of a source from a place on
 abbrev pub reference_changes : List Row → List ℕ → ℕ → List Change
 reference_changes rows source from = reference_changes_of rows from (drop from source)
+
+-- a reference that has a value begins at a place
+abbrev pub refers_at : List Row → List ℕ → ℕ → Bool
+refers_at rows source place = slice_index source place == ampersand && is_some (reference_value rows (drop (place + 1) source))

@@ -1,10 +1,10 @@
 -- The changes of the string encoders and decoders.
-use Rattle.std.specs.Prelude.{ℕ, zero, suc, ◌+◌, Bool, List, [], ◌∷◌, Some, None, drop, length, ◌==◌, chars, encode_utf8, if◌then◌else◌}
-use Rattle.hesc_specs.specs.Text.Ascii.{less_than}
+use Rattle.std.specs.Prelude.{ℕ, zero, suc, ◌+◌, Bool, ◌&&◌, List, [], ◌∷◌, Some, None, drop, length, slice_index, is_some, ◌==◌, chars, encode_utf8, if◌then◌else◌}
+use Rattle.hesc_specs.specs.Text.Ascii.{backslash, less_than}
 use Rattle.hesc_specs.specs.Bodies.Changes.{byte_before}
 use Rattle.hesc_specs.specs.Text.Changes.{Change}
 use Rattle.hesc_specs.specs.Strings.Encoding.{is_escaped, string_escape}
-use Rattle.hesc_specs.specs.Strings.Tokens.{Escape, escape_at}
+use Rattle.hesc_specs.specs.Strings.Tokens.{Escape, escape, escape_at}
 use Rattle.hesc_specs.specs.declared.elements.Element.{Element}
 use Rattle.hesc_specs.specs.declared.quotes.Quotes.{Quotes}
 
@@ -43,3 +43,8 @@ is_after_less source place = byte_before source place == less_than
 -- a string decoder's changes of a source from a place on: the escapes of the cut that begins there
 abbrev pub string_decoding_changes : Element → Quotes → List ℕ → ℕ → List Change
 string_decoding_changes element quotes source from = string_decoding_changes_of element quotes from 0 (is_after_less source from) (drop from source)
+
+-- an escape begins at a place
+abbrev pub string_escapes_at : Element → Quotes → List ℕ → ℕ → Bool
+string_escapes_at element quotes source place =
+    slice_index source place == backslash && is_some (escape element quotes (is_after_less source place) (drop (place + 1) source))

@@ -1,9 +1,9 @@
 -- What the encoder and the decoder of a class make of a text, and where they change it.
-use Rattle.std.specs.Prelude.{ℕ, List, [], Option, Some, None}
+use Rattle.std.specs.Prelude.{ℕ, Bool, false, List, [], Option, Some, None}
 use Rattle.hesc_specs.specs.Text.Changes.{Change, html_changes}
 use Rattle.hesc_specs.specs.Text.Classes.{string_class}
 use Rattle.hesc_specs.specs.Html.{encoding}
-use Rattle.hesc_specs.specs.Strings.Changes.{string_decoding_changes, string_encoding_changes}
+use Rattle.hesc_specs.specs.Strings.Changes.{string_decoding_changes, string_encoding_changes, string_escapes_at}
 use Rattle.hesc_specs.specs.Strings.Tokens.{string_decoding}
 use Rattle.hesc_specs.specs.Strings.Encoding.{string_encoding}
 use Rattle.hesc_specs.specs.declared.classes.Class.{Class}
@@ -30,3 +30,7 @@ unescaped class = by_class (string_class class) (λ text. text) string_decoding
 -- the changes of the decoder of a class, of a source from a place on
 abbrev pub unescape_changes : Class → List ℕ → ℕ → List Change
 unescape_changes class = by_class (string_class class) (λ source from. []) string_decoding_changes
+
+-- an escape of a class begins at a place; an HTML encoder's class has none
+abbrev pub unescapes_at : Class → List ℕ → ℕ → Bool
+unescapes_at class = by_class (string_class class) (λ source place. false) string_escapes_at

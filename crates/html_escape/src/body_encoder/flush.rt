@@ -7,11 +7,8 @@ ghost use Rattle.hesc_specs.specs.Bodies.Sessions.{is_partial, flushed, decided_
 use crate::body_encoder::carry::MOST_BYTES;
 use crate::body_encoder::decided::EncodeDecided;
 use hesc_core::forms::Parts;
-use hesc_core::openings::first_opening;
+use hesc_core::openings::completes_opening;
 use hesc_core::{Element, Sink, run};
-
-/// The longest text that is made on the stack.
-const SHORT: usize = 384;
 
 /// Whether an opening begins with what is held, which the first bytes of it and of what follows
 /// decide.
@@ -23,7 +20,7 @@ pub(crate) fn is_opened(element: Element, held: &[u8], front: &[u8]) -> bool
     if held.is_empty() {
         return false;
     }
-    first_opening(element, front, 0) == 0
+    front[0] == b'<' && completes_opening(element, &front[1..])
 }
 
 /// What is held, with a `\` after its `<` where it begins an opening, and then what is decided of
@@ -43,31 +40,12 @@ impl Parts for Flushed<'_> {
     ghost text = { λ parts.
         flushed parts.opens parts.held.now ++ decided_encoding parts.element parts.piece.now };
 
-    ghost known_length = { λ parts. length
-        (flushed parts.opens parts.held.now ++ decided_encoding parts.element parts.piece.now) };
-
     fn put_into<S: Sink>(&self, sink: &mut S) -> Result<(), S::Fault> {
         put_held(self.held, self.opens, sink)?;
         run(&EncodeDecided(self.element), self.piece, sink)
     }
 
-    // Where there is room for what any piece of this length may add, nothing is measured.
-    #[inline(always)]
-    fn may_fit(&self, spare: usize) -> bool {
-        let most = self.most();
-        most > SHORT && most <= spare
-    }
-
-    #[inline(always)]
-    fn short_bound(&self) -> Option<usize> {
-        let most = self.most();
-        if most <= SHORT { Some(most) } else { None }
-    }
-}
-
-impl Flushed<'_> {
-    // An upper bound of the length, computed without a scan of the piece: an opening has four bytes at
-    // least, and gets one more.
+    // An opening has four bytes at least, and gets one more.
     #[inline(always)]
     #[tactic(auto, using(crate::proofs::DecidedBound::most_flushed))]
     fn most(&self) -> usize

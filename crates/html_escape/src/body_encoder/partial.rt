@@ -12,7 +12,7 @@ use hesc_core::Element;
 use hesc_core::find::first_byte;
 
 /// The most bytes that can be partial: `<`, `/` and the longer name.
-const MOST_UNDECIDED: usize = 8;
+pub(crate) const MOST_UNDECIDED: usize = 8;
 
 /// The least place at or after `from` from which on the bytes are partial, or the length where
 /// there is none. It goes from `<` to `<` among the last bytes alone.

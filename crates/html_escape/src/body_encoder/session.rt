@@ -16,7 +16,7 @@ use crate::body_encoder::flush::{Flushed, is_opened};
 use crate::body_encoder::partial::{first_partial, is_partial};
 use hesc_core::Element;
 use hesc_core::forms::{append_parts, append_to_string};
-use hesc_core::rules::{EncodeScript, EncodeStyle};
+use hesc_core::rules::EncodeBody;
 use std::alloc::{AllocError, Allocator};
 use std::str;
 
@@ -259,8 +259,5 @@ fn append_body<A: Allocator>(
         (body_encoding kind body.now) result }
     ensures fits { length (body_encoding kind body.now) ≤ string_room output.old → IsOk result }
 {
-    match kind {
-        Element::Script => append_to_string(output, &EncodeScript, body),
-        Element::Style => append_to_string(output, &EncodeStyle, body),
-    }
+    append_to_string(output, &EncodeBody(kind), body)
 }

@@ -5,8 +5,9 @@ mod rules;
 mod searches;
 mod sinks;
 
-use hesc_core::rules::{next_escape, next_references};
+use hesc_core::rules::{Escape, References};
 use hesc_core::scan::first_in;
+use hesc_engine::change_from;
 use html_escape::{
     BodyEncoder, BodyKind, Class, Encoder, EntityTable, Found, Operation, SmallText, append,
     append_to_vec, encode_pieces, pieces,
@@ -86,10 +87,10 @@ fn tables_searches_and_rules_answer_as_they_are_said_to(rt: HostRuntime) {
     assert!(rt; first_in(Class::Text, b"a<b", 0) == 1);
     assert!(rt; first_in(Class::Text, b"a<b", 2) == 3);
     assert!(rt; SmallText::from_char('\u{C6}').len() == 2);
-    let found = next_escape(Class::Text, "a<b", 0);
+    let found = change_from(&Escape(Class::Text), "a<b", 0);
     assert!(rt; is_change(found, 1, 2, "&lt;"));
-    let found = next_references(&table, "a&lt;b", 0);
-    assert!(rt; is_change(found, 1, 5, "<"));
+    let references = References(&table);
+    assert!(rt; is_change(change_from(&references, "a&lt;b", 0), 1, 5, "<"));
     let rows = table.rows();
     assert!(rt; rows.len() == 77);
     assert!(rt; rows.first() == Some(&(b"AElig".as_slice(), "\u{C6}")));

@@ -26,24 +26,13 @@ returns-in_err-put_component-clause-err_taken g c =
     ∙ ap (λ k. written c.in-Slot.slot.place k text ++ later) c.in-UrlPart.is)
     c.in_err-put_component.ensures.err_taken)
 
-pub returns-in_err-run_made-in-Some-of-clause-err_taken : goal.returns-in_err-run_made-in-Some-of-clause-err_taken
-returns-in_err-run_made-in-Some-of-clause-err_taken g c =
+pub returns-in_err-put_escaped-clause-err_taken : goal.returns-in_err-put_escaped-clause-err_taken
+returns-in_err-put_escaped-clause-err_taken g c =
     let slot = c.in-Slot.slot in
     let text = c.in-Some-take_first.text.now in
     let later = page (map chunk_of (drop 1 c.pieces.rest.now)) (g.T.Texts.list c.in-Some-take_first.more) in
-    on_err c.from_residual-in_err-run_made-in-Some-of.result
-    (Progress-stop c.pieces.invariant.progress _ later _
-    (slot_first c.pieces.rest.now c.piece-item.result slot (g.T.Texts.list c.pieces.left) _ text c.in-len1-up.len_at_least c.piece-item.is c.in-Slot.is c.in-Some-take_first.ensures.first
-    ∙ ap (λ l. l ++ later) (written_encoded slot.place slot.kind text c.in_default-kind.not-UrlPart ∙ sym (slot.encodes text) ∙ rw (c.in-Some-of.ensures.rule, c.in-Some-of.ensures.text) refl))
-    c.in_err-run_made-in-Some-of.ensures.err_taken)
-
-pub returns-in_err-put_kept-in-None-of-clause-err_taken : goal.returns-in_err-put_kept-in-None-of-clause-err_taken
-returns-in_err-put_kept-in-None-of-clause-err_taken g c =
-    let slot = c.in-Slot.slot in
-    let text = c.in-Some-take_first.text.now in
-    let later = page (map chunk_of (drop 1 c.pieces.rest.now)) (g.T.Texts.list c.in-Some-take_first.more) in
-    on_err c.from_residual-in_err-put_kept-in-None-of.result
+    on_err c.from_residual-in_err-put_escaped.result
     (Progress-stop c.pieces.invariant.progress _ later _
     (slot_first c.pieces.rest.now c.piece-item.result slot (g.T.Texts.list c.pieces.left) _ text c.in-len1-up.len_at_least c.piece-item.is c.in-Slot.is c.in-Some-take_first.ensures.first
     ∙ ap (λ l. l ++ later) (written_encoded slot.place slot.kind text c.in_default-kind.not-UrlPart ∙ sym (slot.encodes text)))
-    c.in_err-put_kept-in-None-of.ensures.err_taken)
+    c.in_err-put_escaped.ensures.err_taken)

@@ -1,15 +1,15 @@
 //! The examples of the engine: rules, pieces and forms.
 use crate::tests::examples::is_change;
 use hesc_core::forms::made::Made;
-use hesc_core::forms::measure::{measure, room_for};
+use hesc_core::forms::measure::{measure, room_for, total};
 use hesc_core::forms::{
-    Parts, append_parts, append_parts_to_vec, append_to_string, append_to_vec, onto_string,
-    onto_vec, to_cow, to_writer,
+    Parts, append_parts, append_parts_to_vec, append_to_string, append_to_vec, kept_to_writer,
+    onto_string, onto_vec, to_cow, to_writer,
 };
-use hesc_core::rules::{Escape, HtmlEscape, StringEscape};
-use hesc_core::{Class, Counter, Element, Piece, Pieces, Replacement, Rule, SmallText, run};
-use hesc_engine::Ahead;
+use hesc_core::rules::{Escape, Unescape};
+use hesc_core::{Class, Counter, Length, Piece, Pieces, Replacement, Rule, SmallText, Sought, run};
 use hesc_engine::engine::run_made;
+use hesc_engine::{Ahead, change_from};
 use std::process::Abort;
 use std::test::Fail;
 use test_support::{Trouble, WeakWriter, Weakness};
@@ -17,36 +17,35 @@ use test_support::{Trouble, WeakWriter, Weakness};
 #[test]
 fn a_rule_answers_as_it_is_said_to(rt: HostRuntime) {
     let encoder = Escape(Class::Text);
-    assert!(rt; is_change(encoder.next("a<b", 0), 1, 2, "&lt;"));
-    let mut ahead = Ahead::nothing("a<b");
+    assert!(rt; is_change(change_from(&encoder, "a<b", 0), 1, 2, "&lt;"));
+    let ahead = Ahead::nothing("a<b");
     assert!(rt; ahead.start == 3 && ahead.hits == 0);
-    assert!(rt; is_change(encoder.next_ahead("a<b", 0, &mut ahead), 1, 2, "&lt;"));
-    assert!(rt; ahead.hits == 0b10);
-    assert!(rt; encoder.total("a<b") == Some(6));
-    assert!(rt; encoder.total_by_changes("a<b") == Some(6));
+    assert!(rt; matches!(encoder.seeks().sought, Sought::InClass(Class::Text)));
+    assert!(rt; matches!(encoder.length("a<b"), Length::Exactly(6)));
     assert!(rt; encoder.longest("a<b") == Some(18));
-    let encoder = Escape(Class::ScriptQuoted);
-    assert!(rt; encoder.bound("\u{20AC}") == Some(6));
-    assert!(rt; encoder.total("\u{20AC}") == Some(3));
-    let encoder = HtmlEscape { class: Class::Text };
-    let Some(texts) = encoder.texts("a<b") else {
+    let Some(texts) = encoder.seeks().texts else {
         panic!(rt; "it has texts");
     };
     let Some(text) = texts.text_for(b'<') else {
         panic!(rt; "it has a text");
     };
     assert!(rt; text.as_str() == "&lt;");
-    let encoder = StringEscape {
-        class: Class::ScriptQuoted,
-        element: Element::Script,
-    };
-    let Some(texts) = encoder.texts("it's") else {
+    let encoder = Escape(Class::ScriptQuoted);
+    assert!(rt; matches!(encoder.length("\u{20AC}"), Length::AtMost(6)));
+    assert!(rt; total(&encoder, "\u{20AC}") == Some(3));
+    let Some(texts) = encoder.seeks().texts else {
         panic!(rt; "it has texts");
     };
     let Some(text) = texts.text_for(b'\'') else {
         panic!(rt; "it has a text");
     };
     assert!(rt; text.as_str() == "\\'");
+    assert!(rt;
+        matches!(
+            Unescape(Class::ScriptQuoted).length("it"),
+            Length::AtMost(2)
+        )
+    );
 }
 
 #[test]
@@ -127,6 +126,8 @@ fn a_form_writes_as_it_is_said_to(rt: HostRuntime) -> Result<(), Fail> {
     );
     to_writer(&Escape(Class::Text), "a<b", &mut writer)?;
     assert!(rt; writer.taken.as_slice() == b"a&lt;b".as_slice());
+    kept_to_writer("a<b", &mut writer)?;
+    assert!(rt; writer.taken.as_slice() == b"a&lt;ba<b".as_slice());
     Ok(())
 }
 
@@ -138,8 +139,9 @@ fn parts_are_put_as_they_are_said_to_be(rt: HostRuntime) -> Result<(), Fail> {
         panic!(rt; "it changes");
     };
     assert!(rt; made.room_for(0) == Ok(6));
-    assert!(rt; !made.may_fit(6));
-    assert!(rt; made.short_bound() == Some(18));
+    assert!(rt; made.most() == 18);
+    assert!(rt; !made.may_fit(18));
+    assert!(rt; made.about().is_none());
     let mut counter = Counter::new();
     made.put_into(&mut counter)?;
     assert!(rt; counter.count() == 6);

@@ -1,40 +1,29 @@
 //! The examples of the rules.
 use crate::tests::examples::is_change;
-use hesc_core::rules::escape::next_escape_ahead;
-use hesc_core::rules::html::escape::next_html_escape;
-use hesc_core::rules::references::next_references_ahead;
-use hesc_core::rules::strings::escape::next_string_escape;
-use hesc_core::rules::unescape::next_unescape_ahead;
 use hesc_core::rules::{
-    HtmlEscape, StringEscape, StringUnescape, next_body_escape, next_body_unescape,
-    next_string_unescape, next_unescape, string_class,
+    DecodeBody, EncodeBody, Escape, Unescape, body_escape_at, body_unescape_at, reference_at,
+    string_class, unescape_at,
 };
 use hesc_core::table::entities::entities_agree;
-use hesc_core::{Class, Element, Quotes, Rule};
-use hesc_engine::Ahead;
+use hesc_core::{Class, Element, Quotes};
+use hesc_engine::change_from;
 use html_escape::decoder::next_decoded;
 use html_escape::encoder::next_encoded;
 use html_escape::{Decoder, Encoder, EntityTable, NAMED_ENTITIES};
 
 #[test]
 fn encoders_change_what_they_are_said_to(rt: HostRuntime) {
-    let found = next_body_escape(Element::Script, "a</script>", 0);
+    let found = body_escape_at(Element::Script, "a</script>", 1);
     assert!(rt; is_change(found, 2, 2, "\\"));
-    let mut ahead = Ahead::nothing("a<b");
-    let found = next_escape_ahead(Class::Text, "a<b", 0, &mut ahead);
-    assert!(rt; is_change(found, 1, 2, "&lt;"));
-    assert!(rt; ahead.hits == 0b10);
-    let found = next_html_escape(Class::Text, "a<b", 0);
-    assert!(rt; is_change(found, 1, 2, "&lt;"));
-    let found = next_string_escape(Class::ScriptQuoted, Element::Script, "it's", 0);
-    assert!(rt; is_change(found, 2, 3, "\\'"));
-    let html = HtmlEscape { class: Class::Text };
-    assert!(rt; is_change(html.next("a<b", 0), 1, 2, "&lt;"));
-    let string = StringEscape {
-        class: Class::ScriptQuoted,
-        element: Element::Script,
-    };
-    assert!(rt; is_change(string.next("it's", 0), 2, 3, "\\'"));
+    let script = EncodeBody(Element::Script);
+    assert!(rt; is_change(change_from(&script, "a</script>", 0), 2, 2, "\\"));
+    let html = Escape(Class::Text);
+    assert!(rt; is_change(change_from(&html, "a<b", 0), 1, 2, "&lt;"));
+    let string = Escape(Class::ScriptQuoted);
+    assert!(rt; is_change(change_from(&string, "it's", 0), 2, 3, "\\'"));
+    assert!(rt; is_change(change_from(&string, "a\u{2029}", 0), 1, 4, "\\u2029"));
+    let style = Escape(Class::StyleQuoted);
+    assert!(rt; is_change(change_from(&style, "a\0", 0), 1, 2, "\u{FFFD}"));
     assert!(rt;
         matches!(
             string_class(Class::ScriptQuoted),
@@ -47,22 +36,18 @@ fn encoders_change_what_they_are_said_to(rt: HostRuntime) {
 
 #[test]
 fn decoders_change_what_they_are_said_to(rt: HostRuntime) {
-    let found = next_body_unescape(Element::Script, "a<\\/script>", 0);
+    let found = body_unescape_at(Element::Script, "a<\\/script>", 2);
     assert!(rt; is_change(found, 2, 3, ""));
-    let found = next_unescape(Class::ScriptQuoted, "it\\'s", 0);
+    let script = DecodeBody(Element::Script);
+    assert!(rt; is_change(change_from(&script, "a<\\/script>", 0), 2, 3, ""));
+    let found = unescape_at(Class::ScriptQuoted, "it\\'s", 2);
     assert!(rt; is_change(found, 2, 4, "'"));
-    let mut ahead = Ahead::nothing("it\\'s");
-    let found = next_unescape_ahead(Class::ScriptQuoted, "it\\'s", 0, &mut ahead);
-    assert!(rt; is_change(found, 2, 4, "'"));
-    assert!(rt; ahead.hits == 0b100);
-    let mut ahead = Ahead::nothing("a&lt;b");
-    let found = next_references_ahead(&EntityTable::built_in(), "a&lt;b", 0, &mut ahead);
+    let string = Unescape(Class::ScriptQuoted);
+    assert!(rt; is_change(change_from(&string, "it\\'s", 0), 2, 4, "'"));
+    let style = Unescape(Class::StyleQuoted);
+    assert!(rt; is_change(change_from(&style, "a\\3C b", 0), 1, 5, "<"));
+    let found = reference_at(&EntityTable::built_in(), "a&lt;b", 1);
     assert!(rt; is_change(found, 1, 5, "<"));
-    assert!(rt; ahead.hits == 0b10);
-    let found = next_string_unescape(Element::Style, Quotes::Both, "a\\3C b", 0);
-    assert!(rt; is_change(found, 1, 5, "<"));
-    let string = StringUnescape(Element::Script, Quotes::Both);
-    assert!(rt; is_change(string.next("it\\'s", 0), 2, 4, "'"));
     let found = next_decoded(Decoder::HtmlEntities, "a&lt;b", 0);
     assert!(rt; is_change(found, 1, 5, "<"));
 }

@@ -3,11 +3,11 @@ use Rattle.std.proofs.lemmas.Str.{IsCharBoundary-start}
 use Rattle.hesc_specs.proofs.Text.Parts.{parts-joined, parts-few}
 use Rattle.hesc_engine.proofs.pieces.Pieces.new.Goals as goal
 
-pub from_place-requires-clause-boundary : goal.from_place-requires-clause-boundary
-from_place-requires-clause-boundary g c = IsCharBoundary-start _ c.utf8.text
-
-pub from_place-requires-clause-ahead : goal.from_place-requires-clause-ahead
-from_place-requires-clause-ahead g c = c.nothing.ensures (g.R.Rule.is_sought c.args.rule.now)
+pub invariant_of-result : goal.invariant_of-result
+invariant_of-result g c = record {
+  boundary = IsCharBoundary-start _ c.utf8.text;
+  known = c.nothing.ensures (g.R.Rule.is_sought c.args.rule.now);
+}
 
 pub returns-clause-joined : goal.returns-clause-joined
 returns-clause-joined g c = parts-joined c.args.text.now 0 (g.R.Rule.changes_from c.args.rule.now c.args.text.now 0) ∙ g.met.R.Rule.makes c.args.rule.now c.args.text.now c.utf8.text

@@ -15,8 +15,8 @@ pub returns-in-Err-clause-each : goal.returns-in-Err-clause-each
 returns-in-Err-clause-each g c =
     each_filled (Unit {0}) (pieces_of c.args.self.now) (g.T.Texts.list c.args.texts.now) (Err c.in-Err.fault) (returns-in-Err-clause-faults g c)
 
-pub returns-in_err-append_page-clause-each : goal.returns-in_err-append_page-clause-each
-returns-in_err-append_page-clause-each g c =
+pub returns-in_err-append_parts-clause-each : goal.returns-in_err-append_parts-clause-each
+returns-in_err-append_parts-clause-each g c =
     each_filled (Unit {0}) (pieces_of c.args.self.now) (g.T.Texts.list c.args.texts.now) _ (search rules)
 
 pub returns-clause-each : goal.returns-clause-each

@@ -1,7 +1,0 @@
-use Rattle.hesc_core.proofs.rules.bodies.DecodeScriptRule.next.Goals as goal
-
-pub returns-clause-none : goal.returns-clause-none
-returns-clause-none c = c.next_body_unescape.ensures.none
-
-pub returns-clause-found : goal.returns-clause-found
-returns-clause-found c = c.next_body_unescape.ensures.found
