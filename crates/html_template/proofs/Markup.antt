@@ -8,7 +8,7 @@ use Rattle.std.specs.List.{list_any}
 use Rattle.std.specs.Option.{option_map}
 use Rattle.hesc_specs.specs.Text.Ascii.{ampersand, equals_sign, semicolon}
 use Rattle.html_tokenizer.specs.UrlValues.{after_last, url_text, url_text_from}
-use Rattle.html_template.specs.UrlTexts.{IsRead, Takes}
+use Rattle.html_template.specs.OpenUrls.UrlTexts.{IsRead, Takes}
 
 -- ---- after the last byte that passes
 

@@ -10,6 +10,4 @@ pub mod TemplatePieces
 pub mod Walks
 pub mod PageUrls
 pub mod FilledUrls
-pub mod UrlTexts
-pub mod PlainTexts
 pub mod Writing

@@ -1,6 +1,8 @@
 -- URLs that hold slots: what the markup before a slot, between slots and behind them may be.
 -- A value in quotes holds its own quote mark nowhere, and one without quotes neither `=` nor white space: so the value so far is
 -- what stands after the last of these bytes, and it ends before the next byte that ends it.
+pub mod PlainTexts
+pub mod UrlTexts
 use Rattle.std.specs.Prelude.{◌≡◌, ⊤, ℕ, ◌-◌, Bool, ◌&&◌, ◌||◌, ◌==◌, List, [], ◌∷◌, Option, Some, None, Result, Ok, Err, if◌then◌else◌, length, nat_lt, not, slice_index_or, take}
 use Rattle.std.specs.List.{position_or_len}
 use Rattle.std.specs.Option.{option_and_then}

@@ -1,11 +1,7 @@
-pub mod BlockStores
+pub mod Encoded
 pub mod Components
-pub mod EncodedDigits
-pub mod EncodedLanes
-pub mod EncodedRows
 pub mod Examples
 pub mod Fragments
-pub mod HalfLanes
 pub mod Links
 pub mod Paths
 pub mod Places

@@ -1,7 +1,6 @@
+pub mod Encoded
+pub mod Slots
 pub mod Decoding
-pub mod EncodedDecoding
-pub mod EncodedPairs
-pub mod EncodedSplits
 pub mod Filling
 pub mod Fills
 pub mod Fronts
@@ -10,8 +9,6 @@ pub mod PathShapes
 pub mod Pieces
 pub mod PlainParts
 pub mod ShapeLaw
-pub mod SlotScheme
-pub mod SlotSegments
 pub mod TailShapes
 pub mod Tails
 pub mod UrlPairs

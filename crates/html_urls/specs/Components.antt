@@ -1,4 +1,5 @@
 -- A text as one component of a URL (RFC 3986, 2.3 Unreserved Characters; URL Standard, 1.3 Percent-encoded bytes).
+pub mod Lanes
 use Rattle.std.specs.Prelude.{ℕ, Bool, ◌||◌, ◌==◌, List, All, if◌then◌else◌}
 use Rattle.std.specs.Char.{is_ascii_alphanumeric}
 use Rattle.std.specs.List.{sum_by}

@@ -3,7 +3,6 @@ pub mod Decoded
 pub mod Heads
 pub mod Hosts
 pub mod Inputs
-pub mod Lanes
 pub mod Links
 pub mod OpenParts
 pub mod Parts

@@ -3,10 +3,15 @@ ghost use Rattle.std.specs.Prelude.{◌≡◌, ◌≤◌, ◌<◌, ◌+◌, ◌+
 ghost use Rattle.hesc_specs.specs.Text.Beginning.{TookBeginning};
 ghost use Rattle.html_urls.specs.Components.{IsUnreservedText, component};
 
-use crate::blocks::{ROOM, SHORT_ROOM, first_block, kept_block, made_block};
-use crate::lanes::LANES;
+pub(crate) mod blocks;
+pub(crate) mod lanes;
+pub(crate) mod rows;
+pub(crate) mod unreserved;
+
+use crate::component::blocks::{ROOM, SHORT_ROOM, first_block, kept_block, made_block};
+use crate::component::lanes::LANES;
+use crate::component::unreserved::is_unreserved_block;
 use crate::length::component_length;
-use crate::unreserved::is_unreserved_block;
 use hesc_engine::forms::Parts;
 use hesc_engine::{CountOverflow, Sink};
 use percent_encoding::{AsciiSet, NON_ALPHANUMERIC, ascii_set};

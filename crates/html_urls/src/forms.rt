@@ -9,9 +9,9 @@ ghost use Rattle.percent_encoding.specs.Cow.{IsBorrowedStr};
 ghost use Rattle.hesc_engine.specs.Forms.{Appended, AnswersPart, StringAppended, VecAppended, WritesText, string_room, vec_room};
 ghost use Rattle.html_urls.specs.Components.{IsUnreservedText, component};
 
-use crate::blocks::{BLOCK, ROOM, SHORT_ROOM, made_block};
+use crate::component::blocks::{BLOCK, ROOM, SHORT_ROOM, made_block};
+use crate::component::lanes::LANES;
 use crate::component::{Component, is_unreserved, put_component};
-use crate::lanes::LANES;
 use hesc_engine::WriterSink;
 use hesc_engine::forms::{append_parts, append_parts_to_vec};
 use std::alloc::{AllocError, Allocator};

@@ -2,8 +2,8 @@
 ghost use Rattle.std.specs.Prelude.{◌≡◌, ◌≤◌, ◌<◌, ◌^◌, length, IfSome, IsSome};
 ghost use Rattle.html_urls.specs.Components as spec;
 
-use crate::rows::is_kept;
-use crate::unreserved::encoded_mask;
+use crate::component::rows::is_kept;
+use crate::component::unreserved::encoded_mask;
 
 /// The length of the component of `text`, in bytes, or `None` where it would pass the greatest `usize`.
 ///

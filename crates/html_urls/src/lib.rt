@@ -6,20 +6,16 @@
 //! URL is asked [`is_link`] first.
 #![tactic(auto)]
 
-mod blocks;
 pub mod component;
 pub mod forms;
-mod lanes;
 pub mod laws;
 pub mod length;
 pub mod link;
 pub mod open_part;
 pub mod parts;
 pub mod place;
-mod rows;
 pub mod segment;
 pub mod slots;
-mod unreserved;
 
 pub use crate::component::{COMPONENT, Component, is_unreserved, put_component};
 pub use crate::forms::{

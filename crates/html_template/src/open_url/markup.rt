@@ -5,8 +5,8 @@ ghost use Rattle.std.specs.Option.{ForSome};
 ghost use Rattle.html_tokenizer.specs.Tokenizer.Tags.{is_space};
 ghost use Rattle.html_tokenizer.specs.UrlValues as spec;
 ghost use Rattle.html_template.specs.OpenUrls as open_urls;
-ghost use Rattle.html_template.specs.PlainTexts.{bytes_of};
-ghost use Rattle.html_template.specs.UrlTexts.{Takes};
+ghost use Rattle.html_template.specs.OpenUrls.PlainTexts.{bytes_of};
+ghost use Rattle.html_template.specs.OpenUrls.UrlTexts.{Takes};
 
 use html_tokenizer::SlotPlace;
 use html_urls::is_plain;

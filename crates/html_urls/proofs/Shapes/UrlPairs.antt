@@ -15,7 +15,7 @@ use Rattle.html_urls.specs.Shapes.{fill, front_of, path_parts, query_parts, shap
 use Rattle.html_urls.specs.Slots.{FillUrl, Given, Markup, Slot, url_of}
 use Rattle.html_urls.proofs.Components.{component_bytes}
 use Rattle.html_urls.proofs.Paths.Opening.{all_left, all_right}
-use Rattle.html_urls.proofs.Shapes.EncodedPairs.{count_encoded, parse_encoded, query_keeps_form}
+use Rattle.html_urls.proofs.Shapes.Encoded.Pairs.{count_encoded, parse_encoded, query_keeps_form}
 use Rattle.html_urls.proofs.Shapes.Filling.{filled_is}
 use Rattle.html_urls.proofs.Shapes.Pairs.{bytes_after, pair_count_law, pairs_law}
 use Rattle.html_urls.proofs.Shapes.ShapeLaw.{shape_law}

@@ -2,7 +2,7 @@ use Rattle.std.proofs.Common.{arith}
 use Rattle.std.proofs.lemmas.Bool.Decides.{nat_tests}
 use Rattle.hesc_sinks.proofs.Progress.{Progress-stop, on_err}
 use Rattle.html_urls.specs.Components.{component}
-use Rattle.html_urls.proofs.BlockStores.{all_taken}
+use Rattle.html_urls.proofs.Encoded.Blocks.{all_taken}
 use Rattle.html_urls.proofs.component.put_component.Goals as goal
 
 pub returns-in_err-put_block-clause-err_taken : goal.returns-in_err-put_block-clause-err_taken

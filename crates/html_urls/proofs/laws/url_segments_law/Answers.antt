@@ -1,6 +1,6 @@
 use Rattle.std.proofs.Common.{map}
 use Rattle.html_urls.specs.Slots.{given}
-use Rattle.html_urls.proofs.Shapes.SlotSegments.{slot_segments, slot_segments_decoded}
+use Rattle.html_urls.proofs.Shapes.Slots.Segments.{slot_segments, slot_segments_decoded}
 use Rattle.html_urls.proofs.laws.url_segments_law.Goals as goal
 
 pub returns : goal.returns

@@ -2,7 +2,7 @@ use Rattle.std.proofs.Common.{map}
 use Rattle.html_urls.specs.Shapes.{shape_of}
 use Rattle.html_urls.specs.Slots.{given}
 use Rattle.html_urls.proofs.Shapes.ShapeLaw.{shape_law}
-use Rattle.html_urls.proofs.Shapes.SlotScheme.{slot_scheme}
+use Rattle.html_urls.proofs.Shapes.Slots.Scheme.{slot_scheme}
 use Rattle.html_urls.proofs.laws.url_shape_law.Goals as goal
 
 pub returns : goal.returns

@@ -1,5 +1,5 @@
 use Rattle.std.proofs.Common.{arith}
-use Rattle.html_urls.proofs.EncodedLanes.{count_is_within, count_of_mask, counted_more, counted_whole}
+use Rattle.html_urls.proofs.Encoded.Lanes.{count_is_within, count_of_mask, counted_more, counted_whole}
 use Rattle.html_urls.proofs.length.encoded_count.Goals as goal
 
 pub counting-preserved : goal.counting-preserved

@@ -1,5 +1,5 @@
 use Rattle.std.proofs.Common.{length}
-use Rattle.html_template.specs.UrlTexts.{IsRead}
+use Rattle.html_template.specs.OpenUrls.UrlTexts.{IsRead}
 use Rattle.html_template.proofs.open_url.markup.read_text.Given as goal
 
 abbrev pub invariant-bytes : goal.invariant-bytes

@@ -1,0 +1,5 @@
+pub mod Blocks
+pub mod Digits
+pub mod Halves
+pub mod Lanes
+pub mod Rows

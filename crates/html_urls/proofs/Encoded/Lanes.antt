@@ -1,0 +1,110 @@
+-- Lanes that tell which bytes are percent-encoded.
+use Rattle.std.proofs.Common.{count_ones, ◌≡◌, ◌↔◌, ℕ, ◌+◌, ◌-◌, ◌/◌, ◌%◌, ◌^◌, ◌≤◌, ◌<◌, Bool, true, false, ◌==◌, bit_and, eqb, cond, List, [], ◌∷◌, ◌++◌, drop, get_or, length, length-take-le, map, replicate, take, take_all, take-append-drop, refl, sym, subst, ap, ◌∙◌, w8, arith}
+use Rattle.std.proofs.lemmas.Bool.{agree_below, agree_below_at, eqb-true}
+use Rattle.std.proofs.lemmas.List.{drop-drop, drop-take, drop_at, length-drop, length-map, length-take, take-take, take_at, take_rest}
+use Rattle.std.proofs.lemmas.List.Elements.{All-append, All-drop, All-from_get_or, All-head, All-tail, All-take}
+use Rattle.std.proofs.lemmas.Simd.{map-map, mask_l-mod, none_from_empty_mask, ones-mask_l, splat_is_map, swz_l, zip2_of_maps}
+use Rattle.std.proofs.lemmas.List.Sums.{count_by-le-length, sum_by-take-drop}
+use Rattle.std.specs.Simd.Lanes.{Each1, mask_l, top, zip2}
+use Rattle.percent_encoding.specs.AsciiSet.{should_percent_encode}
+use Rattle.html_urls.specs.declared.component.unreserved.TheConstants.{GROUPS_BY_LOW_HALF, GROUP_BY_HIGH_HALF}
+use Rattle.html_urls.proofs.Components.{unreserved_parts}
+use Rattle.html_urls.proofs.Encoded.Halves.{by_high_half, by_low_half, down}
+use Rattle.html_urls.specs.Components.{IsUnreservedText, encoded_count, is_encoded}
+
+-- a lane as a comparison leaves it
+abbrev pub lane_of : ℕ → ℕ
+lane_of b = cond (is_encoded b) 255 0
+
+set : (p : Bool) → top 7 (cond p 255 0) ≡ p
+set true = refl
+set false = refl
+
+same_lanes : (f : ℕ → ℕ) (v : List ℕ) → Each1 (λ b. b < 256) v → agree_below (λ b. f b == lane_of b) (λ b. true) 256 ≡ true → map f v ≡ map lane_of v
+same_lanes f [] below all = refl
+same_lanes f (b ∷ v) below all =
+    let here : f b ≡ lane_of b = eqb-true _ _ (agree_below_at (λ k. f k == lane_of k) (λ k. true) 256 b all below.0) in
+    λ i. here i ∷ same_lanes f v below.1 all i
+
+-- the mask of comparisons that agree with the definition at each of the 256 bytes
+pub lanes_mask : (f : ℕ → ℕ) (v compared : List ℕ) → length v ≤ 64 → Each1 (λ b. b < 256) v → compared ≡ map f v → agree_below (λ b. f b == lane_of b) (λ b. true) 256 ≡ true
+    → mask_l (map (top 7) compared) % 2 ^ 64 ≡ mask_l (map is_encoded v)
+lanes_mask f v compared few below each all =
+    ap (λ l. mask_l l % 2 ^ 64) (ap (map (top 7)) (each ∙ same_lanes f v below all) ∙ map-map (top 7) lane_of v ∙ (λ i. map (λ b. set (is_encoded b) i) v))
+    ∙ mask_l-mod (map is_encoded v) 64 (omega (arith, few, length-map v is_encoded))
+
+mask_none : (v : List ℕ) → IsUnreservedText v → mask_l (map is_encoded v) ≡ 0
+mask_none [] kept = refl
+mask_none (b ∷ v) kept =
+    let here : is_encoded b ≡ false = All-head (λ k. is_encoded k ≡ false) b v kept in
+    let later : mask_l (map is_encoded v) ≡ 0 = mask_none v (All-tail (λ k. is_encoded k ≡ false) b v kept) in
+    ap (λ (p : Bool). mask_l (p ∷ map is_encoded v)) here ∙ omega (arith, later)
+
+-- the groups of the halves of a byte, as the comparison with none leaves them
+abbrev compared : ℕ → ℕ
+compared b = cond (eqb (bit_and (get_or GROUPS_BY_LOW_HALF (b % 16) 0) (get_or GROUP_BY_HIGH_HALF (b / 16) 0)) 0) 255 0
+
+compared_checked : agree_below (λ b. compared b == lane_of b) (λ b. true) 256 ≡ true
+unfolding should_percent_encode
+compared_checked = refl
+
+pub groups_mask : (v : List ℕ) → length v ≡ 16 → Each1 (λ b. b < 256) v
+    → mask_l (map (top 7) (zip2 (λ a b. cond (eqb a b) 255 0)
+    (zip2 bit_and (swz_l w8 16 GROUPS_BY_LOW_HALF 0 (zip2 bit_and v (replicate 16 15))) (swz_l w8 16 GROUP_BY_HIGH_HALF 0 (zip2 down v (replicate 16 4)))) (replicate 16 0))) % 2 ^ 64 ≡ mask_l (map is_encoded v)
+groups_mask v long below =
+    let kept = zip2_of_maps bit_and _ _ v (by_low_half GROUPS_BY_LOW_HALF v long below) (by_high_half GROUP_BY_HIGH_HALF v long below) in
+    lanes_mask compared v _ (omega (arith, long)) below (zip2_of_maps (λ a b. cond (eqb a b) 255 0) _ _ v kept (splat_is_map v 16 0 long)) compared_checked
+
+-- no bit is set where no lane is encoded
+pub unreserved_mask : (v : List ℕ) → (mask_l (map is_encoded v) ≡ 0) ↔ IsUnreservedText v
+unreserved_mask v = (
+  λ none. All-from_get_or (λ k. is_encoded k ≡ false) v 0 (λ i within. none_from_empty_mask is_encoded v 0 (length v) 0 (omega arith) (ap (λ l. mask_l (map is_encoded l)) (take_all (length v) v (omega arith)) ∙ none) i (omega arith) (omega arith)),
+  λ kept. mask_none v kept,
+)
+
+-- the first bytes and the last ones, which together are all
+pub unreserved_ends : (bytes front back : List ℕ) (n m : ℕ) → m ≤ n → front ≡ take n bytes → back ≡ drop m bytes → (IsUnreservedText front × IsUnreservedText back) ↔ IsUnreservedText bytes
+unreserved_ends bytes front back n m within is_front is_back = (
+  λ both.
+      let later : IsUnreservedText (drop n bytes) = subst IsUnreservedText (drop-drop (n - m) m bytes ∙ ap (λ k. drop k bytes) (omega arith)) (All-drop (λ k. is_encoded k ≡ false) (n - m) (drop m bytes) (subst IsUnreservedText is_back both.1)) in
+      subst IsUnreservedText (take-append-drop n bytes) (All-append (λ k. is_encoded k ≡ false) (take n bytes) (drop n bytes) (subst IsUnreservedText is_front both.0) later),
+  λ kept. (subst IsUnreservedText (sym is_front) (All-take (λ k. is_encoded k ≡ false) n bytes kept), subst IsUnreservedText (sym is_back) (All-drop (λ k. is_encoded k ≡ false) m bytes kept)),
+)
+
+pub unreserved_by_sixteen : (bytes : List ℕ) (first last : ℕ) → 16 ≤ length bytes → length bytes ≤ 32 → first ≡ mask_l (map is_encoded (take 16 (drop 0 bytes))) → last ≡ mask_l (map is_encoded (take 16 (drop (length bytes - 16) bytes)))
+    → ((first ≡ 0) × (last ≡ 0)) ↔ IsUnreservedText bytes
+unreserved_by_sixteen bytes first last one both is_first is_last =
+    let back : List ℕ = drop (length bytes - 16) bytes in
+    let is_back : last ≡ mask_l (map is_encoded back) = is_last ∙ ap (λ l. mask_l (map is_encoded l)) (take_all 16 back (omega (arith, length-drop (length bytes - 16) bytes))) in
+    let ends = unreserved_ends bytes (take 16 bytes) back 16 (length bytes - 16) (omega arith) refl refl in (
+      λ none. ends.0 ((unreserved_mask (take 16 bytes)).0 (sym is_first ∙ none.0), (unreserved_mask back).0 (sym is_back ∙ none.1)),
+      λ kept. (is_first ∙ (unreserved_mask (take 16 bytes)).1 (ends.1 kept).0, is_back ∙ (unreserved_mask back).1 (ends.1 kept).1),
+    )
+
+pub unreserved_by_eight : (bytes back lanes : List ℕ) (mask : ℕ) → 8 ≤ length bytes → length bytes ≤ 16 → back ≡ drop (length bytes - 8) bytes → lanes ≡ take 8 bytes ++ back → mask ≡ mask_l (map is_encoded lanes) → (mask ≡ 0) ↔ IsUnreservedText bytes
+unreserved_by_eight bytes back lanes mask one both is_back are is =
+    let ends = unreserved_ends bytes (take 8 bytes) back 8 (length bytes - 8) (omega arith) refl is_back in
+    let long = length-take-le 8 bytes one in
+    let parts = unreserved_parts lanes (take 8 bytes) back 8 (sym (ap (take 8) are ∙ take_at (take 8 bytes) back 8 long)) (sym (ap (drop 8) are ∙ drop_at (take 8 bytes) back 8 long)) in (
+      λ none. ends.0 (parts.0 ((unreserved_mask lanes).0 (sym is ∙ none))),
+      λ kept. is ∙ (unreserved_mask lanes).1 (parts.1 (ends.1 kept)),
+    )
+
+-- ---- counting
+
+pub count_of_mask : (bytes : List ℕ) (place n mask : ℕ) → mask ≡ mask_l (map is_encoded (take n (drop place bytes))) → count_ones mask ≡ encoded_count (take n (drop place bytes))
+count_of_mask bytes place n mask is = ap count_ones is ∙ ones-mask_l is_encoded (take n (drop place bytes))
+
+-- so many bytes more
+pub counted_more : (bytes : List ℕ) (place n : ℕ) → encoded_count (take (place + n) bytes) ≡ encoded_count (take place bytes) + encoded_count (take n (drop place bytes))
+counted_more bytes place n =
+    sym (sum_by-take-drop (λ b. cond (is_encoded b) 1 0) (take (place + n) bytes) place) ∙ ap (λ l. encoded_count l + encoded_count (drop place (take (place + n) bytes))) (take-take place (place + n) bytes (omega arith)) ∙ ap (λ l. encoded_count (take place bytes) + encoded_count l) (drop-take place n bytes)
+
+pub count_is_within : (bytes : List ℕ) (place n : ℕ) → encoded_count (take n (drop place bytes)) ≤ n
+count_is_within bytes place n = omega (arith, count_by-le-length is_encoded (take n (drop place bytes)), length-take n (drop place bytes))
+
+pub counted_whole : (bytes : List ℕ) (place front back : ℕ) → front ≡ encoded_count (take place bytes) → back ≡ encoded_count (take (length bytes - place) (drop place bytes)) → front + back ≡ encoded_count bytes
+counted_whole bytes place front back is_front is_back =
+    let rest : back ≡ encoded_count (drop place bytes) = is_back ∙ ap encoded_count (take_rest bytes place) in
+    let whole : encoded_count (take place bytes) + encoded_count (drop place bytes) ≡ encoded_count bytes = sum_by-take-drop (λ b. cond (is_encoded b) 1 0) bytes place in
+    omega (arith, is_front, rest, whole)

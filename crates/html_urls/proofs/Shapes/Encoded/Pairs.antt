@@ -1,0 +1,90 @@
+-- A query has the same pairs percent-encoded as the parser does.
+use Rattle.std.proofs.Common.{◌≡◌, ◌≢◌, ℕ, suc, true, false, List, [], ◌∷◌, map, filter, length, Option, Some, None, option_map, unwrap_or, All, sym, refl, ap, ◌∙◌, ⊎_elim, arith}
+use Rattle.std.proofs.lemmas.Bool.{cases_Bool, lt-ltb}
+use Rattle.std.proofs.lemmas.Bool.Decides.{nat_tests}
+use Rattle.std.proofs.lemmas.List.{length-map}
+use Rattle.std.proofs.lemmas.List.Elements.{All-head, All-tail}
+use Rattle.form_urlencoded.specs.Form.{decode, is_nonempty, parse, plus_to_space, raw_pairs, split, split_pair}
+use Rattle.percent_encoding.specs.declared.ascii_set.AsciiSet.{AsciiSet}
+use Rattle.percent_encoding.specs.Percent.{percent_encode}
+use Rattle.percent_encoding.proofs.PercentLemmas.{IsByte, IsEscapeByte, percent_encode-nil, percent_encode_nonempty}
+use Rattle.url.specs.declared.sets.TheConstants.{QUERY, SPECIAL_QUERY}
+use Rattle.url.specs.declared.scheme.SchemeType.{SchemeType}
+use Rattle.url.specs.declared.scheme.SchemeType.TheVariants.{File, SpecialNotFile, NotSpecial}
+use Rattle.url.specs.Input.{split_once}
+use Rattle.url.specs.Parts.{query_set}
+use Rattle.html_urls.proofs.Shapes.Encoded.Decoding.{KeepsForm, decoded_still, form_first, keeps_form}
+use Rattle.html_urls.proofs.Shapes.Encoded.Splits.{all_halves, all_pieces, split_encoded, split_once_encoded}
+use Rattle.html_urls.proofs.Shapes.Pairs.{form_split}
+
+pub query_keeps_form : (kind : SchemeType) → KeepsForm (query_set kind)
+query_keeps_form File = keeps_form SPECIAL_QUERY refl
+query_keeps_form SpecialNotFile = keeps_form SPECIAL_QUERY refl
+query_keeps_form NotSpecial = keeps_form QUERY refl
+
+no_ampersand : (b : ℕ) → IsEscapeByte b → b ≢ 38
+no_ampersand b escape same = grind (arith, nat_tests)
+
+no_equals : (b : ℕ) → IsEscapeByte b → b ≢ 61
+no_equals b escape same = grind (arith, nat_tests)
+
+some_encoded : (set : AsciiSet) (bytes : List ℕ) → is_nonempty (percent_encode set bytes) ≡ is_nonempty bytes
+some_encoded set [] = ap is_nonempty (percent_encode-nil set)
+some_encoded set (b ∷ bytes) = lt-ltb 0 _ (percent_encode_nonempty set (b ∷ bytes) (omega arith)) ∙ sym (lt-ltb 0 _ (omega arith))
+
+abbrev Pair : Type 0
+Pair = List ℕ × List ℕ
+
+abbrev decoded : Pair → Pair
+decoded pair = (decode pair.0, decode pair.1)
+
+value_encoded : (set : AsciiSet) → KeepsForm set → (value : Option (List ℕ)) → All IsByte (unwrap_or value []) → decode (unwrap_or (option_map (percent_encode set) value) []) ≡ decode (unwrap_or value [])
+value_encoded set keeps (Some value) bytes = decoded_still decode plus_to_space form_first set keeps value bytes
+value_encoded set keeps None bytes = refl
+
+pair_encoded : (set : AsciiSet) → KeepsForm set → (string : List ℕ) → All IsByte string → decoded (split_pair (percent_encode set string)) ≡ decoded (split_pair string)
+pair_encoded set keeps string bytes =
+    let halves = split_once 61 string in
+    let all = all_halves IsByte 61 string bytes in
+    let split = split_once_encoded set 61 (record { kept = keeps 61 refl; other = no_equals }) string in
+    let whole = form_split 61 (percent_encode set string) ∙ ap (λ r. (r.0, unwrap_or r.1 [])) split in
+    let name = decoded_still decode plus_to_space form_first set keeps halves.0 all.0 in
+    let value = value_encoded set keeps halves.1 all.1 in
+    ap decoded whole ∙ (λ i. (name i, value i)) ∙ sym (ap decoded (form_split 61 string))
+
+pairs_encoded : (set : AsciiSet) → KeepsForm set → (l : List (List ℕ)) → All (All IsByte) l → map decoded (map split_pair (filter is_nonempty (map (percent_encode set) l))) ≡ map decoded (map split_pair (filter is_nonempty l))
+pairs_encoded set keeps [] bytes = refl
+pairs_encoded set keeps (string ∷ more) bytes =
+    let first = pair_encoded set keeps string (All-head (All IsByte) string more bytes) in
+    let later = pairs_encoded set keeps more (All-tail (All IsByte) string more bytes) in
+    ⊎_elim
+    (λ (some : is_nonempty string ≡ true). rw (some_encoded set string ∙ some, some) (λ i. first i ∷ later i))
+    (λ (none : is_nonempty string ≡ false). rw (some_encoded set string ∙ none, none) later)
+    (cases_Bool (is_nonempty string))
+
+pub parse_encoded : (set : AsciiSet) → KeepsForm set → (bytes : List ℕ) → All IsByte bytes → parse (percent_encode set bytes) ≡ parse bytes
+unfolding raw_pairs
+parse_encoded set keeps bytes all =
+    ap (λ l. map decoded (map split_pair (filter is_nonempty l))) (split_encoded set 38 (record { kept = keeps 38 refl; other = no_ampersand }) bytes)
+    ∙ pairs_encoded set keeps (split 38 bytes) (all_pieces IsByte 38 bytes all)
+
+-- ---- as many, of any bytes
+
+as_many : (set : AsciiSet) (l : List (List ℕ)) → length (filter is_nonempty (map (percent_encode set) l)) ≡ length (filter is_nonempty l)
+as_many set [] = refl
+as_many set (string ∷ more) =
+    let later = as_many set more in
+    ⊎_elim
+    (λ (some : is_nonempty string ≡ true). rw (some_encoded set string ∙ some, some) (ap suc later))
+    (λ (none : is_nonempty string ≡ false). rw (some_encoded set string ∙ none, none) later)
+    (cases_Bool (is_nonempty string))
+
+count : (bytes : List ℕ) → length (parse bytes) ≡ length (filter is_nonempty (split 38 bytes))
+unfolding raw_pairs
+count bytes = length-map (raw_pairs bytes) decoded ∙ length-map (filter is_nonempty (split 38 bytes)) split_pair
+
+pub count_encoded : (set : AsciiSet) → KeepsForm set → (bytes : List ℕ) → length (parse (percent_encode set bytes)) ≡ length (parse bytes)
+count_encoded set keeps bytes =
+    count (percent_encode set bytes)
+    ∙ ap (λ l. length (filter is_nonempty l)) (split_encoded set 38 (record { kept = keeps 38 refl; other = no_ampersand }) bytes)
+    ∙ as_many set (split 38 bytes) ∙ sym (count bytes)

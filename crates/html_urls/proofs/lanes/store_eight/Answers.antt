@@ -1,5 +1,0 @@
-use Rattle.html_urls.proofs.EncodedDigits.{stored_signs}
-use Rattle.html_urls.proofs.lanes.store_eight.Goals as goal
-
-pub returns : goal.returns
-returns c = stored_signs c.args.digits c.args.room.now c.args.place c.requires.long c.requires.fits
