@@ -1,3 +1,2 @@
 pub mod LinkRows
-pub mod LogRows
 pub mod PriceRows
