@@ -1,10 +1,12 @@
 //! The search for the next change of a rule.
 ghost use Rattle.std.specs.Prelude.{◌≡◌, ◌≤◌, ◌<◌, false, true, [], length, slice_index, slice_range, IfNone, IfSome};
 ghost use Rattle.std.specs.Str.{IsCharBoundary};
+ghost use Rattle.hesc_specs.specs.Text.FirstPlace.{IsFirstPlace};
 ghost use Rattle.hesc_engine.specs.Ahead.{IsAhead};
 ghost use Rattle.hesc_engine.specs.Next.{IsChangeAt, IsNext};
 ghost use Rattle.hesc_sinks.specs.declared.found.Found.{Found};
 ghost use Rattle.hesc_engine.specs.Searches.{BeginsWith, IsSeekOf};
+ghost use Rattle.hesc_engine.specs.Sought.{in_sought};
 ghost use Rattle.hesc_sinks.specs.Text.{segment_bytes};
 
 use crate::ahead::Ahead;
@@ -58,6 +60,30 @@ pub(crate) fn first_change<'r, R: Rule>(
         reached = place + 1;
     }
     None
+}
+
+// The first change of a text whose first sought byte is known. Mostly it begins there, and what is known of
+// the bytes ahead is not asked again.
+#[inline(always)]
+pub(crate) fn change_from_hit<'r, R: Rule>(
+    rule: &'r R,
+    seek: Seek,
+    text: &str,
+    place: usize,
+    ahead: &mut Ahead,
+) -> Option<Found<'r>>
+    requires within { place < length text.now }
+    requires first { IsFirstPlace (in_sought seek.sought) text.now 0 place }
+    requires seek { IsSeekOf R.Rule rule.now seek }
+    requires ahead { IsAhead (R.is_sought rule.now) text.now ahead.old }
+    ensures none { IfNone result (R.changes_from rule.now text.now 0 ≡ []) }
+    ensures found { IfSome result (IsNext text.now 0 (R.changes_from rule.now text.now)) }
+    ensures ahead { IsAhead (R.is_sought rule.now) text.now ahead.new }
+{
+    match change_at_hit(rule, seek, text, place) {
+        Some(found) => Some(found),
+        None => first_change(rule, seek, text, 0, ahead),
+    }
 }
 
 // The change that begins at a sought byte, by the table or else by the rule.

@@ -10,7 +10,7 @@ use crate::engine::run_made;
 use crate::forms::measure::room_for;
 use crate::forms::parts::Parts;
 use crate::rule::Rule;
-use crate::search::{first_change, seek_of};
+use crate::search::{change_from_hit, seek_of};
 use crate::sought::first_hit;
 use hesc_sinks::found::Found;
 use hesc_sinks::sink::Sink;
@@ -46,11 +46,11 @@ impl<'m, R: Rule> Made<'m, R> {
         let mut ahead = Ahead::nothing(text);
         // Most texts have no sought byte, and need no table.
         let seek = seek_of(rule);
-        match first_hit(seek.sought, text, 0, &mut ahead) {
-            Some(_) => {}
+        let place = match first_hit(seek.sought, text, 0, &mut ahead) {
+            Some(place) => place,
             None => return None,
-        }
-        match first_change(rule, seek, text, 0, &mut ahead) {
+        };
+        match change_from_hit(rule, seek, text, place, &mut ahead) {
             Some(first) => Some(Made {
                 rule,
                 text,
