@@ -17,6 +17,7 @@ pub struct SmallText {
 
 impl SmallText {
     ghost use Rattle.std.specs.Prelude.{◌≡◌, ◌<◌, [], ◌∷◌, encode_utf8, length};
+    ghost use Rattle.std.specs.Int.{to_le_bytes, w64};
     ghost use Rattle.hesc_sinks.specs.Text.{small_text_bytes};
 
     /// The text, which has at most six bytes.
@@ -99,5 +100,13 @@ impl SmallText {
         ensures { take (length (small_text_bytes self.now)) result ≡ small_text_bytes self.now }
     {
         self.bytes
+    }
+    /// The same as a number, which goes from call to call in a register.
+    #[inline(always)]
+    pub(crate) fn word(&self) -> u64
+        ensures { take (length (small_text_bytes self.now)) (to_le_bytes w64 result)
+            ≡ small_text_bytes self.now }
+    {
+        u64::from_le_bytes(self.block())
     }
 }

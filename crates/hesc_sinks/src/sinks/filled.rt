@@ -12,6 +12,7 @@ use crate::sinks::stores::{store, store_both, store_hits, store_padded, store_sh
 use crate::small_text::SmallText;
 use std::alloc::{AllocError, Allocator};
 use std::snapshot::Snapshot;
+use std::str;
 
 static ZEROS: [u8; 1024] = [0; 1024];
 
@@ -37,6 +38,7 @@ pub struct FilledSink<'a, A: Allocator> {
 
 impl<'a, A: Allocator> FilledSink<'a, A> {
     ghost use Rattle.std.specs.Prelude.{◌+◌, [], IsOk, OnErr, OnOk};
+    ghost use Rattle.std.specs.Int.{to_le_bytes, w64};
     ghost use Rattle.hesc_specs.specs.Text.Beginning.{TookBeginning};
     ghost use Rattle.hesc_sinks.specs.Room.{vec_room};
     ghost use Rattle.hesc_sinks.specs.Sinks.{
@@ -152,26 +154,32 @@ impl<'a, A: Allocator> FilledSink<'a, A> {
         self.log = self.log.after_taking(text.as_str().as_bytes());
     }
 
-    // A short text, where there are few zeros.
+    // A short text, where there are few zeros. Passed as a number: a reference would keep the text in memory
+    // where there are enough, too.
     #[inline(never)]
-    fn put_small(&mut self, text: SmallText) -> Result<(), AllocError>
-        ensures ok_taken { OnOk result
-            (filled_sink_taken self.new ≡ filled_sink_taken self.old ++ small_text_bytes text) }
+    fn put_small(&mut self, word: u64, len: usize) -> Result<(), AllocError>
+        requires few { len ≤ 8 }
+        requires utf8 { IsUtf8 (take len (to_le_bytes w64 word)) }
+        ensures ok_taken { OnOk result (filled_sink_taken self.new
+            ≡ filled_sink_taken self.old ++ take len (to_le_bytes w64 word)) }
         ensures ok_failures { OnOk result
             (filled_sink_failures self.new ≡ filled_sink_failures self.old) }
         ensures err_taken { OnErr result (TookBeginning (filled_sink_taken self.old)
-            (filled_sink_taken self.new) (small_text_bytes text)) }
+            (filled_sink_taken self.new) (take len (to_le_bytes w64 word))) }
         ensures err_failures { OnErr result
             (filled_sink_failures self.new ≡ filled_sink_failures self.old + 1) }
-        ensures fits { length (small_text_bytes text) ≤ filled_sink_room self.old → IsOk result }
+        ensures fits { length (take len (to_le_bytes w64 word)) ≤ filled_sink_room self.old
+            → IsOk result }
         ensures room { OnOk result (filled_sink_room self.old
-            ≤ filled_sink_room self.new + length (small_text_bytes text)) }
+            ≤ filled_sink_room self.new + length (take len (to_le_bytes w64 word))) }
         ensures same_reference { (filled_sink_output self.new).ghost_name
             ≡ (filled_sink_output self.old).ghost_name }
         ensures same_start { filled_sink_start self.new ≡ filled_sink_start self.old }
     {
         self.fill();
-        self.put_some(text.as_str())
+        let bytes = word.to_le_bytes();
+        // It is UTF-8, as the caller says.
+        self.put_some(unsafe { str::from_utf8_unchecked(&bytes[..len]) })
     }
 
     // A piece that there are too few zeros for.
@@ -259,7 +267,7 @@ impl<A: Allocator> Sink for FilledSink<'_, A> {
                     self.put_padded(text);
                     return Ok(());
                 }
-                self.put_small(text)
+                self.put_small(text.word(), text.len())
             }
             Replacement::Borrowed(text) => {
                 self.put_stretch(segment)?;

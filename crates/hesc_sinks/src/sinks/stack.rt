@@ -7,7 +7,7 @@ use crate::found::Replacement;
 use crate::segment::Segment;
 use crate::sink::Sink;
 use crate::sinks::log::Log;
-use crate::sinks::stores::{store, store_both, store_hits, store_short};
+use crate::sinks::stores::{store, store_both, store_hits, store_padded, store_short};
 use crate::small_text::SmallText;
 use std::str;
 
@@ -30,7 +30,9 @@ pub struct StackSink<const N: usize> {
 pub struct StackFull;
 
 impl<const N: usize> StackSink<N> {
-    ghost use Rattle.std.specs.Prelude.{◌+◌, ◌++◌, []};
+    ghost use Rattle.std.specs.Prelude.{◌+◌, ◌++◌, [], IsOk, OnErr, OnOk};
+    ghost use Rattle.std.specs.Int.{to_le_bytes, w64};
+    ghost use Rattle.hesc_specs.specs.Text.Beginning.{TookBeginning};
     ghost use Rattle.hesc_sinks.specs.Sinks.{
       stack_sink_failures,
       stack_sink_room,
@@ -87,6 +89,43 @@ impl<const N: usize> StackSink<N> {
         let log = self.log.after_taking(kept);
         self.log = log.after_taking(text.as_str().as_bytes());
     }
+
+    // A short text, where a block fits.
+    #[inline(always)]
+    fn put_padded(&mut self, text: SmallText)
+        requires { 8 ≤ stack_sink_room self.old }
+        ensures taken { stack_sink_taken self.new ≡ stack_sink_taken self.old ++ small_text_bytes text }
+        ensures failures { stack_sink_failures self.new ≡ stack_sink_failures self.old }
+        ensures room { stack_sink_room self.old
+            ≤ stack_sink_room self.new + length (small_text_bytes text) }
+    {
+        self.end = store_padded(&mut self.bytes, self.end, text);
+        self.log = self.log.after_taking(text.as_str().as_bytes());
+    }
+
+    // A short text, where no block fits. Passed as a number: a reference would keep the text in memory where
+    // one fits, too.
+    #[inline(never)]
+    fn put_small(&mut self, word: u64, len: usize) -> Result<(), StackFull>
+        requires few { len ≤ 8 }
+        requires utf8 { IsUtf8 (take len (to_le_bytes w64 word)) }
+        ensures ok_taken { OnOk result (stack_sink_taken self.new
+            ≡ stack_sink_taken self.old ++ take len (to_le_bytes w64 word)) }
+        ensures ok_failures { OnOk result
+            (stack_sink_failures self.new ≡ stack_sink_failures self.old) }
+        ensures err_taken { OnErr result (TookBeginning (stack_sink_taken self.old)
+            (stack_sink_taken self.new) (take len (to_le_bytes w64 word))) }
+        ensures err_failures { OnErr result
+            (stack_sink_failures self.new ≡ stack_sink_failures self.old + 1) }
+        ensures fits { length (take len (to_le_bytes w64 word)) ≤ stack_sink_room self.old
+            → IsOk result }
+        ensures room { OnOk result (stack_sink_room self.old
+            ≤ stack_sink_room self.new + length (take len (to_le_bytes w64 word))) }
+    {
+        let bytes = word.to_le_bytes();
+        // It is UTF-8, as the caller says.
+        self.put_some(unsafe { str::from_utf8_unchecked(&bytes[..len]) })
+    }
 }
 
 impl<const N: usize> Sink for StackSink<N> {
@@ -123,16 +162,23 @@ impl<const N: usize> Sink for StackSink<N> {
     // Most stretches and replacements are short.
     #[inline(always)]
     fn put_segment(&mut self, segment: Segment<'_>) -> Result<(), StackFull> {
-        if let Replacement::Small(text) = segment.new {
-            if segment.kept.len() <= 16 && self.room() >= 24 {
-                self.put_both(segment, text);
-                return Ok(());
-            }
-        }
-        self.put_stretch(segment)?;
         match segment.new {
-            Replacement::Borrowed(text) => self.put_some(text),
-            Replacement::Small(text) => self.put_some(text.as_str()),
+            Replacement::Small(text) => {
+                if segment.kept.len() <= 16 && self.room() >= 24 {
+                    self.put_both(segment, text);
+                    return Ok(());
+                }
+                self.put_some(segment.kept)?;
+                if self.room() >= 8 {
+                    self.put_padded(text);
+                    return Ok(());
+                }
+                self.put_small(text.word(), text.len())
+            }
+            Replacement::Borrowed(text) => {
+                self.put_stretch(segment)?;
+                self.put_some(text)
+            }
         }
     }
 
