@@ -6,6 +6,7 @@
 
 pub mod ascii_texts;
 pub mod found;
+pub mod in_place;
 pub mod segment;
 pub mod sink;
 pub mod sinks;
@@ -13,6 +14,7 @@ pub mod small_text;
 
 pub use crate::ascii_texts::AsciiTexts;
 pub use crate::found::{Found, Replacement};
+pub use crate::in_place::{IN_PLACE_ROOM, InPlace};
 pub use crate::segment::Segment;
 pub use crate::sink::Sink;
 pub use crate::sinks::{

@@ -7,6 +7,7 @@ ghost use Rattle.hesc_sinks.specs.Hits.{TookHits, ascii_rows};
 ghost use Rattle.hesc_sinks.specs.Text.{segment_bytes};
 
 use crate::ascii_texts::AsciiTexts;
+use crate::in_place::{IN_PLACE_ROOM, InPlace, made_in};
 use crate::segment::Segment;
 
 /// Takes texts, one after another.
@@ -100,6 +101,25 @@ pub trait Sink {
             return Ok(());
         }
         self.put(piece)
+    }
+
+    /// Takes a text that is made in place: in the room of the sink, where it has enough.
+    ///
+    /// Of the component of `a b` it takes `a%20b`.
+    #[inline(always)]
+    fn put_in_place<T: InPlace>(&mut self, text: &T) -> Result<(), Self::Fault>
+        ensures ok_taken { OnOk result (taken self.new ≡ taken self.old ++ T.text text.now) }
+        ensures ok_failures { OnOk result (failures self.new ≡ failures self.old) }
+        ensures err_taken { OnErr result
+            (TookBeginning (taken self.old) (taken self.new) (T.text text.now)) }
+        ensures err_failures { OnErr result (failures self.new ≡ failures self.old + 1) }
+        ensures fits { length (T.text text.now) ≤ room self.old → IsOk result }
+        ensures room { OnOk result (room self.old ≤ room self.new + length (T.text text.now)) }
+        ensures same_reference { reference self.new ≡ reference self.old }
+        ensures same_before { before self.new ≡ before self.old }
+    {
+        let mut room = [0; IN_PLACE_ROOM];
+        self.put(made_in(text, &mut room))
     }
 
     /// Takes a text from `from` on, a character boundary, with the bytes replaced that `hits` tells of, up

@@ -101,7 +101,8 @@ impl SmallText {
     {
         self.bytes
     }
-    /// The same as a number, which goes from call to call in a register.
+
+    /// The same as a number, which is passed in a register.
     #[inline(always)]
     pub(crate) fn word(&self) -> u64
         ensures { take (length (small_text_bytes self.now)) (to_le_bytes w64 result)

@@ -8,7 +8,7 @@ pub(crate) mod lanes;
 pub(crate) mod rows;
 pub(crate) mod unreserved;
 
-use crate::component::blocks::{ROOM, SHORT_ROOM, first_block, kept_block, made_block};
+use crate::component::blocks::{MadeBlock, SHORT_ROOM, first_block, kept_block, made_block};
 use crate::component::lanes::LANES;
 use crate::component::unreserved::is_unreserved_block;
 use crate::length::component_length;
@@ -100,7 +100,7 @@ fn put_block<S: Sink>(block: &[u8], sink: &mut S) -> Result<(), S::Fault>
     put_long_block(block, sink)
 }
 
-// The long room is set up in this function and no other.
+// A call of its own, so that a block that stays as it is takes no more registers than it needs.
 #[inline(never)]
 fn put_long_block<S: Sink>(block: &[u8], sink: &mut S) -> Result<(), S::Fault>
     requires { length block.now ≤ 64 }
@@ -114,8 +114,7 @@ fn put_long_block<S: Sink>(block: &[u8], sink: &mut S) -> Result<(), S::Fault>
     ensures same_reference { S.reference sink.new ≡ S.reference sink.old }
     ensures same_before { S.before sink.new ≡ S.before sink.old }
 {
-    let mut room = [0; ROOM];
-    sink.put(made_block(block, &mut room))
+    sink.put_in_place(&MadeBlock { bytes: block })
 }
 
 /// Whether no byte of `text` is percent-encoded, so that the text is its own component.

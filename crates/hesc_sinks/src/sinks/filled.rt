@@ -5,6 +5,7 @@ ghost use Rattle.std.specs.Vec.{vec_capacity};
 
 use crate::ascii_texts::AsciiTexts;
 use crate::found::Replacement;
+use crate::in_place::{IN_PLACE_ROOM, InPlace, made_in};
 use crate::segment::Segment;
 use crate::sink::Sink;
 use crate::sinks::log::Log;
@@ -289,6 +290,19 @@ impl<A: Allocator> Sink for FilledSink<'_, A> {
             kept.len(),
         );
         self.log = self.log.after_taking(kept);
+        Ok(())
+    }
+
+    #[inline(always)]
+    fn put_in_place<T: InPlace>(&mut self, text: &T) -> Result<(), AllocError> {
+        if self.left() < text.needed_room() {
+            let mut room = [0; IN_PLACE_ROOM];
+            return self.put(made_in(text, &mut room));
+        }
+        let start = self.end;
+        self.end = text.store_at(self.output.as_mut_slice(), start);
+        let stored = &self.output.as_slice()[start..self.end];
+        self.log = self.log.after_taking(stored);
         Ok(())
     }
 

@@ -4,6 +4,7 @@ ghost use Rattle.std.specs.Str.{IsUtf8};
 
 use crate::ascii_texts::AsciiTexts;
 use crate::found::Replacement;
+use crate::in_place::{IN_PLACE_ROOM, InPlace, made_in};
 use crate::segment::Segment;
 use crate::sink::Sink;
 use crate::sinks::log::Log;
@@ -190,6 +191,19 @@ impl<const N: usize> Sink for StackSink<N> {
         let kept = segment.kept.as_bytes();
         self.end = store_short(&mut self.bytes, self.end, segment.rest, kept.len());
         self.log = self.log.after_taking(kept);
+        Ok(())
+    }
+
+    #[inline(always)]
+    fn put_in_place<T: InPlace>(&mut self, text: &T) -> Result<(), StackFull> {
+        if self.room() < text.needed_room() {
+            let mut room = [0; IN_PLACE_ROOM];
+            return self.put(made_in(text, &mut room));
+        }
+        let start = self.end;
+        self.end = text.store_at(&mut self.bytes, start);
+        let stored = &self.bytes[..self.end];
+        self.log = self.log.after_taking(&stored[start..]);
         Ok(())
     }
 

@@ -1,19 +1,17 @@
-//! The component of a block of a text, made on the stack.
+//! The component of a block of a text.
 ghost use Rattle.std.specs.Prelude.{◌≡◌, ◌≤◌, ◌<◌, ◌+◌, ◌*◌, ◌++◌, ◌↔◌, length};
 ghost use Rattle.hesc_sinks.specs.Stores.{Stored};
 ghost use Rattle.html_urls.specs.Components.{IsUnreservedText, component};
 
 use crate::component::lanes::{LANES, store_lanes};
 use crate::component::rows::store_encoded;
+use hesc_engine::in_place::InPlace;
 use percent_encoding::ascii_str;
 
 /// The bytes of a text that are encoded at once.
 pub(crate) const BLOCK: usize = 64;
 
-/// Room for what they become, and for the padding of the last ones.
-pub(crate) const ROOM: usize = 208;
-
-/// The same for fewer bytes than are encoded by lanes.
+/// Room for what fewer bytes than are encoded by lanes become, and for padding.
 pub(crate) const SHORT_ROOM: usize = 64;
 
 /// The first bytes, as many as are encoded at once, and the others.
@@ -38,23 +36,48 @@ pub(crate) fn kept_block(bytes: &[u8]) -> &str
     ascii_str(bytes)
 }
 
+/// The component of bytes that change, which is made where it is to stand.
+#[derive(Clone, Copy)]
+pub(crate) struct MadeBlock<'b> {
+    pub(crate) bytes: &'b [u8],
+    pub(crate) ghost few: { length bytes.now ≤ 64 },
+}
+
+impl InPlace for MadeBlock<'_> {
+    ghost text = { λ block. component block.bytes.now };
+
+    ghost needed = { λ block. length block.bytes.now * 3 + 16 };
+
+    // Each byte becomes three at most, and the last ones have padding.
+    #[inline(always)]
+    fn needed_room(&self) -> usize {
+        self.bytes.len() * 3 + 16
+    }
+
+    #[inline(always)]
+    fn store_at(&self, room: &mut [u8], place: usize) -> usize {
+        store_block(room, place, self.bytes)
+    }
+}
+
 /// The component of the bytes, made at the front of the room.
 #[inline(always)]
 pub(crate) fn made_block<'r>(bytes: &[u8], room: &'r mut [u8]) -> &'r str
     requires { length bytes.now * 3 + 16 ≤ length room.now }
     ensures { result.now ≡ component bytes.now }
 {
-    let end = fill(bytes, room);
+    let end = store_block(room, 0, bytes);
     ascii_str(&room[..end])
 }
 
-// Makes it, and answers its length. What stands behind it afterwards is lost.
+// Stores the component of the bytes at a place, and answers the place after it. What stands behind it
+// afterwards is lost.
 #[inline(always)]
-fn fill(bytes: &[u8], room: &mut [u8]) -> usize
-    requires { length bytes.now * 3 + 16 ≤ length room.old }
-    ensures { Stored room.old room.new 0 (component bytes.now) result }
+fn store_block(room: &mut [u8], place: usize, bytes: &[u8]) -> usize
+    requires { place + length bytes.now * 3 + 16 ≤ length room.old }
+    ensures { Stored room.old room.new place (component bytes.now) result }
 {
-    let mut end = 0;
+    let mut end = place;
     let mut from = 0;
     // So few at first that all others are encoded by lanes.
     let mut count = (bytes.len() + LANES - 1) % LANES + 1;

@@ -1,0 +1,45 @@
+//! A short text that is made where it is to stand.
+ghost use Rattle.std.specs.Prelude.{◌≡◌, ◌≤◌, ◌+◌, ℕ, List, length};
+ghost use Rattle.std.specs.Str.{IsUtf8};
+ghost use Rattle.hesc_sinks.specs.Stores.{Stored};
+
+use std::str;
+
+/// The most room that a text is made in: what 64 bytes become where each becomes three, and the padding of
+/// the last ones.
+pub const IN_PLACE_ROOM: usize = 208;
+
+/// A short text that stores itself where it is to stand, so that it is not copied there.
+pub trait InPlace {
+    ghost text: { Self → List ℕ };
+
+    ghost needed: { Self → ℕ };
+
+    /// How many bytes of room the text is made in, padding included: at most [`IN_PLACE_ROOM`].
+    ///
+    /// Of the component of `a b` it is 25.
+    fn needed_room(&self) -> usize
+        ensures needed { result ≡ needed self.now }
+        ensures most { result ≤ 208 };
+
+    /// Stores the text at a place with as much room, and answers the place after it. What stands there
+    /// afterwards is lost.
+    ///
+    /// Of the component of `a b` it stores `a%20b` and answers the place 5 bytes on.
+    fn store_at(&self, room: &mut [u8], place: usize) -> usize
+        requires { place + needed self.now ≤ length room.old }
+        ensures stored { Stored room.old room.new place (text self.now) result }
+        ensures utf8 { IsUtf8 (text self.now) };
+}
+
+/// The text, made at the front of the room.
+#[inline(always)]
+pub(crate) fn made_in<'r, T: InPlace>(text: &T, room: &'r mut [u8]) -> &'r str
+    requires { 208 ≤ length room.now }
+    ensures { result.now ≡ T.text text.now }
+{
+    let _enough = text.needed_room();
+    let end = text.store_at(room, 0);
+    // What is made in place is UTF-8.
+    unsafe { str::from_utf8_unchecked(&room[..end]) }
+}
