@@ -158,10 +158,10 @@ fn append_short<P: Parts, O: Output>(output: &mut O, parts: &P) -> Option<Result
 {
     let most = parts.most();
     if most <= SMALL_BOUND {
-        return append_by_stack::<SMALL_STACK, P, O>(output, parts);
+        return Some(append_whole::<SMALL_STACK, P, O>(output, parts));
     }
     if most <= STACK_BOUND {
-        return append_by_stack::<STACK, P, O>(output, parts);
+        return Some(append_whole::<STACK, P, O>(output, parts));
     }
     if parts.may_fit(output.spare()) {
         return None;
@@ -172,7 +172,24 @@ fn append_short<P: Parts, O: Output>(output: &mut O, parts: &P) -> Option<Result
     }
 }
 
-// The array is set up in this function and no other.
+// A text that the array suffices for. The array is set up in this function and no other.
+#[inline(never)]
+fn append_whole<const N: usize, P: Parts, O: Output>(
+    output: &mut O,
+    parts: &P,
+) -> Result<(), AllocError>
+    requires few { N ≤ 2048 }
+    requires suffices { length (P.text parts.now) ≤ N }
+    ensures appended { Appended (O.bytes output.old) (O.bytes output.new) (P.text parts.now) result }
+    ensures fits { length (P.text parts.now) ≤ O.room output.old → IsOk result }
+    ensures utf8 { OnOk result (IsUtf8 (P.text parts.now)) }
+{
+    let mut short = StackSink::<N>::new();
+    let _whole = parts.put_into(&mut short);
+    output.append_kept(short.as_str())
+}
+
+// The same where the array may not suffice, and then nothing is appended.
 #[inline(never)]
 fn append_by_stack<const N: usize, P: Parts, O: Output>(
     output: &mut O,
