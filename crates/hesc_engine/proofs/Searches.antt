@@ -1,5 +1,5 @@
 -- The next change, from the first hit at which one begins, and the source from a place on where sought bytes become texts of a table.
-use Rattle.std.proofs.Common.{◌≡◌, ◌≤◌, ◌<◌, ℕ, Bool, false, true, List, [], length, slice_index, arith, ap, refl, inl, inr}
+use Rattle.std.proofs.Common.{◌≡◌, ◌≤◌, ◌<◌, ◌+◌, ℕ, Bool, false, true, List, [], length, slice_index, arith, ap, refl, subst, inl, inr}
 use Rattle.std.proofs.lemmas.Bool.{cases_lt, false_from_ne_true}
 use Rattle.std.specs.Str.{IsCharBoundary, IsUtf8}
 use Rattle.hesc_specs.specs.Text.Changes.{Change, applied}
@@ -27,6 +27,15 @@ first_begins begins_at is_sought begins source from reached place ordered earlie
   ];
   found = found;
 }
+
+-- none begins before a hit, nor at one where none begins
+pub none_through : (begins_at : List ℕ → ℕ → Bool) (is_sought : ℕ → Bool) → BeginsAtSought begins_at is_sought → (source : List ℕ) (from place : ℕ) → IsFirstPlace is_sought source from place → begins_at source place ≡ false
+    → (k : ℕ) → from ≤ k → k < place + 1 → begins_at source k ≡ false
+none_through begins_at is_sought begins source from place first here k after through =
+    elim (cases_lt k place) [
+      | inl before ↦ none_unsought begins_at is_sought begins source k (first.before k after before)
+      | inr following ↦ subst (λ i. begins_at source i ≡ false) (omega (arith, through, following)) here
+    ]
 
 -- the source from a place on, with the changes made, in the words of sinks
 pub replaces_all : (rows : Rows) (begins_at : List ℕ → ℕ → Bool) (is_sought : ℕ → Bool) (changes_from : List ℕ → ℕ → List Change) → BeginsAtSought begins_at is_sought → ReplacesByRows rows begins_at is_sought changes_from

@@ -1,5 +1,5 @@
 //! The search for the next change of a rule.
-ghost use Rattle.std.specs.Prelude.{◌≡◌, ◌≤◌, ◌<◌, false, true, [], length, slice_index, slice_range, IfNone, IfSome};
+ghost use Rattle.std.specs.Prelude.{◌≡◌, ◌≤◌, ◌<◌, ℕ, false, true, [], length, slice_index, slice_range, IfNone, IfSome};
 ghost use Rattle.std.specs.Str.{IsCharBoundary};
 ghost use Rattle.hesc_specs.specs.Text.FirstPlace.{IsFirstPlace};
 ghost use Rattle.hesc_engine.specs.Ahead.{IsAhead};
@@ -52,7 +52,30 @@ pub(crate) fn first_change<'r, R: Rule>(
     ensures found { IfSome result (IsNext text.now from (R.changes_from rule.now text.now)) }
     ensures ahead { IsAhead (R.is_sought rule.now) text.now ahead.new }
 {
-    let mut reached = from;
+    first_change_after(rule, seek, text, from, from, ahead)
+}
+
+// The same, where no change begins before `passed`.
+#[inline(always)]
+fn first_change_after<'r, R: Rule>(
+    rule: &'r R,
+    seek: Seek,
+    text: &str,
+    from: usize,
+    passed: usize,
+    ahead: &mut Ahead,
+) -> Option<Found<'r>>
+    requires boundary { IsCharBoundary text.now from }
+    requires ordered { from ≤ passed }
+    requires within { passed ≤ length text.now }
+    requires passed { (k : ℕ) → from ≤ k → k < passed → R.begins_at rule.now text.now k ≡ false }
+    requires seek { IsSeekOf R.Rule rule.now seek }
+    requires ahead { IsAhead (R.is_sought rule.now) text.now ahead.old }
+    ensures none { IfNone result (R.changes_from rule.now text.now from ≡ []) }
+    ensures found { IfSome result (IsNext text.now from (R.changes_from rule.now text.now)) }
+    ensures ahead { IsAhead (R.is_sought rule.now) text.now ahead.new }
+{
+    let mut reached = passed;
     'seeking: while let Some(place) = first_hit(seek.sought, text, reached, ahead) {
         if let Some(found) = change_at_hit(rule, seek, text, place) {
             return Some(found);
@@ -82,7 +105,7 @@ pub(crate) fn change_from_hit<'r, R: Rule>(
 {
     match change_at_hit(rule, seek, text, place) {
         Some(found) => Some(found),
-        None => first_change(rule, seek, text, 0, ahead),
+        None => first_change_after(rule, seek, text, 0, place + 1, ahead),
     }
 }
 
