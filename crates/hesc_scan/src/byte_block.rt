@@ -1,11 +1,11 @@
 //! The search for the next bytes of one value, as a mask of them.
-ghost use Rattle.std.specs.Prelude.{◌≡◌, ◌≤◌, ◌<◌, ◌+◌, length};
+ghost use Rattle.std.specs.Prelude.{◌≡◌, ◌≤◌, ◌<◌, ◌+◌, ℕ, Bool, length};
 ghost use Rattle.memchr.specs.Find.{is_byte};
 ghost use Rattle.hesc_scan.specs.Blocks.{IsFirstBlock, mask_from};
 
 use crate::block::Block;
 use crate::find::first_byte_far;
-use crate::lanes::{block_hits_of_one, half_hits_of_one, hits_of_one};
+use crate::lanes::{block_hits_of_one, hits_of_one, hits_of_one_at};
 use crate::lookup::Lookup;
 use crate::scan::{first_by_chunks, first_by_pairs};
 use std::simd::prelude::*;
@@ -46,7 +46,8 @@ pub fn first_byte_block(byte: u8, bytes: &[u8], from: usize) -> (usize, u64)
         return (from, mask);
     }
     if bytes.len() - from <= 64 {
-        return last_byte_block(byte, bytes, from + 32);
+        let mask = mask_of_last::<32>(byte, bytes, from + 32);
+        return block_or_end(mask, bytes, from + 32);
     }
     later_byte_block(byte, bytes, from + 32)
 }
@@ -100,7 +101,17 @@ fn last_byte_block(byte: u8, bytes: &[u8], from: usize) -> (usize, u64)
     requires few { length bytes.now ≤ from + 32 }
     ensures { IsFirstBlock (is_byte byte) bytes.now from result.0 result.1 }
 {
-    let mask = mask_of_rest(byte, bytes, from);
+    block_or_end(mask_of_rest(byte, bytes, from), bytes, from)
+}
+
+// The block of this mask, or the end where the mask is empty.
+#[inline(always)]
+fn block_or_end(mask: u64, bytes: &[u8], from: usize) -> (usize, u64)
+    requires within { from ≤ length bytes.now }
+    requires few { length bytes.now ≤ from + 32 }
+    ensures { (test : ℕ → Bool) → mask ≡ mask_from test bytes.now from
+        → IsFirstBlock test bytes.now from result.0 result.1 }
+{
     if mask == 0 {
         return (bytes.len(), 0);
     }
@@ -118,7 +129,7 @@ fn mask_of_rest(byte: u8, bytes: &[u8], place: usize) -> u64
         return mask_of_halves(byte, bytes, place);
     }
     if bytes.len() >= 16 {
-        return mask_of_last(byte, bytes, place);
+        return mask_of_last::<16>(byte, bytes, place);
     }
     block_hits_of_one(byte, &Block::rest(bytes, place))
 }
@@ -132,18 +143,19 @@ fn mask_of_halves(byte: u8, bytes: &[u8], place: usize) -> u64
 {
     let last = bytes.len() - 16;
     let skip = last - place;
-    let front = half_hits_of_one(byte, bytes, place) & ((1 << skip) - 1);
-    (half_hits_of_one(byte, bytes, last) << skip) | front
+    let front = hits_of_one_at::<16>(byte, bytes, place) & ((1 << skip) - 1);
+    (hits_of_one_at::<16>(byte, bytes, last) << skip) | front
 }
 
-// The mask of the last 16 bytes, without those before `place`.
+// The mask of the last 16 or 32 bytes, without those before `place`.
 #[inline(always)]
-fn mask_of_last(byte: u8, bytes: &[u8], place: usize) -> u64
-    requires long { 16 ≤ length bytes.now }
+fn mask_of_last<const N: usize>(byte: u8, bytes: &[u8], place: usize) -> u64
+    requires small { N ≤ 32 }
+    requires long { N ≤ length bytes.now }
     requires within { place ≤ length bytes.now }
-    requires few { length bytes.now ≤ place + 16 }
+    requires few { length bytes.now ≤ place + N }
     ensures { result ≡ mask_from (is_byte byte) bytes.now place }
 {
-    let start = bytes.len() - 16;
-    half_hits_of_one(byte, bytes, start) >> (place - start)
+    let start = bytes.len() - N;
+    hits_of_one_at::<N>(byte, bytes, start) >> (place - start)
 }

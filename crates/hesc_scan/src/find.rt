@@ -6,7 +6,7 @@ ghost use Rattle.hesc_specs.specs.Text.FirstPlace.{IsFirstPlace};
 
 use crate::block::Block;
 use crate::lanes::{
-    block_hits_of_one, block_hits_of_two, half_hits_of_one, hits_of_one, hits_of_two,
+    block_hits_of_one, block_hits_of_two, hits_of_one, hits_of_one_at, hits_of_two,
 };
 use memchr::{memchr, memchr2};
 use std::simd::prelude::*;
@@ -63,12 +63,12 @@ fn first_byte_of_halves(byte: u8, bytes: &[u8], from: usize) -> usize
     requires both { length bytes.now ≤ from + 32 }
     ensures { IsFirstPlace (is_byte byte) bytes.now from result }
 {
-    let mask = half_hits_of_one(byte, bytes, from);
+    let mask = hits_of_one_at::<16>(byte, bytes, from);
     if mask != 0 {
         return from + mask.trailing_zeros() as usize;
     }
     let last = bytes.len() - 16;
-    let mask = half_hits_of_one(byte, bytes, last);
+    let mask = hits_of_one_at::<16>(byte, bytes, last);
     if mask != 0 {
         return last + mask.trailing_zeros() as usize;
     }
@@ -84,7 +84,7 @@ fn first_byte_of_last(byte: u8, bytes: &[u8], from: usize) -> usize
     ensures { IsFirstPlace (is_byte byte) bytes.now from result }
 {
     let start = bytes.len() - 16;
-    let hits = half_hits_of_one(byte, bytes, start);
+    let hits = hits_of_one_at::<16>(byte, bytes, start);
     first_set(hits >> (from - start), bytes, from)
 }
 

@@ -24,14 +24,15 @@ pub(crate) fn block_hits_of_one(byte: u8, block: &Block) -> u64
     block.mask_of(hits_of_one(byte, block.lanes()))
 }
 
-/// The same for 16 bytes from a place on.
+/// The same for so many bytes from a place on, 16 or 32.
 #[inline(always)]
-pub(crate) fn half_hits_of_one(byte: u8, bytes: &[u8], place: usize) -> u64
-    requires { place + 16 ≤ length bytes.now }
-    ensures { result ≡ mask_l (map (is_byte byte) (take 16 (drop place bytes.now))) }
+pub(crate) fn hits_of_one_at<const N: usize>(byte: u8, bytes: &[u8], place: usize) -> u64
+    requires few { N ≤ 32 }
+    requires there { place + N ≤ length bytes.now }
+    ensures { result ≡ mask_l (map (is_byte byte) (take N (drop place bytes.now))) }
 {
-    let half = u8x16::from_slice(&bytes[place..]);
-    half.simd_eq(u8x16::splat(byte)).to_bitmask()
+    let lanes = Simd::<u8, N>::from_slice(&bytes[place..]);
+    lanes.simd_eq(Simd::<u8, N>::splat(byte)).to_bitmask()
 }
 
 /// Bit `k` of the answer is set exactly if byte `k` is one of the two.

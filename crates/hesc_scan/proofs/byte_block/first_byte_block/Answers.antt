@@ -32,7 +32,7 @@ returns-then-bytes-from-le64 c =
     (none_by_mask (is_byte c.args.byte) c.args.bytes.now _ c.args.from c.args.from c.hits_of_one-mask.result (omega arith) (λ j after earlier. absurd (omega arith))
     (chunk_stands c.args.bytes.now _ c.args.from c.as_chunks.result.0.now 0 c.requires (slice_rest c.args.bytes.now c.args.from c.requires) chunks.front chunks.front_len (omega (arith, eqb-false _ _ (sym c.if-is_empty.ensures))) c.args.from (omega arith))
     c.hits_of_one-mask.ensures c.if-mask-ne0.false)
-    c.last_byte_block-then-bytes-from-le64.ensures
+    (c.block_or_end.ensures (is_byte c.args.byte) c.mask_of_last-mask.ensures)
 
 pub returns : goal.returns
 returns c =

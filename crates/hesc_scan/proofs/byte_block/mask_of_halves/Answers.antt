@@ -18,6 +18,6 @@ returns c =
     take_all 16 (drop last bytes) (omega (arith, length-drop last bytes))
     ∙ ap (λ n. drop n bytes) (sym later)
     ∙ sym (drop-drop skip place bytes) in
-    halves_by_bits (is_byte c.args.byte) xs skip _ _ (omega (arith, c.requires.both)) there c.half_hits_of_one.ensures
-    (c.half_hits_of_one-2.ensures ∙ ap (λ l. mask_l (map (is_byte c.args.byte) l)) last_there)
+    halves_by_bits (is_byte c.args.byte) xs skip _ _ (omega (arith, c.requires.both)) there c.hits_of_one_at.ensures
+    (c.hits_of_one_at-2.ensures ∙ ap (λ l. mask_l (map (is_byte c.args.byte) l)) last_there)
     ∙ ap (λ l. mask_l (map (is_byte c.args.byte) l)) (sym (take_all 32 xs (omega (arith, there, c.requires.both))))

@@ -12,7 +12,7 @@ returns c =
     let start : ℕ = length bytes - 16 in
     let skipped : ℕ = c.args.from - start in
     c.first_set.ensures test
-    (ap (λ n. n / 2 ^ skipped) c.half_hits_of_one-hits.ensures
+    (ap (λ n. n / 2 ^ skipped) c.hits_of_one_at-hits.ensures
     ∙ ap (λ l. mask_l (map test l) / 2 ^ skipped) (take_all 16 (drop start bytes) (omega (arith, length-drop start bytes)))
     ∙ mask_l-drop test (drop start bytes) skipped (omega (arith, length-drop start bytes))
     ∙ ap (λ l. mask_l (map test l)) (drop-drop skipped start bytes ∙ ap (λ n. drop n bytes) (omega arith)))
