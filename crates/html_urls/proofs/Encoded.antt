@@ -2,4 +2,5 @@ pub mod Blocks
 pub mod Digits
 pub mod Halves
 pub mod Lanes
+pub mod Picks
 pub mod Rows

@@ -5,6 +5,7 @@ ghost use Rattle.html_urls.specs.Components.{IsUnreservedText, component};
 
 pub(crate) mod blocks;
 pub(crate) mod lanes;
+pub(crate) mod picks;
 pub(crate) mod rows;
 pub(crate) mod unreserved;
 

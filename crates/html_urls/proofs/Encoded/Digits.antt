@@ -1,26 +1,25 @@
--- Sixteen bytes in lanes: their digits, and what is picked of each four.
-use Rattle.std.proofs.Common.{◌≡◌, ℕ, zero, suc, ◌+◌, ◌*◌, ◌/◌, ◌%◌, ◌^◌, ◌≤◌, ◌<◌, Bool, true, false, ◌==◌, ltb-true, nat_lt, cond, List, [], ◌∷◌, ◌++◌, count_ones, drop, get_or, length, length-append, length-take-le, map, replicate, take, take_all, refl, sym, ap, ◌∙◌, subst, ⊎_elim, bit_and, w8, arith}
+-- Sixteen bytes in lanes: their digits, and what is stored where all are encoded.
+use Rattle.std.proofs.Common.{◌≡◌, ℕ, zero, suc, ◌+◌, ◌*◌, ◌/◌, ◌%◌, ◌^◌, ◌≤◌, ◌<◌, Bool, true, false, ◌==◌, cond, List, [], ◌∷◌, ◌++◌, count_ones, drop, get_or, length, length-append, length-take-le, map, replicate, take, take_all, refl, sym, ap, ◌∙◌, subst, ⊎_elim, bit_and, w8, arith}
 use Rattle.std.proofs.lemmas.Bool.{agree_below, agree_below_at, cases_Bool, eqb-true}
 use Rattle.std.proofs.Math.Nat.{pow-suc}
 use Rattle.std.proofs.Math.Seq.{drop-cons}
-use Rattle.std.proofs.lemmas.List.{length-drop, length-map, length-take, nil_from_length, take_at}
-use Rattle.std.proofs.lemmas.Nat.{one_shl, ones-le}
-use Rattle.std.proofs.lemmas.Simd.{Each1-chunk, Each1-from_get_or, length-chunk, length-swz_l, mask_l-lt, ones-mask_l, SwzOk, SwzOk-from_below, swz_l}
+use Rattle.std.proofs.lemmas.List.{length-drop, nil_from_length, take_at}
+use Rattle.std.proofs.lemmas.Nat.{one_shl}
+use Rattle.std.proofs.lemmas.Simd.{ones-mask_l, swz_l}
 use Rattle.hesc_scan.proofs.LaneLemmas.{same_below}
-use Rattle.hesc_scan.proofs.Masks.{mask_l-drop, mask_l-take}
+use Rattle.hesc_scan.proofs.Masks.{mask_l-take}
 use Rattle.hesc_sinks.specs.Stores.{Stored}
 use Rattle.hesc_sinks.proofs.Stores.{stored_first, stored_then}
 use Rattle.std.specs.Simd.Lanes.{Each1, mask_l, pick_l, put_chunk, zip2}
 use Rattle.percent_encoding.specs.AsciiSet.{should_percent_encode}
 use Rattle.percent_encoding.specs.Percent.{percent_encode_byte}
-use Rattle.percent_encoding.proofs.PercentLemmas.{percent_encode-append, percent_encode-nil, percent_encode_escaped, percent_encode_kept}
+use Rattle.percent_encoding.proofs.PercentLemmas.{percent_encode-nil, percent_encode_escaped, percent_encode_kept}
 use Rattle.html_urls.specs.declared.component.TheConstants.{COMPONENT}
-use Rattle.html_urls.specs.declared.component.lanes.TheConstants.{PICKS}
 use Rattle.html_urls.specs.Components.{component, encoded_count, is_encoded}
 use Rattle.html_urls.proofs.Encoded.Blocks.{stored_row}
 use Rattle.html_urls.proofs.Encoded.Halves.{by_high_half, by_low_half, down}
-use Rattle.html_urls.proofs.Components.{component_length_is, component_parts, length-component}
-use Rattle.html_urls.specs.Components.Lanes.{four_at, high_digit, low_digit, picks_at, with_digits, with_signs}
+use Rattle.html_urls.proofs.Components.{component_length_is, component_parts}
+use Rattle.html_urls.specs.Components.Lanes.{high_digit, low_digit, with_signs}
 
 -- ---- digits
 
@@ -35,11 +34,11 @@ low_checked = refl
 
 pub high_digits : (v : List ℕ) → length v ≡ 16 → Each1 (λ b. b < 256) v → swz_l w8 16 DIGITS 0 (zip2 down v (replicate 16 4)) ≡ map high_digit v
 high_digits v long below =
-    by_high_half DIGITS v long below ∙ same_below _ high_digit v below (λ b lt. eqb-true _ _ (agree_below_at (λ k. get_or DIGITS (k / 16) 0 == high_digit k) (λ k. true) 256 b high_checked lt))
+    by_high_half DIGITS v refl long ∙ same_below _ high_digit v below (λ b lt. eqb-true _ _ (agree_below_at (λ k. get_or DIGITS (k / 16) 0 == high_digit k) (λ k. true) 256 b high_checked lt))
 
 pub low_digits : (v : List ℕ) → length v ≡ 16 → Each1 (λ b. b < 256) v → swz_l w8 16 DIGITS 0 (zip2 bit_and v (replicate 16 15)) ≡ map low_digit v
 low_digits v long below =
-    by_low_half DIGITS v long below ∙ same_below _ low_digit v below (λ b lt. eqb-true _ _ (agree_below_at (λ k. get_or DIGITS (k % 16) 0 == low_digit k) (λ k. true) 256 b low_checked lt))
+    by_low_half DIGITS v refl long ∙ same_below _ low_digit v below (λ b lt. eqb-true _ _ (agree_below_at (λ k. get_or DIGITS (k % 16) 0 == low_digit k) (λ k. true) 256 b low_checked lt))
 
 -- ---- sixteen lanes, one by one
 
@@ -47,7 +46,7 @@ abbrev pub spelled_from : List ℕ → ℕ → ℕ → List ℕ
 spelled_from v k zero = []
 spelled_from v k (suc n) = get_or v k 0 ∷ spelled_from v (suc k) n
 
-spelled_is : (v : List ℕ) (k n : ℕ) → k + n ≡ length v → drop k v ≡ spelled_from v k n
+pub spelled_is : (v : List ℕ) (k n : ℕ) → k + n ≡ length v → drop k v ≡ spelled_from v k n
 spelled_is v k zero long = nil_from_length (drop k v) (omega (arith, length-drop k v))
 spelled_is v k (suc n) long = drop-cons v k 0 (omega arith) ∙ ap (λ l. get_or v k 0 ∷ l) (spelled_is v (suc k) n (omega arith))
 
@@ -58,37 +57,14 @@ spelled v = spelled_from v 0 16
 pub by_lanes : (P : List ℕ → Type 0) (v : List ℕ) → length v ≡ 16 → P (spelled v) → P v
 by_lanes P v long here = subst P (sym (spelled_is v 0 16 (sym long))) here
 
-abbrev sides : List ℕ → List ℕ → List ℕ → List ℕ → List ℕ → List ℕ → List ℕ
-sides v high low front pairs ends = pick_l 0 (pick_l 0 (v ++ replicate 16 37) front ++ pick_l 0 (high ++ low) pairs) ends
-
-abbrev BACK : List ℕ
-BACK = 8 ∷ 9 ∷ 10 ∷ 11 ∷ 24 ∷ 25 ∷ 26 ∷ 27 ∷ 12 ∷ 13 ∷ 14 ∷ 15 ∷ 28 ∷ 29 ∷ 30 ∷ 31 ∷ []
-
-abbrev LATE : List ℕ
-LATE = 8 ∷ 24 ∷ 9 ∷ 25 ∷ 10 ∷ 26 ∷ 11 ∷ 27 ∷ 12 ∷ 28 ∷ 13 ∷ 29 ∷ 14 ∷ 30 ∷ 15 ∷ 31 ∷ []
-
-abbrev FIRST : List ℕ
-FIRST = 0 ∷ 1 ∷ 2 ∷ 3 ∷ 4 ∷ 5 ∷ 6 ∷ 7 ∷ 16 ∷ 17 ∷ 18 ∷ 19 ∷ 20 ∷ 21 ∷ 22 ∷ 23 ∷ []
-
-abbrev LAST : List ℕ
-LAST = 8 ∷ 9 ∷ 10 ∷ 11 ∷ 12 ∷ 13 ∷ 14 ∷ 15 ∷ 24 ∷ 25 ∷ 26 ∷ 27 ∷ 28 ∷ 29 ∷ 30 ∷ 31 ∷ []
-
-pub third_four : (v high low : List ℕ) → length v ≡ 16 → high ≡ map high_digit v → low ≡ map low_digit v → sides v high low BACK LATE FIRST ≡ four_at v 8
-third_four v high low long is_high is_low =
-    (λ i. sides v (is_high i) (is_low i) BACK LATE FIRST) ∙ by_lanes (λ l. sides l (map high_digit l) (map low_digit l) BACK LATE FIRST ≡ four_at l 8) v long refl
-
-pub fourth_four : (v high low : List ℕ) → length v ≡ 16 → high ≡ map high_digit v → low ≡ map low_digit v → sides v high low BACK LATE LAST ≡ four_at v 12
-fourth_four v high low long is_high is_low =
-    (λ i. sides v (is_high i) (is_low i) BACK LATE LAST) ∙ by_lanes (λ l. sides l (map high_digit l) (map low_digit l) BACK LATE LAST ≡ four_at l 12) v long refl
-
--- ---- four bytes
+-- ---- a byte more
 
 -- what stands for a byte, encoded or not
-abbrev shown : Bool → ℕ → List ℕ
+abbrev pub shown : Bool → ℕ → List ℕ
 shown true b = 37 ∷ high_digit b ∷ low_digit b ∷ []
 shown false b = b ∷ []
 
-component-cons : (b : ℕ) (bytes : List ℕ) → component (b ∷ bytes) ≡ shown (is_encoded b) b ++ component bytes
+pub component-cons : (b : ℕ) (bytes : List ℕ) → component (b ∷ bytes) ≡ shown (is_encoded b) b ++ component bytes
 unfolding percent_encode_byte
 component-cons b bytes =
     ⊎_elim
@@ -96,102 +72,7 @@ component-cons b bytes =
     (λ (plain : should_percent_encode COMPONENT b ≡ false). percent_encode_kept COMPONENT b bytes plain ∙ ap (λ p. shown p b ++ component bytes) (sym plain))
     (cases_Bool (should_percent_encode COMPONENT b))
 
-abbrev all_shown : Bool → Bool → Bool → Bool → ℕ → ℕ → ℕ → ℕ → List ℕ
-all_shown p q r s a b c d = shown p a ++ (shown q b ++ (shown r c ++ (shown s d ++ [])))
-
-component_of_four : (a b c d : ℕ) → component (a ∷ b ∷ c ∷ d ∷ []) ≡ all_shown (is_encoded a) (is_encoded b) (is_encoded c) (is_encoded d) a b c d
-component_of_four a b c d =
-    component-cons a _ ∙ ap (λ l. shown (is_encoded a) a ++ l) (component-cons b _ ∙ ap (λ l. shown (is_encoded b) b ++ l) (component-cons c _ ∙ ap (λ l. shown (is_encoded c) c ++ l) (component-cons d [] ∙ ap (λ l. shown (is_encoded d) d ++ l) (percent_encode-nil COMPONENT))))
-
-abbrev picked : ℕ → ℕ → ℕ → ℕ → ℕ → List ℕ
-picked mask a b c d = take (4 + 2 * count_ones mask) (swz_l w8 16 (with_digits a b c d) 0 (picks_at mask))
-
-picked_is : (p q r s : Bool) (a b c d : ℕ) → picked (mask_l (p ∷ q ∷ r ∷ s ∷ [])) a b c d ≡ all_shown p q r s a b c d
-unfolding lib.Count.ones
-picked_is true true true true a b c d = refl
-picked_is true true true false a b c d = refl
-picked_is true true false true a b c d = refl
-picked_is true true false false a b c d = refl
-picked_is true false true true a b c d = refl
-picked_is true false true false a b c d = refl
-picked_is true false false true a b c d = refl
-picked_is true false false false a b c d = refl
-picked_is false true true true a b c d = refl
-picked_is false true true false a b c d = refl
-picked_is false true false true a b c d = refl
-picked_is false true false false a b c d = refl
-picked_is false false true true a b c d = refl
-picked_is false false true false a b c d = refl
-picked_is false false false true a b c d = refl
-picked_is false false false false a b c d = refl
-
--- what is picked of four bytes and their digits is their component
-pub picked_component : (mask a b c d : ℕ) → mask ≡ mask_l (map is_encoded (a ∷ b ∷ c ∷ d ∷ [])) → picked mask a b c d ≡ component (a ∷ b ∷ c ∷ d ∷ [])
-picked_component mask a b c d is = ap (λ m. picked m a b c d) is ∙ picked_is (is_encoded a) (is_encoded b) (is_encoded c) (is_encoded d) a b c d ∙ sym (component_of_four a b c d)
-
 -- ---- storing
-
-pick_checked : agree_below (λ k. nat_lt (get_or PICKS.now k 0) 16) (λ k. true) 256 ≡ true
-pick_checked = refl
-
--- a row of picks names lanes
-pub picks_within : (mask : ℕ) → mask < 16 → SwzOk w8 16 16 0 (picks_at mask)
-picks_within mask lt =
-    let each = Each1-from_get_or (λ j. j < 16) PICKS.now 0 (λ k near. ltb-true _ _ (agree_below_at (λ i. nat_lt (get_or PICKS.now i 0) 16) (λ i. true) 256 k pick_checked near)) in
-    SwzOk-from_below w8 16 1 16 0 (picks_at mask) refl (omega (arith, length-take 16 (drop (16 * mask) PICKS.now))) (Each1-chunk (λ j. j < 16) (16 * mask) 16 PICKS.now each)
-
-pub four_flags : (mask : ℕ) (lanes : List ℕ) → lanes ≡ four_at lanes 0 → mask ≡ mask_l (map is_encoded (take 4 lanes)) → mask < 16
-four_flags mask lanes are is =
-    let four : length (map is_encoded (take 4 lanes)) ≡ 4 = length-map (take 4 lanes) is_encoded ∙ ap (λ (l : List ℕ). length (take 4 l)) are in
-    omega (arith, is, subst (λ n. mask_l (map is_encoded (take 4 lanes)) < 2 ^ n) four (mask_l-lt (map is_encoded (take 4 lanes))))
-
--- four bytes, of which the picked lanes are the component
-pub stored_four : (old lanes picks : List ℕ) (place mask : ℕ) → lanes ≡ four_at lanes 0 → mask ≡ mask_l (map is_encoded (take 4 lanes)) → place + 16 ≤ length old → picks ≡ picks_at mask
-    → Stored old (put_chunk place old (swz_l w8 16 lanes 0 picks)) place (component (take 4 lanes)) (place + 4 + 2 * count_ones mask)
-stored_four old lanes picks place mask are is within is_picks =
-    let small : mask < 16 = four_flags mask lanes are is in
-    let few = ones-le 4 mask small in
-    let long : length (swz_l w8 16 lanes 0 picks) ≡ 16 = length-swz_l w8 16 lanes 0 picks ∙ ap length is_picks ∙ length-chunk (16 * mask) 16 PICKS.now (omega arith) in
-    let four : take 4 lanes ≡ get_or lanes 0 0 ∷ get_or lanes 1 0 ∷ get_or lanes 2 0 ∷ get_or lanes 3 0 ∷ [] = ap (take 4) are in
-    let made : take (4 + 2 * count_ones mask) (swz_l w8 16 lanes 0 picks) ≡ component (take 4 lanes) =
-    (λ i. take (4 + 2 * count_ones mask) (swz_l w8 16 (are i) 0 (is_picks i)))
-    ∙ picked_component mask _ _ _ _ (is ∙ ap (λ l. mask_l (map is_encoded l)) four)
-    ∙ ap component (sym four) in
-    subst (Stored old (put_chunk place old (swz_l w8 16 lanes 0 picks)) place (component (take 4 lanes))) (omega arith) (stored_row old (swz_l w8 16 lanes 0 picks) (component (take 4 lanes)) place 16 (4 + 2 * count_ones mask) long made (omega (arith, few)) within)
-
--- at most three for each
-pub four_within : (lanes : List ℕ) → length (component (take 4 lanes)) ≤ 12
-four_within lanes = omega (arith, length-component (take 4 lanes), length-take 4 lanes)
-
--- the mask of four of the lanes
-pub mask_of_four : (w lanes : List ℕ) (k mask : ℕ) → length w ≡ 16 → k + 4 ≤ 16 → mask ≡ mask_l (map is_encoded w) → lanes ≡ four_at w k → take 4 (four_at w k) ≡ take 4 (drop k w)
-    → mask / 2 ^ k % 16 ≡ mask_l (map is_encoded (take 4 lanes))
-mask_of_four w lanes k mask long within is is_lanes same =
-    ap (λ n. n / 2 ^ k % 16) is
-    ∙ ap (λ n. n % 16) (mask_l-drop is_encoded w k (omega (arith, long)))
-    ∙ mask_l-take is_encoded (drop k w) 4 (omega (arith, long, length-drop k w))
-    ∙ ap (λ l. mask_l (map is_encoded l)) (sym (ap (take 4) is_lanes ∙ same))
-
--- four times four bytes
-pub stored_fours : (w l₁ l₂ l₃ l₄ old r₁ r₂ r₃ new : List ℕ) (place e₁ e₂ e₃ e₄ : ℕ) → length w ≡ 16 → l₁ ≡ four_at w 0 → l₂ ≡ four_at w 4 → l₃ ≡ four_at w 8 → l₄ ≡ four_at w 12
-    → Stored old r₁ place (component (take 4 l₁)) e₁ → Stored r₁ r₂ e₁ (component (take 4 l₂)) e₂ → Stored r₂ r₃ e₂ (component (take 4 l₃)) e₃ → Stored r₃ new e₃ (component (take 4 l₄)) e₄
-    → Stored old new place (component w) e₄
-stored_fours w l₁ l₂ l₃ l₄ old r₁ r₂ r₃ new place e₁ e₂ e₃ e₄ long is₁ is₂ is₃ is₄ s₁ s₂ s₃ s₄ =
-    let t₁ : List ℕ = take 4 l₁ in
-    let t₂ : List ℕ = take 4 l₂ in
-    let t₃ : List ℕ = take 4 l₃ in
-    let t₄ : List ℕ = take 4 l₄ in
-    let two = stored_then old r₁ r₂ (component t₁) (component t₂) place e₁ e₂ s₁ s₂ in
-    let three = stored_then old r₂ r₃ (component t₁ ++ component t₂) (component t₃) place e₂ e₃ two s₃ in
-    let four = stored_then old r₃ new ((component t₁ ++ component t₂) ++ component t₃) (component t₄) place e₃ e₄ three s₄ in
-    let joined : ((component t₁ ++ component t₂) ++ component t₃) ++ component t₄ ≡ component (((t₁ ++ t₂) ++ t₃) ++ t₄) =
-    ap (λ l. (l ++ component t₃) ++ component t₄) (sym (percent_encode-append COMPONENT t₁ t₂))
-    ∙ ap (λ l. l ++ component t₄) (sym (percent_encode-append COMPONENT (t₁ ++ t₂) t₃))
-    ∙ sym (percent_encode-append COMPONENT ((t₁ ++ t₂) ++ t₃) t₄) in
-    let whole : ((t₁ ++ t₂) ++ t₃) ++ t₄ ≡ w =
-    (λ i. ((take 4 (is₁ i) ++ take 4 (is₂ i)) ++ take 4 (is₃ i)) ++ take 4 (is₄ i))
-    ∙ by_lanes (λ l. ((take 4 (four_at l 0) ++ take 4 (four_at l 4)) ++ take 4 (four_at l 8)) ++ take 4 (four_at l 12) ≡ l) w long refl in
-    subst (λ l. Stored old new place l e₄) (joined ∙ ap component whole) four
 
 -- the component of all lanes is stored, and that of the first is wanted
 pub stored_lanes : (w bytes old new : List ℕ) (place end count mask : ℕ) → length w ≡ 16 → take count w ≡ take count bytes → count ≤ 16 → place ≤ length old → mask ≡ mask_l (map is_encoded w) → Stored old new place (component w) end
@@ -233,6 +114,9 @@ all_encoded (b ∷ v) full =
 
 abbrev EARLY : List ℕ
 EARLY = 0 ∷ 16 ∷ 1 ∷ 17 ∷ 2 ∷ 18 ∷ 3 ∷ 19 ∷ 4 ∷ 20 ∷ 5 ∷ 21 ∷ 6 ∷ 22 ∷ 7 ∷ 23 ∷ []
+
+abbrev LATE : List ℕ
+LATE = 8 ∷ 24 ∷ 9 ∷ 25 ∷ 10 ∷ 26 ∷ 11 ∷ 27 ∷ 12 ∷ 28 ∷ 13 ∷ 29 ∷ 14 ∷ 30 ∷ 15 ∷ 31 ∷ []
 
 abbrev both_signed : List ℕ → List ℕ → List ℕ
 both_signed high low = with_signs (pick_l 0 (high ++ low) EARLY) ++ with_signs (pick_l 0 (high ++ low) LATE)

@@ -1,9 +1,10 @@
 -- Tables of sixteen that are read by half of each byte.
-use Rattle.std.proofs.Common.{◌≡◌, ℕ, suc, ◌+◌, ◌*◌, ◌/◌, ◌%◌, ◌^◌, ◌≤◌, ◌<◌, false, leb, cond, List, [], ◌∷◌, get_or, length, map, replicate, refl, ap, ◌∙◌, bit_and, w8, arith}
-use Rattle.std.proofs.lemmas.Bool.{cond-false}
-use Rattle.std.proofs.lemmas.Bool.Decides.{nat_tests}
+use Rattle.std.proofs.Common.{◌≡◌, ℕ, suc, ◌+◌, ◌*◌, ◌/◌, ◌%◌, ◌^◌, ◌≤◌, ◌<◌, leb, cond, List, [], ◌∷◌, get_or, length, map, replicate, ⊎_elim, refl, sym, ap, ◌∙◌, bit_and, w8, arith}
+use Rattle.std.proofs.lemmas.Bool.{cases_lt, cond-false, cond-true, le-leb, lt-leb}
+use Rattle.std.proofs.lemmas.List.{length-map}
 use Rattle.std.proofs.lemmas.Nat.{and_le_r, and_mask}
-use Rattle.std.proofs.lemmas.Simd.{Each1-all, Each1-weaker, Each1-zip2, Each2-splat, SwzOk, SwzOk-from_below, length-zip2, swz_l, zip2_splat}
+use Rattle.std.proofs.lemmas.Simd.{Each1-all, Each1-weaker, Each1-zip2, Each2-splat, SwzOk, SwzOk-from_below, length-zip2, map-map, swz_l, zip2_splat}
+use Rattle.std.proofs.Math.ListN.{get_or-eq_default}
 use Rattle.std.specs.Simd.Lanes.{Each1, zip2}
 
 abbrev pub down : ℕ → ℕ → ℕ
@@ -23,17 +24,22 @@ low_within v long =
 
 -- what is read
 
-looked_up : (table : List ℕ) (half : ℕ → ℕ) → ((b : ℕ) → b < 256 → half b < 16) → (v : List ℕ) (i : ℕ) → i + length v ≤ 16 → Each1 (λ b. b < 256) v → swz_l w8 16 table i (map half v) ≡ map (λ b. get_or table (half b) 0) v
-looked_up table half few [] i within below = refl
-looked_up table half few (b ∷ v) i within below =
-    let small : half b < 16 = few b below.0 in
-    let low : leb 128 (half b) ≡ false = grind (arith, nat_tests) in
-    let here : cond (leb 128 (half b)) 0 (get_or table (16 * (i / 16) + half b) 0) ≡ get_or table (half b) 0 = cond-false _ _ _ low ∙ ap (λ k. get_or table k 0) (omega arith) in
-    λ p. here p ∷ looked_up table half few v (suc i) (omega arith) below.1 p
+pub looked_up : (table picks : List ℕ) (i : ℕ) → length table ≡ 16 → i + length picks ≤ 16 → swz_l w8 16 table i picks ≡ map (λ k. get_or table k 0) picks
+looked_up table [] i long within = refl
+looked_up table (k ∷ picks) i long within =
+    let here : cond (leb 128 k) 0 (get_or table (16 * (i / 16) + k) 0) ≡ get_or table k 0 =
+    ⊎_elim
+    (λ (lane : k < 128). cond-false _ _ _ (lt-leb 128 k lane) ∙ ap (λ n. get_or table n 0) (omega (arith, within)))
+    (λ (none : 128 ≤ k). cond-true _ _ _ (le-leb 128 k none) ∙ sym (get_or-eq_default table 0 (omega (arith, long, none))))
+    (cases_lt k 128) in
+    λ p. here p ∷ looked_up table picks (suc i) long (omega (arith, within)) p
 
-pub by_high_half : (table v : List ℕ) → length v ≡ 16 → Each1 (λ b. b < 256) v → swz_l w8 16 table 0 (zip2 down v (replicate 16 4)) ≡ map (λ b. get_or table (b / 16) 0) v
-by_high_half table v long below = ap (swz_l w8 16 table 0) (zip2_splat down v 16 4 long) ∙ looked_up table (λ b. b / 16) (λ b lt. omega arith) v 0 (omega (arith, long)) below
+module _ (table v : List ℕ) (whole : length table ≡ 16) (long : length v ≡ 16) where
+  by_half : (half : ℕ → ℕ) → swz_l w8 16 table 0 (map half v) ≡ map (λ b. get_or table (half b) 0) v
+  by_half half = looked_up table (map half v) 0 whole (omega (arith, length-map v half, long)) ∙ map-map (λ k. get_or table k 0) half v
 
-pub by_low_half : (table v : List ℕ) → length v ≡ 16 → Each1 (λ b. b < 256) v → swz_l w8 16 table 0 (zip2 bit_and v (replicate 16 15)) ≡ map (λ b. get_or table (b % 16) 0) v
-by_low_half table v long below =
-    ap (swz_l w8 16 table 0) (zip2_splat bit_and v 16 15 long ∙ (λ i. map (λ a. and_mask a 4 i) v)) ∙ looked_up table (λ b. b % 16) (λ b lt. omega arith) v 0 (omega (arith, long)) below
+  pub by_high_half : swz_l w8 16 table 0 (zip2 down v (replicate 16 4)) ≡ map (λ b. get_or table (b / 16) 0) v
+  by_high_half = ap (swz_l w8 16 table 0) (zip2_splat down v 16 4 long) ∙ by_half (λ b. b / 16)
+
+  pub by_low_half : swz_l w8 16 table 0 (zip2 bit_and v (replicate 16 15)) ≡ map (λ b. get_or table (b % 16) 0) v
+  by_low_half = ap (swz_l w8 16 table 0) (zip2_splat bit_and v 16 15 long ∙ (λ i. map (λ a. and_mask a 4 i) v)) ∙ by_half (λ b. b % 16)

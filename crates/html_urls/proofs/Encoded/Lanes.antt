@@ -1,9 +1,10 @@
 -- Lanes that tell which bytes are percent-encoded.
 use Rattle.std.proofs.Common.{count_ones, ◌≡◌, ◌↔◌, ℕ, ◌+◌, ◌-◌, ◌/◌, ◌%◌, ◌^◌, ◌≤◌, ◌<◌, Bool, true, false, ◌==◌, bit_and, eqb, cond, List, [], ◌∷◌, ◌++◌, drop, get_or, length, length-take-le, map, replicate, take, take_all, take-append-drop, refl, sym, subst, ap, ◌∙◌, w8, arith}
-use Rattle.std.proofs.lemmas.Bool.{agree_below, agree_below_at, eqb-true}
+use Rattle.std.proofs.lemmas.Bool.{agree_below, agree_below_at}
 use Rattle.std.proofs.lemmas.List.{drop-drop, drop-take, drop_at, length-drop, length-map, length-take, take-take, take_at, take_rest}
 use Rattle.std.proofs.lemmas.List.Elements.{All-append, All-drop, All-from_get_or, All-head, All-tail, All-take}
-use Rattle.std.proofs.lemmas.Simd.{map-map, mask_l-mod, none_from_empty_mask, ones-mask_l, splat_is_map, swz_l, zip2_of_maps}
+use Rattle.std.proofs.lemmas.Simd.{map-map, mask_l-mod, none_from_empty_mask, ones-mask_l, swz_l, tops_compared, zip2_of_maps, zip2_splat}
+use Rattle.hesc_scan.proofs.LaneLemmas.{same_below}
 use Rattle.std.proofs.lemmas.List.Sums.{count_by-le-length, sum_by-take-drop}
 use Rattle.std.specs.Simd.Lanes.{Each1, mask_l, top, zip2}
 use Rattle.percent_encoding.specs.AsciiSet.{should_percent_encode}
@@ -12,27 +13,6 @@ use Rattle.html_urls.proofs.Components.{unreserved_parts}
 use Rattle.html_urls.proofs.Encoded.Halves.{by_high_half, by_low_half, down}
 use Rattle.html_urls.specs.Components.{IsUnreservedText, encoded_count, is_encoded}
 
--- a lane as a comparison leaves it
-abbrev pub lane_of : ℕ → ℕ
-lane_of b = cond (is_encoded b) 255 0
-
-set : (p : Bool) → top 7 (cond p 255 0) ≡ p
-set true = refl
-set false = refl
-
-same_lanes : (f : ℕ → ℕ) (v : List ℕ) → Each1 (λ b. b < 256) v → agree_below (λ b. f b == lane_of b) (λ b. true) 256 ≡ true → map f v ≡ map lane_of v
-same_lanes f [] below all = refl
-same_lanes f (b ∷ v) below all =
-    let here : f b ≡ lane_of b = eqb-true _ _ (agree_below_at (λ k. f k == lane_of k) (λ k. true) 256 b all below.0) in
-    λ i. here i ∷ same_lanes f v below.1 all i
-
--- the mask of comparisons that agree with the definition at each of the 256 bytes
-pub lanes_mask : (f : ℕ → ℕ) (v compared : List ℕ) → length v ≤ 64 → Each1 (λ b. b < 256) v → compared ≡ map f v → agree_below (λ b. f b == lane_of b) (λ b. true) 256 ≡ true
-    → mask_l (map (top 7) compared) % 2 ^ 64 ≡ mask_l (map is_encoded v)
-lanes_mask f v compared few below each all =
-    ap (λ l. mask_l l % 2 ^ 64) (ap (map (top 7)) (each ∙ same_lanes f v below all) ∙ map-map (top 7) lane_of v ∙ (λ i. map (λ b. set (is_encoded b) i) v))
-    ∙ mask_l-mod (map is_encoded v) 64 (omega (arith, few, length-map v is_encoded))
-
 mask_none : (v : List ℕ) → IsUnreservedText v → mask_l (map is_encoded v) ≡ 0
 mask_none [] kept = refl
 mask_none (b ∷ v) kept =
@@ -40,20 +20,29 @@ mask_none (b ∷ v) kept =
     let later : mask_l (map is_encoded v) ≡ 0 = mask_none v (All-tail (λ k. is_encoded k ≡ false) b v kept) in
     ap (λ (p : Bool). mask_l (p ∷ map is_encoded v)) here ∙ omega (arith, later)
 
--- the groups of the halves of a byte, as the comparison with none leaves them
-abbrev compared : ℕ → ℕ
-compared b = cond (eqb (bit_and (get_or GROUPS_BY_LOW_HALF (b % 16) 0) (get_or GROUP_BY_HIGH_HALF (b / 16) 0)) 0) 255 0
+-- the groups that the halves of a byte have in common
+abbrev shared : ℕ → ℕ
+shared b = bit_and (get_or GROUPS_BY_LOW_HALF (b % 16) 0) (get_or GROUP_BY_HIGH_HALF (b / 16) 0)
 
-compared_checked : agree_below (λ b. compared b == lane_of b) (λ b. true) 256 ≡ true
+shared_checked : agree_below (λ b. shared b == 0) is_encoded 256 ≡ true
 unfolding should_percent_encode
-compared_checked = refl
+shared_checked = refl
 
-pub groups_mask : (v : List ℕ) → length v ≡ 16 → Each1 (λ b. b < 256) v
-    → mask_l (map (top 7) (zip2 (λ a b. cond (eqb a b) 255 0)
-    (zip2 bit_and (swz_l w8 16 GROUPS_BY_LOW_HALF 0 (zip2 bit_and v (replicate 16 15))) (swz_l w8 16 GROUP_BY_HIGH_HALF 0 (zip2 down v (replicate 16 4)))) (replicate 16 0))) % 2 ^ 64 ≡ mask_l (map is_encoded v)
-groups_mask v long below =
-    let kept = zip2_of_maps bit_and _ _ v (by_low_half GROUPS_BY_LOW_HALF v long below) (by_high_half GROUP_BY_HIGH_HALF v long below) in
-    lanes_mask compared v _ (omega (arith, long)) below (zip2_of_maps (λ a b. cond (eqb a b) 255 0) _ _ v kept (splat_is_map v 16 0 long)) compared_checked
+pub groups_shared : (v : List ℕ) → length v ≡ 16 → Each1 (λ b. b < 256) v
+    → map (λ groups. groups == 0) (zip2 bit_and (swz_l w8 16 GROUPS_BY_LOW_HALF 0 (zip2 bit_and v (replicate 16 15))) (swz_l w8 16 GROUP_BY_HIGH_HALF 0 (zip2 down v (replicate 16 4)))) ≡ map is_encoded v
+groups_shared v long below =
+    ap (map (λ groups. groups == 0)) (zip2_of_maps bit_and _ _ v (by_low_half GROUPS_BY_LOW_HALF v refl long) (by_high_half GROUP_BY_HIGH_HALF v refl long))
+    ∙ map-map (λ groups. groups == 0) shared v
+    ∙ same_below (λ b. shared b == 0) is_encoded v below (λ b lt. agree_below_at (λ k. shared k == 0) is_encoded 256 b shared_checked lt)
+
+-- the lanes without a shared group, compared
+pub groups_compared : (v groups : List ℕ) → length v ≡ 16 → map (λ g. g == 0) groups ≡ map is_encoded v → map (top 7) (zip2 (λ a b. cond (eqb a b) 255 0) groups (replicate 16 0)) ≡ map is_encoded v
+groups_compared v groups long are =
+    let sixteen : length groups ≡ 16 = sym (length-map groups (λ g. g == 0)) ∙ ap length are ∙ length-map v is_encoded ∙ long in
+    tops_compared w8 eqb groups (replicate 16 0) ∙ zip2_splat eqb groups 16 0 sixteen ∙ are
+
+pub groups_mask : (v groups : List ℕ) → length v ≡ 16 → map (λ g. g == 0) groups ≡ map is_encoded v → mask_l (map (top 7) (zip2 (λ a b. cond (eqb a b) 255 0) groups (replicate 16 0))) % 2 ^ 64 ≡ mask_l (map is_encoded v)
+groups_mask v groups long are = ap (λ l. mask_l l % 2 ^ 64) (groups_compared v groups long are) ∙ mask_l-mod (map is_encoded v) 64 (omega (arith, long, length-map v is_encoded))
 
 -- no bit is set where no lane is encoded
 pub unreserved_mask : (v : List ℕ) → (mask_l (map is_encoded v) ≡ 0) ↔ IsUnreservedText v

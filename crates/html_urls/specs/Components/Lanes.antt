@@ -1,7 +1,8 @@
--- Bytes of a text in lanes, and the lanes that their escapes are picked from.
-use Rattle.std.specs.Prelude.{ℕ, ◌+◌, ◌*◌, ◌/◌, ◌%◌, true, List, [], ◌∷◌, drop, slice_index, take}
+-- Bytes of a text in lanes, and the lanes that their component is picked from.
+use Rattle.std.specs.Prelude.{ℕ, ◌/◌, ◌%◌, ◌||◌, ◌==◌, Bool, true, List, [], ◌∷◌, ◌++◌, drop, if◌then◌else◌, map, max, nat_lt, slice_index, take}
 use Rattle.std.specs.Fmt.{digit_glyph}
-use Rattle.html_urls.specs.declared.component.lanes.TheConstants.{PICKS}
+use Rattle.html_urls.specs.Components.{is_encoded}
+use Rattle.html_urls.specs.declared.component.picks.TheConstants.{PICKS}
 
 -- the two hexadecimal digits of a byte
 abbrev pub high_digit : ℕ → ℕ
@@ -10,18 +11,25 @@ high_digit b = digit_glyph true (b / 16 % 16)
 abbrev pub low_digit : ℕ → ℕ
 low_digit b = digit_glyph true (b % 16)
 
--- four bytes, four times `%`, and the digits of each
-abbrev pub with_digits : ℕ → ℕ → ℕ → ℕ → List ℕ
-with_digits a b c d =
-    a ∷ b ∷ c ∷ d ∷ 37 ∷ 37 ∷ 37 ∷ 37 ∷ high_digit a ∷ low_digit a ∷ high_digit b ∷ low_digit b ∷ high_digit c ∷ low_digit c ∷ high_digit d ∷ low_digit d ∷ []
+-- the high digit of a byte that is percent-encoded, and another byte itself
+abbrev pub head_of : ℕ → ℕ
+head_of b = if is_encoded b then high_digit b else b
 
--- the same of the four that begin at a place
-abbrev pub four_at : List ℕ → ℕ → List ℕ
-four_at bytes place = with_digits (slice_index bytes place) (slice_index bytes (place + 1)) (slice_index bytes (place + 2)) (slice_index bytes (place + 3))
+-- what a component is picked from: the heads of its bytes, and their low digits
+abbrev pub lanes_of : List ℕ → List ℕ
+lanes_of bytes = map head_of bytes ++ map low_digit bytes
 
--- which of these lanes make up the component of four bytes with this mask
+-- sixteen of the lanes that the table names, from a place on
 abbrev pub picks_at : ℕ → List ℕ
-picks_at mask = take 16 (drop (16 * mask) PICKS.now)
+picks_at place = take 16 (drop place PICKS.now)
+
+-- one of sixteen lanes, or none, which is 128
+abbrev pub is_pick : ℕ → Bool
+is_pick k = nat_lt k 16 || k == 128
+
+-- the lane that is picked, or `%` for none; no lane that is picked is less
+abbrev pub picked_from : List ℕ → ℕ → ℕ
+picked_from lanes k = max 37 (slice_index lanes k)
 
 -- the digits of eight bytes, each two with a `%` before them
 abbrev pub with_signs : List ℕ → List ℕ

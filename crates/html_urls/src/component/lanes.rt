@@ -1,36 +1,17 @@
-//! Sixteen bytes of a text, encoded by lanes: four of them by one look-up.
-ghost use Rattle.std.specs.Prelude.{◌≡◌, ◌+◌, ◌≤◌, ◌<◌, length, map, take};
+//! Sixteen bytes of a text, encoded by lanes: eight of them by one look-up.
+ghost use Rattle.std.specs.Prelude.{◌≡◌, ℕ, ◌+◌, ◌≤◌, ◌<◌, List, drop, length, map, take};
+ghost use Rattle.std.specs.List.{AllPass};
 ghost use Rattle.std.specs.Simd.Lanes.{mask_l};
 ghost use Rattle.hesc_sinks.specs.Stores.{Stored};
 ghost use Rattle.html_urls.specs.Components.{component, is_encoded};
-ghost use Rattle.html_urls.specs.Components.Lanes.{four_at, high_digit, low_digit, picks_at, with_signs};
+ghost use Rattle.html_urls.specs.Components.Lanes.{high_digit, is_pick, lanes_of, low_digit, picked_from, with_signs};
 
-use crate::component::unreserved::encoded_mask;
+use crate::component::picks::picks_for;
+use crate::component::unreserved::{encoded_mask, shared_groups};
 use std::simd::prelude::*;
 
 /// The bytes that are encoded by lanes.
 pub(crate) const LANES: usize = 16;
-
-/// For each mask of four bytes the lanes that make up their component, with padding after them: a byte's
-/// own, or that of a `%` and those of its digits.
-const PICKS: &[u8; 256] = b"\
-      \0\x01\x02\x03\0\0\0\0\0\0\0\0\0\0\0\0\
-      \x04\x08\x09\x01\x02\x03\0\0\0\0\0\0\0\0\0\0\
-      \0\x04\x0a\x0b\x02\x03\0\0\0\0\0\0\0\0\0\0\
-      \x04\x08\x09\x04\x0a\x0b\x02\x03\0\0\0\0\0\0\0\0\
-      \0\x01\x04\x0c\x0d\x03\0\0\0\0\0\0\0\0\0\0\
-      \x04\x08\x09\x01\x04\x0c\x0d\x03\0\0\0\0\0\0\0\0\
-      \0\x04\x0a\x0b\x04\x0c\x0d\x03\0\0\0\0\0\0\0\0\
-      \x04\x08\x09\x04\x0a\x0b\x04\x0c\x0d\x03\0\0\0\0\0\0\
-      \0\x01\x02\x04\x0e\x0f\0\0\0\0\0\0\0\0\0\0\
-      \x04\x08\x09\x01\x02\x04\x0e\x0f\0\0\0\0\0\0\0\0\
-      \0\x04\x0a\x0b\x02\x04\x0e\x0f\0\0\0\0\0\0\0\0\
-      \x04\x08\x09\x04\x0a\x0b\x02\x04\x0e\x0f\0\0\0\0\0\0\
-      \0\x01\x04\x0c\x0d\x04\x0e\x0f\0\0\0\0\0\0\0\0\
-      \x04\x08\x09\x01\x04\x0c\x0d\x04\x0e\x0f\0\0\0\0\0\0\
-      \0\x04\x0a\x0b\x04\x0c\x0d\x04\x0e\x0f\0\0\0\0\0\0\
-      \x04\x08\x09\x04\x0a\x0b\x04\x0c\x0d\x04\x0e\x0f\0\0\0\0\
-      ";
 
 /// Stores what the first bytes become, at most 16 of them, at a place where a row for each of 16 fits, and
 /// answers the place after it. What stands there afterwards is lost.
@@ -58,11 +39,9 @@ fn store_sixteen(room: &mut [u8], place: usize, v: u8x16, mask: u64) -> usize
     if mask == 0xFFFF {
         return store_escapes(room, place, v);
     }
-    let (first, second, third, fourth) = fours_of(v);
-    let end = store_four(room, place, first, mask % 16);
-    let end = store_four(room, end, second, mask / 16 % 16);
-    let end = store_four(room, end, third, mask / 256 % 16);
-    store_four(room, end, fourth, mask / 4096 % 16)
+    let (first, last) = eights_of(v);
+    let end = store_picked(room, place, first, mask % 256);
+    store_picked(room, end, last, mask / 256)
 }
 
 // The same where all are encoded.
@@ -97,64 +76,52 @@ fn store_eight(room: &mut [u8], place: usize, digits: u8x16) -> usize
     place + 24
 }
 
-// Stores the component of the four bytes in the first lanes, with their digits in the last ones.
+// Stores the component of eight bytes, whose lanes these are, and of which the mask tells those that are
+// encoded.
 #[inline(always)]
-fn store_four(room: &mut [u8], place: usize, lanes: u8x16, mask: u64) -> usize
-    requires lanes { lanes ≡ four_at lanes 0 }
-    requires mask { mask ≡ mask_l (map is_encoded (take 4 lanes)) }
-    requires fits { place + 16 ≤ length room.old }
-    ensures { Stored room.old room.new place (component (take 4 lanes)) result }
+fn store_picked(room: &mut [u8], place: usize, lanes: u8x16, mask: u64) -> usize
+    requires long { length lanes ≡ 16 }
+    requires mask { mask < 256 }
+    requires fits { place + 32 ≤ length room.old }
+    ensures { (bytes : List ℕ) → length bytes ≡ 8
+        → lanes ≡ lanes_of bytes → mask ≡ mask_l (map is_encoded bytes)
+        → Stored room.old room.new place (component bytes) result }
+{
+    let (front, back) = picks_for(mask);
+    picked_lanes(lanes, front).copy_to_slice(&mut room[place..]);
+    picked_lanes(lanes, back).copy_to_slice(&mut room[place + 16..]);
+    place + 8 + 2 * mask.count_ones() as usize
+}
+
+// The lanes that are picked, and a `%` for none: no digit is less, and no byte that stays.
+#[inline(always)]
+fn picked_lanes(lanes: u8x16, picks: u8x16) -> u8x16
+    requires long { length lanes ≡ 16 }
+    requires row { length picks ≡ 16 }
+    requires picks { AllPass is_pick picks }
+    ensures { result ≡ map (picked_from lanes) picks }
 {
     lanes
-        .swizzle_dyn_within::<16>(picks_for(mask))
-        .copy_to_slice(&mut room[place..]);
-    place + 4 + 2 * mask.count_ones() as usize
+        .swizzle_dyn_within::<16>(picks)
+        .simd_max(u8x16::splat(b'%'))
 }
 
+// The lanes of the first eight bytes, and those of the last.
 #[inline(always)]
-fn picks_for(mask: u64) -> u8x16
-    requires { mask < 16 }
-    ensures { result ≡ picks_at mask }
-{
-    let picks: &[u8] = PICKS;
-    u8x16::from_slice(&picks[16 * mask as usize..])
-}
-
-// Each four of the lanes, with their digits.
-#[inline(always)]
-fn fours_of(v: u8x16) -> (u8x16, u8x16, u8x16, u8x16)
+fn eights_of(v: u8x16) -> (u8x16, u8x16)
     requires { length v ≡ 16 }
-    ensures first { result.0 ≡ four_at v 0 }
-    ensures second { result.1 ≡ four_at v 4 }
-    ensures third { result.2 ≡ four_at v 8 }
-    ensures fourth { result.3 ≡ four_at v 12 }
+    ensures first { result.0 ≡ lanes_of (take 8 v) }
+    ensures last { result.1 ≡ lanes_of (drop 8 v) }
 {
     let (high, low) = digits_of(v);
-    let (early, late) = high.interleave(low);
-    let signs = u8x16::splat(b'%');
-    let front: u8x16 = v.shuffle(
-        signs,
-        [0, 1, 2, 3, 16, 17, 18, 19, 4, 5, 6, 7, 20, 21, 22, 23],
-    );
-    let back: u8x16 = v.shuffle(
-        signs,
-        [8, 9, 10, 11, 24, 25, 26, 27, 12, 13, 14, 15, 28, 29, 30, 31],
-    );
+    let heads = shared_groups(v).simd_eq(u8x16::splat(0)).select(high, v);
     (
-        front.shuffle(
-            early,
+        heads.shuffle(
+            low,
             [0, 1, 2, 3, 4, 5, 6, 7, 16, 17, 18, 19, 20, 21, 22, 23],
         ),
-        front.shuffle(
-            early,
-            [8, 9, 10, 11, 12, 13, 14, 15, 24, 25, 26, 27, 28, 29, 30, 31],
-        ),
-        back.shuffle(
-            late,
-            [0, 1, 2, 3, 4, 5, 6, 7, 16, 17, 18, 19, 20, 21, 22, 23],
-        ),
-        back.shuffle(
-            late,
+        heads.shuffle(
+            low,
             [8, 9, 10, 11, 12, 13, 14, 15, 24, 25, 26, 27, 28, 29, 30, 31],
         ),
     )

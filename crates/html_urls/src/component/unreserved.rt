@@ -1,5 +1,5 @@
 //! Whether bytes stand in a component as they are, 16 of them at a time.
-ghost use Rattle.std.specs.Prelude.{◌≡◌, ◌≤◌, ◌+◌, ◌-◌, ◌++◌, ◌↔◌, IsTrue, drop, length, map, take};
+ghost use Rattle.std.specs.Prelude.{◌≡◌, ◌≤◌, ◌+◌, ◌-◌, ◌++◌, ◌↔◌, ◌==◌, IsTrue, drop, length, map, take};
 ghost use Rattle.std.specs.Simd.Lanes.{mask_l};
 ghost use Rattle.html_urls.specs.Components.{IsUnreservedText, is_encoded};
 
@@ -93,7 +93,16 @@ fn encoded_lanes(v: u8x16) -> u64
     requires { length v ≡ 16 }
     ensures { result ≡ mask_l (map is_encoded v) }
 {
+    shared_groups(v).simd_eq(u8x16::splat(0)).to_bitmask()
+}
+
+/// The groups that the halves of each byte have in common: none where it is percent-encoded.
+#[inline(always)]
+pub(crate) fn shared_groups(v: u8x16) -> u8x16
+    requires { length v ≡ 16 }
+    ensures { map (λ groups. groups == 0) result ≡ map is_encoded v }
+{
     let low = u8x16::from_array(GROUPS_BY_LOW_HALF).swizzle_dyn_within::<16>(v & u8x16::splat(15));
     let high = u8x16::from_array(GROUP_BY_HIGH_HALF).swizzle_dyn_within::<16>(v >> u8x16::splat(4));
-    (low & high).simd_eq(u8x16::splat(0)).to_bitmask()
+    low & high
 }
