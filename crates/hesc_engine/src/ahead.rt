@@ -1,6 +1,6 @@
 //! What is known of the bytes ahead: at which of them a rule that looks for certain bytes may change
 //! something.
-ghost use Rattle.std.specs.Prelude.{◌≡◌, ◌≤◌, ◌&&◌, ℕ, Bool, List, count_ones, length, nat_le};
+ghost use Rattle.std.specs.Prelude.{◌≡◌, ◌≤◌, ℕ, Bool, List, count_ones, if◌then◌else◌, length, nat_le};
 ghost use Rattle.hesc_sinks.specs.Hits.{AreHits};
 ghost use Rattle.hesc_engine.specs.Ahead.{IsAhead};
 
@@ -40,12 +40,13 @@ impl Ahead {
         self.hits >> (from - self.start)
     }
 
-    // Whether so many of the known bytes are looked for, and so much of the text is left, that it pays to
-    // hand them to the sink at once: near the end of the text it takes none.
+    // Whether so many of the known bytes are looked for that it pays to hand them to the sink at once.
+    // Near the end of the text each of them takes the sink longer.
     #[inline(always)]
     pub(crate) fn is_dense(&self, left: usize) -> bool
-        ensures { result ≡ (nat_le 4 (count_ones self.now.hits) && nat_le 20 left) }
+        ensures { result ≡ nat_le (if nat_le 20 left then 4 else 7) (count_ones self.now.hits) }
     {
-        self.hits.count_ones() >= 4 && left >= 20
+        let enough = if left >= 20 { 4 } else { 7 };
+        self.hits.count_ones() >= enough
     }
 }

@@ -44,6 +44,20 @@ module _ (is_sought : ℕ → Bool) (source : List ℕ) (from hits count : ℕ) 
             ∙ ap (λ l. mask_l (map is_sought l)) (drop-take (count + 1) left (drop from source) ∙ ap (take left) (drop-drop (count + 1) from source));
       }
 
+-- some hits, and then others that are left of them
+pub stored_hits_then : (rows : Rows) (source : List ℕ) (from hits reached left later : ℕ) (old mid new : List ℕ) (place middle end : ℕ)
+    → ((is_sought : ℕ → Bool) → AreHits is_sought source from hits → AreHits is_sought source reached left)
+    → StoredHits rows source from hits reached old mid place middle → StoredHits rows source reached left later mid new middle end → StoredHits rows source from hits later old new place end
+stored_hits_then rows source from hits reached left later old mid new place middle end rest first second = record {
+  put = first.put ++ second.put;
+  stored = stored_then _ _ _ _ _ _ _ _ first.stored second.stored;
+  utf8 = IsUtf8-append _ _ first.utf8 second.utf8;
+  image = λ is_sought image_from are replaces.
+      first.image is_sought image_from are replaces
+      ∙ ap (λ l. first.put ++ l) (second.image is_sought image_from (rest is_sought are) replaces)
+      ∙ sym (append_assoc first.put second.put (image_from later));
+}
+
 -- so much of a text was stored from a place of a room on, and these of its hits are left
 pub record Storing (rows : Rows) (source : List ℕ) (from hits reached left : ℕ) (old new : List ℕ) (place end : ℕ) : Type 0 where
   pub stored : StoredHits rows source from hits reached old new place end

@@ -1,7 +1,7 @@
 //! Short texts stored into a slice by a store or two of a constant length.
-ghost use Rattle.std.specs.Prelude.{◌≡◌, ◌≤◌, ◌+◌, ◌++◌, length, take};
+ghost use Rattle.std.specs.Prelude.{◌≡◌, ◌≤◌, ◌+◌, ◌++◌, ℕ, Bool, length, take};
 ghost use Rattle.std.specs.Str.{IsCharBoundary};
-ghost use Rattle.hesc_sinks.specs.Hits.{StoredHits, ascii_rows};
+ghost use Rattle.hesc_sinks.specs.Hits.{AreHits, StoredHits, ascii_rows};
 ghost use Rattle.hesc_sinks.specs.Stores.{Stored};
 ghost use Rattle.hesc_sinks.specs.Text.{small_text_bytes};
 
@@ -29,6 +29,32 @@ pub(crate) fn store_hits(
     ensures ordered { from ≤ result.1 }
     ensures boundary { IsCharBoundary text.now result.1 }
 {
+    let (end, reached, left) = store_hits_by_blocks(room, place, text, from, hits, texts);
+    if left == 0 || text.len() - reached >= 16 {
+        return (end, reached);
+    }
+    store_last_hits(room, end, text, reached, left, texts)
+}
+
+// The same of those hits before which a block of the text is left. Answers the other hits, too.
+#[inline(always)]
+fn store_hits_by_blocks(
+    room: &mut [u8],
+    place: usize,
+    text: &str,
+    from: usize,
+    hits: u64,
+    texts: AsciiTexts,
+) -> (usize, usize, u64)
+    requires boundary { IsCharBoundary text.now from }
+    requires within { place ≤ length room.old }
+    ensures stored { StoredHits (ascii_rows texts) text.now from hits result.1
+        room.old room.new place result.0 }
+    ensures ordered { from ≤ result.1 }
+    ensures boundary { IsCharBoundary text.now result.1 }
+    ensures left { (is_sought : ℕ → Bool) → AreHits is_sought text.now from hits
+        → AreHits is_sought text.now result.1 result.2 }
+{
     let bytes = text.as_bytes();
     let (mut end, mut reached, mut left) = (place, from, hits);
     'storing: while left != 0 && bytes.len() - reached >= 16 && room.len() - end >= 24 {
@@ -42,6 +68,41 @@ pub(crate) fn store_hits(
         end = store_both(room, end, &bytes[reached..], count, small);
         reached += count + 1;
         left = (left >> count) >> 1;
+    }
+    (end, reached, left)
+}
+
+// The same of the last bytes of a text, of which no block is left. A call of its own: it is the same for
+// all rooms.
+#[inline(never)]
+fn store_last_hits(
+    room: &mut [u8],
+    place: usize,
+    text: &str,
+    from: usize,
+    hits: u64,
+    texts: AsciiTexts,
+) -> (usize, usize)
+    requires boundary { IsCharBoundary text.now from }
+    requires within { place ≤ length room.old }
+    ensures stored { StoredHits (ascii_rows texts) text.now from hits result.1
+        room.old room.new place result.0 }
+    ensures ordered { from ≤ result.1 }
+    ensures boundary { IsCharBoundary text.now result.1 }
+{
+    let bytes = text.as_bytes();
+    let (mut end, mut reached, mut last) = (place, from, hits);
+    'ending: while last != 0 && room.len() - end >= 24 {
+        let count = last.trailing_zeros() as usize;
+        if count >= (bytes.len() - reached).min(16) {
+            break;
+        }
+        let Some(small) = texts.text_for(bytes[reached + count]) else {
+            break;
+        };
+        end = store_both(room, end, &bytes[reached..], count, small);
+        reached += count + 1;
+        last = (last >> count) >> 1;
     }
     (end, reached)
 }

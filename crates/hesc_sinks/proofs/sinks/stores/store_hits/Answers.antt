@@ -1,15 +1,7 @@
-use Rattle.std.proofs.Common.{refl, arith}
-use Rattle.std.proofs.lemmas.List.{take_rest}
-use Rattle.std.proofs.lemmas.Str.{IsUtf8-had}
-use Rattle.hesc_sinks.proofs.Hits.{storing_more}
+use Rattle.hesc_sinks.proofs.Hits.{stored_hits_then}
 use Rattle.hesc_sinks.proofs.sinks.stores.store_hits.Goals as goal
 
-pub storing-preserved : goal.storing-preserved
-storing-preserved c =
-    let same = c.as_bytes-bytes.ensures.value in
-    storing_more _ _ _ _ _ _ _ _ _ _ _ _ _ _ c.storing.invariant c.utf8.text (omega arith) refl (omega arith)
-    (rw same at c.in-Some.ensures.ascii)
-    (rw same at c.in-Some.ensures.some)
-    (rw same at c.in-Some.ensures.text)
-    (IsUtf8-had _ c.in-Some.small.utf8)
-    (rw (take_rest c.as_bytes-bytes.result.now c.storing.reached, same) at c.store_both-end.ensures)
+pub returns-clause-stored : goal.returns-clause-stored
+returns-clause-stored c =
+    let blocks = c.store_hits_by_blocks-end.ensures in
+    stored_hits_then _ _ _ _ _ _ _ _ _ _ _ _ _ blocks.left blocks.stored c.store_last_hits.ensures.stored
