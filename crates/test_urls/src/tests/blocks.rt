@@ -1,5 +1,5 @@
 //! Texts are encoded in blocks: each length about a block's end, and each character across one.
-use hesc_engine::Counter;
+use hesc_engine::{Counter, StackSink};
 use html_urls::{
     COMPONENT, append_component, append_component_to_vec, component_length, encode_component,
     is_unreserved, put_component,
@@ -90,5 +90,25 @@ fn each_character_alone_is_encoded(rt: HostRuntime) -> Result<(), Fail> {
         }
         assert!(rt; is_encoded(rt.alloc(), text.as_str())?, "{text:?}");
     }
+    Ok(())
+}
+
+// Its 16 bytes are made in place where there is room for 64, and on the stack where there is less.
+#[test]
+fn a_block_is_made_in_enough_room_and_in_less(rt: HostRuntime) -> Result<(), Fail> {
+    let text = "a b c d e f g h ";
+    let expected = "a%20b%20c%20d%20e%20f%20g%20h%20";
+    let mut enough = StackSink::<64>::new();
+    assert!(rt; put_component(text, &mut enough).is_ok());
+    assert!(rt; enough.as_str() == expected);
+    let mut less = StackSink::<63>::new();
+    assert!(rt; put_component(text, &mut less).is_ok());
+    assert!(rt; less.as_str() == expected);
+    let mut exact = StackSink::<32>::new();
+    assert!(rt; put_component(text, &mut exact).is_ok());
+    assert!(rt; exact.as_str() == expected);
+    let mut full = StackSink::<31>::new();
+    assert!(rt; put_component(text, &mut full).is_err());
+    assert!(rt; full.as_str().is_empty());
     Ok(())
 }
