@@ -65,9 +65,15 @@ fn masks_by_run_made<R: Rule>(rule: &R, text: &str) -> Result<usize, CountOverfl
     Ok(watcher.masks)
 }
 
-// Texts, and how many masks of them have four changes or more, with 20 bytes left after the first ones.
-static TEXTS: [(&str, usize); 6] = [
-    ("<<<<<<<<<<<<<<<<", 0),
+// Texts, and how many masks of them have four changes or more, with 20 bytes left after the first ones, or
+// else seven.
+static TEXTS: [(&str, usize); 11] = [
+    ("<<<<<<abcdef", 0),
+    ("<<<<<<<abcde", 1),
+    ("<<<<<<<<<<<<<<<<", 1),
+    ("<<<<abcdefghijklmnop", 0),
+    ("<<<<abcdefghijklmnopqr", 1),
+    ("<<<abcdefghijklmnopqrs", 0),
     ("<<<<<<<<<<<<<<<<<<<<<<<<<<<<<<<<", 1),
     (
         "<<<<<<<<<<<<<<<<<<<<<<<<<<<<<<<<<<<<<<<<<<<<<<<<<<<<<<<<<<<<<<<<",
