@@ -82,4 +82,10 @@ impl<R: Rule> Parts for Made<'_, R> {
             None => usize::MAX,
         }
     }
+
+    /// Half of the upper bound is mostly enough, and then the text is not scanned twice.
+    #[inline(always)]
+    fn may_fit(&self, spare: usize) -> bool {
+        self.most() / 2 <= spare
+    }
 }

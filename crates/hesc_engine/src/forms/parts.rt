@@ -72,7 +72,8 @@ pub trait Parts {
     /// that they fit: only where that room suffices, as far as is known. Where more comes than is known,
     /// they are put twice.
     ///
-    /// Of what a rule makes of a text it is `false`.
+    /// Of what the encoder of text makes of `a<b` it is `true` where 9 bytes are spare, half of the upper
+    /// bound.
     #[inline(always)]
     fn may_fit(&self, spare: usize) -> bool
         ensures { IsTrue result → known_length self.now ≤ spare }

@@ -140,7 +140,7 @@ fn parts_are_put_as_they_are_said_to_be(rt: HostRuntime) -> Result<(), Fail> {
     };
     assert!(rt; made.room_for(0) == Ok(6));
     assert!(rt; made.most() == 18);
-    assert!(rt; !made.may_fit(18));
+    assert!(rt; made.may_fit(9) && !made.may_fit(8));
     assert!(rt; made.about().is_none());
     let mut counter = Counter::new();
     made.put_into(&mut counter)?;

@@ -1,11 +1,12 @@
 //! Refused memory: the answer is Memory and the output is as it was, or the answer is right.
 use crate::tests::forms::calls::{Call, fuller_rows, rows_of, to_cow, to_string, to_vec};
 use hesc_core::{Sink, StringSink, VecSink, run};
-use html_escape::{EntityTable, Operation};
+use html_escape::{Decoder, EntityTable, Operation};
 use std::alloc::{AllocError, Allocator, Global};
 use std::process::Abort;
 use std::test::Fail;
 use test_support::Refusing;
+use test_support::amounts::text_of;
 use test_support::operations::OPERATIONS;
 use test_support::rows::{Held, Row};
 
@@ -70,19 +71,19 @@ fn survives_strings(
     row: Row,
     number: u64,
 ) -> Result<bool, AllocError> {
-    let without = survives_string(alloc, of, row, 0, number)?;
-    let within = survives_string(alloc, of, row, row.1.len(), number)?;
+    let (text, made, _) = row;
+    let without = survives_string(alloc, of, (text, made), 0, number)?;
+    let within = survives_string(alloc, of, (text, made), made.len(), number)?;
     Ok(without && within)
 }
 
 fn survives_string(
     alloc: Global,
     of: Call<'_>,
-    row: Row,
+    (text, made): (&str, &str),
     room: usize,
     number: u64,
 ) -> Result<bool, AllocError> {
-    let (text, made, _) = row;
     let heap = Refusing::new(alloc, 0);
     let mut output = String::with_capacity(&heap, room.saturating_add(1))?;
     output.push('x')?;
@@ -102,19 +103,19 @@ fn survives_string(
 
 // The vector form likewise.
 fn survives_vecs(alloc: Global, of: Call<'_>, row: Row, number: u64) -> Result<bool, AllocError> {
-    let without = survives_vec(alloc, of, row, 0, number)?;
-    let within = survives_vec(alloc, of, row, row.1.len(), number)?;
+    let (text, made, _) = row;
+    let without = survives_vec(alloc, of, (text, made), 0, number)?;
+    let within = survives_vec(alloc, of, (text, made), made.len(), number)?;
     Ok(without && within)
 }
 
 fn survives_vec(
     alloc: Global,
     of: Call<'_>,
-    row: Row,
+    (text, made): (&str, &str),
     room: usize,
     number: u64,
 ) -> Result<bool, AllocError> {
-    let (text, made, _) = row;
     let heap = Refusing::new(alloc, 0);
     let mut output = Vec::with_capacity(&heap, room.saturating_add(1))?;
     output.push(b'x')?;
@@ -138,6 +139,26 @@ fn is_same(added: &[u8], made: &str) -> bool {
 
 fn is_x_and(output: &[u8], added: &str) -> bool {
     output.strip_prefix(b"x") == Some(added.as_bytes())
+}
+
+// For a text of 2,000 bytes that becomes one of 1,400: no room, less than half of the upper bound, half of
+// it and more, which are tried in vain, and enough.
+static ROOMS: [usize; 5] = [0, 999, 1_000, 1_399, 1_400];
+
+#[test]
+fn a_text_may_outgrow_half_of_its_upper_bound(rt: HostRuntime) -> Result<(), Fail> {
+    let text = text_of(rt.alloc(), "letter&lt;", 1_990)?;
+    let made = text_of(rt.alloc(), "letter<", 1_393)?;
+    let texts = (text.as_str(), made.as_str());
+    let of = Call::Of(Operation::Decode(Decoder::HtmlEntities));
+    for &room in &ROOMS {
+        for number in 1..=REFUSED_REQUESTS {
+            let is_right = survives_string(rt.alloc(), of, texts, room, number)?
+                && survives_vec(rt.alloc(), of, texts, room, number)?;
+            assert!(rt; is_right, "room for {room} bytes, request {number}");
+        }
+    }
+    Ok(())
 }
 
 #[test]
