@@ -6,6 +6,15 @@ use Rattle.hesc_specs.specs.References.Rows.{Row, common_rows, row_at, value_of}
 use Rattle.hesc_specs.specs.References.TableFaults.{is_table}
 use Rattle.hesc_specs.proofs.References.Tables.{common_value}
 use Rattle.hesc_table.specs.Table.{common_character}
+use Rattle.hesc_table.proofs.NamedTable.{good-named_rows}
+use Rattle.hesc_core.specs.Names.{names_rows}
+use Rattle.hesc_core.specs.declared.rules.references.names.Names.{Names}
+use Rattle.hesc_core.specs.declared.rules.references.names.Names.TheVariants.{BuiltIn, Of}
+
+-- names are looked up in the rows of a table
+pub names-good : (names : Names) → IsTrue (is_table (names_rows names))
+names-good BuiltIn = good-named_rows
+names-good (Of table) = table.now.good
 
 module _ (rows : List Row) (good : IsTrue (is_table rows)) (name : List ℕ) (c : ℕ) where
   value_of_word : (k : ℕ) (word value : List ℕ) → k < length common_rows → (row_at common_rows k).0 ≡ word → value_of common_rows word ≡ Some value

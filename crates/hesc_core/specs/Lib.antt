@@ -1,4 +1,5 @@
 pub mod ClassTexts
+pub mod Names
 pub use Rattle.hesc_engine.specs.Forms
 pub use Rattle.hesc_engine.specs.Next
 pub use Rattle.hesc_engine.specs.Pieces

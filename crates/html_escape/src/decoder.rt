@@ -11,7 +11,7 @@ ghost use Rattle.html_escape.specs.Restored.{
 };
 
 use hesc_core::rules::{
-    DecodeBody, References, Unescape, body_unescape_at, reference_at, unescape_at,
+    DecodeBody, Names, References, Unescape, body_unescape_at, reference_at, unescape_at,
 };
 use hesc_core::{Class, Element, EntityTable, Found, Rule, Seek};
 use hesc_engine::search::change_from;
@@ -62,7 +62,7 @@ impl Rule for Decoder {
     #[inline(always)]
     fn change_at(&self, text: &str, place: usize) -> Option<Found<'_>> {
         match restored_by(*self) {
-            Restored::References => reference_at(&EntityTable::built_in(), text, place),
+            Restored::References => reference_at(Names::BuiltIn, text, place),
             Restored::Openings(element) => body_unescape_at(element, text, place),
             Restored::Characters(class) => unescape_at(class, text, place),
         }

@@ -7,9 +7,12 @@ ghost use Rattle.hesc_specs.proofs.References.Applied.{applied-reference_changes
 ghost use Rattle.memchr.specs.Find.{is_byte};
 ghost use Rattle.hesc_table.specs.Table.{rows_of};
 ghost use Rattle.hesc_engine.specs.Next.{IsChangeAt};
+ghost use Rattle.hesc_core.specs.Names.{names_rows};
 
+pub mod names;
 mod values;
 
+use crate::rules::references::names::Names;
 use crate::rules::references::values::value_of_body;
 use hesc_engine::found::Found;
 use hesc_engine::rule::Rule;
@@ -45,7 +48,7 @@ impl Rule for References<'_> {
 
     #[inline(always)]
     fn change_at(&self, text: &str, place: usize) -> Option<Found<'_>> {
-        reference_at(self.0, text, place)
+        reference_at(Names::Of(self.0), text, place)
     }
 
     /// The source's length, or a fifth more, where the table knows that its values are so short.
@@ -66,14 +69,14 @@ impl Rule for References<'_> {
 /// Each `&` is judged by itself: what follows it goes up to the next `&` or `;`, so that no byte is
 /// looked at more than twice for either.
 ///
-/// In `a&lt;b` at 1 it is the bytes 1 to 5, which become `<`.
+/// By the built-in names, in `a&lt;b` at 1 it is the bytes 1 to 5, which become `<`.
 #[inline(always)]
-pub fn reference_at<'a>(table: &EntityTable<'a>, text: &str, place: usize) -> Option<Found<'a>>
+pub fn reference_at<'a>(names: Names<'_, 'a>, text: &str, place: usize) -> Option<Found<'a>>
     requires within { place < length text.now }
     requires sought { is_byte ampersand (slice_index text.now place) ≡ true }
-    ensures none { IfNone result (refers_at (rows_of table.now) text.now place ≡ false) }
-    ensures found { IfSome result (IsChangeAt (refers_at (rows_of table.now) text.now) text.now
-        (reference_changes (rows_of table.now) text.now) place) }
+    ensures none { IfNone result (refers_at (names_rows names.entry) text.now place ≡ false) }
+    ensures found { IfSome result (IsChangeAt (refers_at (names_rows names.entry) text.now) text.now
+        (reference_changes (names_rows names.entry) text.now) place) }
 {
     let bytes = text.as_bytes();
     let end = first_of_two(b'&', b';', bytes, place + 1);
@@ -83,7 +86,7 @@ pub fn reference_at<'a>(table: &EntityTable<'a>, text: &str, place: usize) -> Op
     if bytes[end] == b'&' {
         return None;
     }
-    match value_of_body(table, &bytes[place + 1..end]) {
+    match value_of_body(names, &bytes[place + 1..end]) {
         Some(replacement) => Some(Found {
             start: place,
             end: end + 1,

@@ -4,35 +4,36 @@ ghost use Rattle.std.specs.Option.{option_map};
 ghost use Rattle.hesc_specs.specs.References.Rows.{value_of};
 ghost use Rattle.hesc_specs.specs.References.Decoding.{body_value, is_kept_control, number_of, numbered_value, numeral};
 ghost use Rattle.hesc_specs.specs.References.Numbers.{base_of, capped};
-ghost use Rattle.hesc_table.specs.Table.{common_character as common_character_of, rows_of};
+ghost use Rattle.hesc_table.specs.Table.{common_character as common_character_of};
+ghost use Rattle.hesc_core.specs.Names.{names_rows};
 ghost use Rattle.hesc_engine.specs.Text.{replacement_bytes};
 
+use crate::rules::references::names::Names;
 use hesc_engine::found::Replacement;
 use hesc_engine::small_text::SmallText;
-use hesc_table::EntityTable;
 
 /// The number right after that of the last character, for which any greater one stands.
 const PAST_CHARACTERS: u32 = 0x110000;
 
 /// The value of a body, if it has one.
 #[inline(always)]
-pub fn value_of_body<'a>(table: &EntityTable<'a>, body: &[u8]) -> Option<Replacement<'a>>
-    ensures { option_map replacement_bytes result ≡ body_value (rows_of table.now) body.now }
+pub fn value_of_body<'a>(names: Names<'_, 'a>, body: &[u8]) -> Option<Replacement<'a>>
+    ensures { option_map replacement_bytes result ≡ body_value (names_rows names.entry) body.now }
 {
     match number_of(body) {
         Some(number) => character(number),
-        None => value_of_name(table, body),
+        None => value_of_name(names, body),
     }
 }
 
 // The value of a name. The common names, which most references have, are in every table.
 #[inline(always)]
-fn value_of_name<'a>(table: &EntityTable<'a>, name: &[u8]) -> Option<Replacement<'a>>
-    ensures { option_map replacement_bytes result ≡ value_of (rows_of table.now) name.now }
+fn value_of_name<'a>(names: Names<'_, 'a>, name: &[u8]) -> Option<Replacement<'a>>
+    ensures { option_map replacement_bytes result ≡ value_of (names_rows names.entry) name.now }
 {
     match common_character(name) {
         Some(character) => Some(small(character)),
-        None => match table.get(name) {
+        None => match names.value(name) {
             Some(value) => Some(Replacement::Borrowed(value)),
             None => None,
         },

@@ -4,12 +4,8 @@ use Rattle.hesc_specs.specs.References.Rows.{are_short}
 use Rattle.hesc_specs.specs.References.TableFaults.{is_table}
 use Rattle.hesc_table.specs.Index.{is_index_of}
 use Rattle.hesc_table.specs.NamedRows.{named_rows}
-use Rattle.hesc_table.proofs.NamedTable.{constant-named_rows, short-named_rows}
+use Rattle.hesc_table.proofs.NamedTable.{constant-named_rows, good-named_rows, short-named_rows}
 use Rattle.hesc_table.proofs.EntityTable.built_in.Goals as goal
-
-good-named_rows : is_table named_rows ≡ true
-unfolding lib.Utf8.encode
-good-named_rows = refl
 
 pub invariant_of-result : goal.invariant_of-result
 unfolding is_index_of

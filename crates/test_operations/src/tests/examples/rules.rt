@@ -1,8 +1,8 @@
 //! The examples of the rules.
 use crate::tests::examples::is_change;
 use hesc_core::rules::{
-    DecodeBody, EncodeBody, Escape, Unescape, body_escape_at, body_unescape_at, reference_at,
-    string_class, unescape_at,
+    DecodeBody, EncodeBody, Escape, Names, Unescape, body_escape_at, body_unescape_at,
+    reference_at, string_class, unescape_at,
 };
 use hesc_core::table::entities::entities_agree;
 use hesc_core::{Class, Element, Quotes};
@@ -46,8 +46,10 @@ fn decoders_change_what_they_are_said_to(rt: HostRuntime) {
     assert!(rt; is_change(change_from(&string, "it\\'s", 0), 2, 4, "'"));
     let style = Unescape(Class::StyleQuoted);
     assert!(rt; is_change(change_from(&style, "a\\3C b", 0), 1, 5, "<"));
-    let found = reference_at(&EntityTable::built_in(), "a&lt;b", 1);
+    let found = reference_at(Names::BuiltIn, "a&lt;b", 1);
     assert!(rt; is_change(found, 1, 5, "<"));
+    let found = reference_at(Names::Of(&EntityTable::built_in()), "a&AElig;b", 1);
+    assert!(rt; is_change(found, 1, 8, "\u{C6}"));
     let found = next_decoded(Decoder::HtmlEntities, "a&lt;b", 0);
     assert!(rt; is_change(found, 1, 5, "<"));
 }

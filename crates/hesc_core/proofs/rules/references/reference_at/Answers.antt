@@ -4,7 +4,7 @@ use Rattle.std.proofs.lemmas.Str.{IsCharBoundary-before_ascii, IsCharBoundary-af
 use Rattle.hesc_specs.specs.Text.FirstPlace.{IsFirstPlace}
 use Rattle.hesc_specs.specs.References.Changes.{reference_changes}
 use Rattle.hesc_specs.proofs.References.Next.{is_start, is_stop, replaced}
-use Rattle.hesc_table.specs.Table.{rows_of}
+use Rattle.hesc_core.specs.Names.{names_rows}
 use Rattle.hesc_engine.specs.Text.{replacement_bytes}
 use Rattle.hesc_specs.specs.References.Changes.{refers_at}
 use Rattle.hesc_core.proofs.EachPlace.{found-here}
@@ -13,14 +13,14 @@ use Rattle.hesc_core.proofs.rules.references.reference_at.Goals as goal
 
 pub returns-then-end-bytes-clause-none : goal.returns-then-end-bytes-clause-none
 returns-then-end-bytes-clause-none c =
-    let rows = rows_of c.args.table.now in
+    let rows = names_rows c.args.names in
     let text = c.args.text.now in
     let first : IsFirstPlace is_stop text (c.args.place + 1) c.first_of_two-end.result = rw c.as_bytes-bytes.ensures.value at c.first_of_two-end.ensures in
     unended rows text c.args.place c.first_of_two-end.result first (rw c.as_bytes-bytes.ensures.value at c.if-end-bytes.true)
 
 pub returns-then-bytes-end-eq38-clause-none : goal.returns-then-bytes-end-eq38-clause-none
 returns-then-bytes-end-eq38-clause-none c =
-    let rows = rows_of c.args.table.now in
+    let rows = names_rows c.args.names in
     let text = c.args.text.now in
     let first : IsFirstPlace is_stop text (c.args.place + 1) c.first_of_two-end.result = rw c.as_bytes-bytes.ensures.value at c.first_of_two-end.ensures in
     let inner : c.first_of_two-end.result < length text = omega (arith, first.in_range, c.if-end-bytes.false, c.as_bytes-bytes.ensures.len) in
@@ -29,7 +29,7 @@ returns-then-bytes-end-eq38-clause-none c =
 
 pub returns-in-None-clause-none : goal.returns-in-None-clause-none
 returns-in-None-clause-none c =
-    let rows = rows_of c.args.table.now in
+    let rows = names_rows c.args.names in
     let text = c.args.text.now in
     let end = c.first_of_two-end.result in
     let first : IsFirstPlace is_stop text (c.args.place + 1) end = rw c.as_bytes-bytes.ensures.value at c.first_of_two-end.ensures in
@@ -39,7 +39,7 @@ returns-in-None-clause-none c =
 
 pub returns-in-Some-clause-found : goal.returns-in-Some-clause-found
 returns-in-Some-clause-found c =
-    let rows = rows_of c.args.table.now in
+    let rows = names_rows c.args.names in
     let text = c.args.text.now in
     let place = c.args.place in
     let end = c.first_of_two-end.result in
