@@ -114,9 +114,9 @@ impl<'a, A: Allocator> FilledSink<'a, A> {
 
     // A short stretch and a short text, where there are zeros for a block of each.
     #[inline(always)]
-    fn put_both(&mut self, segment: Segment<'_>, text: SmallText)
-        requires few { length segment.kept.now ≤ 16 }
-        requires fits { 24 ≤ filled_sink_left self.old }
+    fn put_both<const N: usize>(&mut self, segment: Segment<'_>, text: SmallText)
+        requires few { length segment.kept.now ≤ N }
+        requires fits { N + 8 ≤ filled_sink_left self.old }
         ensures taken { filled_sink_taken self.new
             ≡ filled_sink_taken self.old ++ (segment.entry.kept.now ++ small_text_bytes text) }
         ensures failures { filled_sink_failures self.new ≡ filled_sink_failures self.old }
@@ -127,7 +127,7 @@ impl<'a, A: Allocator> FilledSink<'a, A> {
         ensures same_start { filled_sink_start self.new ≡ filled_sink_start self.old }
     {
         let kept = segment.kept.as_bytes();
-        self.end = store_both(
+        self.end = store_both::<N>(
             self.output.as_mut_slice(),
             self.end,
             segment.rest,
@@ -259,8 +259,13 @@ impl<A: Allocator> Sink for FilledSink<'_, A> {
     fn put_segment(&mut self, segment: Segment<'_>) -> Result<(), AllocError> {
         match segment.new {
             Replacement::Small(text) => {
+                // One block for stretches of any length up to 64: to branch on their lengths takes longer.
+                if segment.kept.len() <= 64 && segment.rest.len() >= 64 && self.left() >= 72 {
+                    self.put_both::<64>(segment, text);
+                    return Ok(());
+                }
                 if segment.kept.len() <= 16 && self.left() >= 24 {
-                    self.put_both(segment, text);
+                    self.put_both::<16>(segment, text);
                     return Ok(());
                 }
                 self.put_some(segment.kept)?;
@@ -283,7 +288,7 @@ impl<A: Allocator> Sink for FilledSink<'_, A> {
             return self.put_some(segment.kept);
         }
         let kept = segment.kept.as_bytes();
-        self.end = store_short(
+        self.end = store_short::<16>(
             self.output.as_mut_slice(),
             self.end,
             segment.rest,

@@ -86,7 +86,7 @@ impl<const N: usize> StackSink<N> {
             + (length segment.entry.kept.now + length (small_text_bytes text)) }
     {
         let kept = segment.kept.as_bytes();
-        self.end = store_both(&mut self.bytes, self.end, segment.rest, kept.len(), text);
+        self.end = store_both::<16>(&mut self.bytes, self.end, segment.rest, kept.len(), text);
         let log = self.log.after_taking(kept);
         self.log = log.after_taking(text.as_str().as_bytes());
     }
@@ -189,7 +189,7 @@ impl<const N: usize> Sink for StackSink<N> {
             return self.put_some(segment.kept);
         }
         let kept = segment.kept.as_bytes();
-        self.end = store_short(&mut self.bytes, self.end, segment.rest, kept.len());
+        self.end = store_short::<16>(&mut self.bytes, self.end, segment.rest, kept.len());
         self.log = self.log.after_taking(kept);
         Ok(())
     }

@@ -65,7 +65,7 @@ fn store_hits_by_blocks(
         let Some(small) = texts.text_for(bytes[reached + count]) else {
             break;
         };
-        end = store_both(room, end, &bytes[reached..], count, small);
+        end = store_both::<16>(room, end, &bytes[reached..], count, small);
         reached += count + 1;
         left = (left >> count) >> 1;
     }
@@ -100,7 +100,7 @@ fn store_last_hits(
         let Some(small) = texts.text_for(bytes[reached + count]) else {
             break;
         };
-        end = store_both(room, end, &bytes[reached..], count, small);
+        end = store_both::<16>(room, end, &bytes[reached..], count, small);
         reached += count + 1;
         last = (last >> count) >> 1;
     }
@@ -110,19 +110,19 @@ fn store_last_hits(
 /// Stores the first `count` of the bytes, and after them the text, at a place where a block of each
 /// fits, and answers the place after both. What stands there afterwards is lost.
 #[inline(always)]
-pub(crate) fn store_both(
+pub(crate) fn store_both<const N: usize>(
     room: &mut [u8],
     place: usize,
     bytes: &[u8],
     count: usize,
     text: SmallText,
 ) -> usize
-    requires few { count ≤ 16 }
+    requires few { count ≤ N }
     requires there { count ≤ length bytes.now }
-    requires fits { place + 24 ≤ length room.old }
+    requires fits { place + (N + 8) ≤ length room.old }
     ensures { Stored room.old room.new place (take count bytes.now ++ small_text_bytes text) result }
 {
-    let middle = store_short(room, place, bytes, count);
+    let middle = store_short::<N>(room, place, bytes, count);
     store_padded(room, middle, text)
 }
 
@@ -154,18 +154,23 @@ pub(crate) fn store(room: &mut [u8], place: usize, bytes: &[u8]) -> usize
     }
 }
 
-/// Stores the first `count` of the bytes, at most 16, at a place where 16 fit, and answers the place
-/// after them.
+/// Stores the first `count` of the bytes, no more than a block has, at a place where a block fits, and
+/// answers the place after them.
 #[inline(always)]
-pub(crate) fn store_short(room: &mut [u8], place: usize, bytes: &[u8], count: usize) -> usize
-    requires few { count ≤ 16 }
+pub(crate) fn store_short<const N: usize>(
+    room: &mut [u8],
+    place: usize,
+    bytes: &[u8],
+    count: usize,
+) -> usize
+    requires few { count ≤ N }
     requires there { count ≤ length bytes.now }
-    requires fits { place + 16 ≤ length room.old }
+    requires fits { place + N ≤ length room.old }
     ensures { Stored room.old room.new place (take count bytes.now) result }
 {
     // A block for all short stretches, empty ones too, needs no guess of how long the next is.
-    if bytes.len() >= 16 {
-        store_block::<16>(room, place, bytes);
+    if bytes.len() >= N {
+        store_block::<N>(room, place, bytes);
         return place + count;
     }
     if count == 0 {
