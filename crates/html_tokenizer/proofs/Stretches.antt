@@ -108,6 +108,10 @@ stays_in_code Script code.LineComment content b is remains =
     let tags = or_parts _ (b == less_than) remains in
     let lines = or_parts (ends_line b) (b == 0xE2) tags.0 in
     rw (tags.1, is, lines.0, lines.1) refl
+stays_in_code Style code.FrontComment content b is remains =
+    let nuls = or_parts _ (b == 0) remains in
+    let parts = or_parts (b == asterisk) (b == less_than) nuls.0 in
+    rw (parts.1, is, parts.0, nuls.1) refl
 stays_in_code Style code.Plain content b is remains =
     let tags = or_parts _ (b == less_than) remains in
     let small = or_parts _ (b == 117) tags.0 in

@@ -80,9 +80,10 @@ fn code_at_less(element: OpenElement, code: Code) -> Code
     match code {
         Code::LineComment | Code::LineLead | Code::LineSecond => Code::LineComment,
         Code::BlockComment | Code::BlockStar => Code::BlockComment,
+        Code::FrontComment | Code::FrontStar => Code::FrontComment,
         Code::UrlOpen | Code::Url | Code::UrlSlash => Code::Url,
         Code::Slash if is_script(element) => Code::Opaque,
-        Code::Opaque | Code::EscapeStart | Code::EscapeStartDash => Code::Opaque,
+        Code::FrontSlash | Code::Opaque | Code::EscapeStart | Code::EscapeStartDash => Code::Opaque,
         Code::Escaped | Code::EscapedDash | Code::EscapedDashDash => Code::Escaped,
         Code::DoubleEscaped | Code::DoubleEscapedDash | Code::DoubleEscapedDashDash => {
             Code::DoubleEscaped
@@ -108,7 +109,7 @@ fn code_after_solidus(code: Code) -> Code
     ensures { result ≡ code_after_solidus code }
 {
     match code {
-        Code::LineComment | Code::BlockComment | Code::Escaped => code,
+        Code::LineComment | Code::BlockComment | Code::FrontComment | Code::Escaped => code,
         _ => Code::Opaque,
     }
 }

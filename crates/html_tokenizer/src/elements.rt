@@ -245,7 +245,8 @@ pub(crate) fn content_phase(element: OpenElement) -> Phase
     ensures { (word : List ℕ) → state_of result word ≡ content_state element }
 {
     match element {
-        OpenElement::Script | OpenElement::Style => Phase::InCode(Code::Plain),
+        OpenElement::Script => Phase::InCode(Code::Plain),
+        OpenElement::Style => Phase::InCode(Code::Front),
         OpenElement::Frame
         | OpenElement::DataBlock
         | OpenElement::SvgStyle

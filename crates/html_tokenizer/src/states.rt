@@ -51,6 +51,14 @@ pub enum Code {
     BlockComment,
     /// After a `*` of such a comment.
     BlockStar,
+    /// Where a style begins, in white space and between comments.
+    Front,
+    /// After a `/` there.
+    FrontSlash,
+    /// In a comment there.
+    FrontComment,
+    /// After a `*` of such a comment.
+    FrontStar,
     /// After an `@` of a style.
     At,
     /// After a `u` of a style.

@@ -86,7 +86,7 @@ static TAKEN: [&str; 35] = [
     "<script>f('</b>', '{{a}}')</script>",
     "<style>b { c: '</d>'; e: '{{a}}' }</style>",
     "<script type=\"application/json\">{\"b\": \"</c>\"}</script>{{a}}",
-    "<style>@media print { p::after { content: '\\2014 {{a}}' } }</style>",
+    "<style>p::after { content: '\\2014 {{a}}' } @media print { }</style>",
 ];
 
 // A slot behind a byte from which on a script takes none, and what to write instead.
@@ -155,14 +155,26 @@ static SCRIPTS: [(&str, &str); 16] = [
 ];
 
 // The same of a style.
-static STYLES: [(&str, &str); 9] = [
+static STYLES: [(&str, &str); 12] = [
+    (
+        "<style>@page { margin: 0 } b { c: '{{a}}' }</style>",
+        "<style>b { c: '{{a}}' } @page { margin: 0 }</style>",
+    ),
+    (
+        "<style>/ b { c: '{{a}}' }</style>",
+        "<style>b { c: '{{a}}' }</style>",
+    ),
+    (
+        "<style>/* b **/ c { d: '{{a}}' }</style>",
+        "<style>/* b */ c { d: '{{a}}' }</style>",
+    ),
     (
         "<style>.b\\:c { } d { e: '{{a}}' }</style>",
         "<style>d { e: '{{a}}' } .b\\:c { }</style>",
     ),
     (
-        "<style>@import 'b.css'; d { e: '{{a}}' }</style>",
-        "<link rel=\"stylesheet\" href=\"b.css\"><style>d { e: '{{a}}' }</style>",
+        "<style>b { } @import 'c.css'; d { e: '{{a}}' }</style>",
+        "<link rel=\"stylesheet\" href=\"c.css\"><style>b { } d { e: '{{a}}' }</style>",
     ),
     (
         "<style>b </c { d: '{{a}}' }</style>",

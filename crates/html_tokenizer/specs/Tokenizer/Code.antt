@@ -2,7 +2,8 @@
 -- Where a byte alone does not tell how the code goes on, the rest of it is opaque: no slot stands in it, and only
 -- its end tag is looked for. So is what follows a `/` of a script that begins no comment, and is a division or a
 -- regular expression; a backtick, which begins a template literal; a `#` and a `\`; `-->` and `<!`, which may begin
--- a comment; a `\` of a style, which may be part of a name, and an `@import`, whose string is a URL.
+-- a comment; a `\` of a style, which may be part of a name, and an `@import`, whose string is a URL. So is a
+-- style that begins with an `@`.
 pub mod Characters
 pub mod Comments
 pub mod Escapes
@@ -43,13 +44,16 @@ abbrev pub is_script : OpenElement → Bool
 is_script Script = true
 is_script other = false
 
--- what the code is at a `<`, which after a `/` of a script may stand in a regular expression
+-- what the code is at a `<`, which after a `/` of a script may stand in a regular expression, and ends the front of a style
 abbrev pub code_at_less : OpenElement → Code → Code
 code_at_less element code.LineComment = code.LineComment
 code_at_less element code.LineLead = code.LineComment
 code_at_less element code.LineSecond = code.LineComment
 code_at_less element code.BlockComment = code.BlockComment
 code_at_less element code.BlockStar = code.BlockComment
+code_at_less element code.FrontSlash = code.Opaque
+code_at_less element code.FrontComment = code.FrontComment
+code_at_less element code.FrontStar = code.FrontComment
 code_at_less element code.UrlOpen = code.Url
 code_at_less element code.Url = code.Url
 code_at_less element code.UrlSlash = code.Url
@@ -75,6 +79,7 @@ in_code_byte kind content b =
 abbrev pub code_after_solidus : Code → Code
 code_after_solidus code.LineComment = code.LineComment
 code_after_solidus code.BlockComment = code.BlockComment
+code_after_solidus code.FrontComment = code.FrontComment
 code_after_solidus code.Escaped = code.Escaped
 code_after_solidus other = code.Opaque
 

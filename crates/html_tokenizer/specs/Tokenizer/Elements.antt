@@ -3,7 +3,7 @@ pub mod Restricted
 use Rattle.std.specs.Prelude.{ℕ, Bool, true, false, ◌&&◌, ◌||◌, not, List, ◌+◌, ◌-◌, ◌==◌, Option, Some, None, if◌then◌else◌, bytes_eq, codes}
 use Rattle.std.specs.Option.{option_map}
 use Rattle.html_tokenizer.specs.declared.slot_place.SlotPlace.TheVariants as place
-use Rattle.html_tokenizer.specs.declared.states.Code.TheVariants.{Plain, Opaque}
+use Rattle.html_tokenizer.specs.declared.states.Code.TheVariants.{Front, Plain, Opaque}
 use Rattle.html_tokenizer.specs.declared.elements.Content.{Content}
 use Rattle.html_tokenizer.specs.declared.elements.OpenElement.{OpenElement}
 use Rattle.html_tokenizer.specs.declared.elements.OpenElement.TheVariants.{Normal, Title, Textarea, Script, DataBlock, Style, Frame, Meta, MetaContent, MetaPragma, MetaType, LinkTag, SvgTag, Svg, SvgTitle, SvgStyle, MathTag, Math, MathMi, MathMo, MathMn, MathMs, MathMtext, Select, NoScript, NoScriptStyle, NoScriptFrame}
@@ -96,7 +96,7 @@ inside content = with_element content (inside_element content.element)
 abbrev pub content_state : OpenElement → State
 content_state Script = state.InCode Plain
 content_state DataBlock = state.InCode Opaque
-content_state Style = state.InCode Plain
+content_state Style = state.InCode Front
 content_state Frame = state.InCode Opaque
 content_state SvgStyle = state.InCode Opaque
 content_state NoScriptStyle = state.InCode Opaque

@@ -8,7 +8,7 @@ use Rattle.hesc_grammars.specs.StyleStrings.{is_newline_or_nul}
 use Rattle.html_tokenizer.specs.declared.slot_place.SlotPlace.{SlotPlace}
 use Rattle.html_tokenizer.specs.declared.slot_place.SlotPlace.TheVariants.{Text, DoubleQuoted, SingleQuoted, Unquoted, ScriptSingle, ScriptDouble, StyleSingle, StyleDouble}
 use Rattle.html_tokenizer.specs.declared.states.Code.{Code}
-use Rattle.html_tokenizer.specs.declared.states.Code.TheVariants.{Plain, Name, LetterI, LettersIm, LettersImp, LettersImpo, LettersImpor, LetterF, LettersFr, LettersFro, LineComment, BlockComment, Url, Opaque, Escaped, DoubleEscaped}
+use Rattle.html_tokenizer.specs.declared.states.Code.TheVariants.{FrontComment, Plain, Name, LetterI, LettersIm, LettersImp, LettersImpo, LettersImpor, LetterF, LettersFr, LettersFro, LineComment, BlockComment, Url, Opaque, Escaped, DoubleEscaped}
 use Rattle.html_tokenizer.specs.declared.states.Kind.{Kind}
 use Rattle.html_tokenizer.specs.declared.states.Kind.TheVariants as kind
 use Rattle.html_tokenizer.specs.declared.states.Phase.{Phase}
@@ -45,6 +45,7 @@ leaves_code Style Url b =
     b == double_quote || b == single_quote || b == opening_parenthesis || b == closing_parenthesis || b == backslash || b == slash || b == less_than
 leaves_code Script BlockComment b = b == asterisk || b == less_than
 leaves_code Style BlockComment b = b == asterisk || b == less_than
+leaves_code Style FrontComment b = b == asterisk || b == less_than || b == 0
 leaves_code Script Escaped b = b == dash || b == less_than
 leaves_code Script DoubleEscaped b = b == dash || b == less_than
 leaves_code Script Opaque b = b == less_than
@@ -61,6 +62,7 @@ leaves element other b = true
 -- code that is scanned byte by byte, and values through which a search goes
 abbrev pub is_scanned_code : OpenElement → Code → Bool
 is_scanned_code Script LineComment = true
+is_scanned_code Style FrontComment = true
 is_scanned_code Style Plain = true
 is_scanned_code Style Url = true
 is_scanned_code other code = false

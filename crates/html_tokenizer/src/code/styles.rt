@@ -1,6 +1,6 @@
 //! What a byte does in the code of a style, outside of strings.
 ghost use Rattle.std.specs.Prelude.{◌≡◌, ℕ, List};
-ghost use Rattle.html_tokenizer.specs.Tokenizer.Code.Styles.{style_byte, style_code_byte, url_byte, url_open_byte};
+ghost use Rattle.html_tokenizer.specs.Tokenizer.Code.Styles.{front_byte, front_comment_byte, front_star_byte, style_byte, style_code_byte, url_byte, url_open_byte};
 ghost use Rattle.html_tokenizer.specs.Tokenizer.Phases.{moved};
 
 use crate::code::scripts::begins_without_slot;
@@ -52,11 +52,46 @@ fn url_open_byte(content: Content, byte: u8) -> Move
     begins_without_slot(place, content)
 }
 
+fn front_byte(content: Content, byte: u8) -> Move
+    ensures { (word : List ℕ) → moved result word ≡ (front_byte content byte).next }
+{
+    match byte {
+        b'/' => stays(Code::FrontSlash, content, byte),
+        b'@' | 0 => gives_up(content, byte),
+        _ if is_space(byte) => stays(Code::Front, content, byte),
+        _ => style_byte(content, byte),
+    }
+}
+
+fn front_comment_byte(content: Content, byte: u8) -> Move
+    ensures { (word : List ℕ) → moved result word ≡ (front_comment_byte content byte).next }
+{
+    match byte {
+        b'*' => stays(Code::FrontStar, content, byte),
+        0 => gives_up(content, byte),
+        _ => stays(Code::FrontComment, content, byte),
+    }
+}
+
+fn front_star_byte(content: Content, byte: u8) -> Move
+    ensures { (word : List ℕ) → moved result word ≡ (front_star_byte content byte).next }
+{
+    match byte {
+        b'/' => stays(Code::Front, content, byte),
+        b'*' => gives_up(content, byte),
+        _ => front_comment_byte(content, byte),
+    }
+}
+
 #[inline(always)]
 pub(crate) fn style_code_byte(code: Code, content: Content, byte: u8) -> Move
     ensures { (word : List ℕ) → moved result word ≡ (style_code_byte code content byte).next }
 {
     let longer = match (code, byte) {
+        (Code::Front, _) => return front_byte(content, byte),
+        (Code::FrontSlash, b'*') => Code::FrontComment,
+        (Code::FrontComment, _) => return front_comment_byte(content, byte),
+        (Code::FrontStar, _) => return front_star_byte(content, byte),
         (Code::Slash, b'*') => Code::BlockComment,
         (Code::LetterU, b'r' | b'R') => Code::LettersUr,
         (Code::LettersUr, b'l' | b'L') => Code::LettersUrl,

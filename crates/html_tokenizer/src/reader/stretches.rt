@@ -46,6 +46,7 @@ fn leaves(phase: Phase, element: OpenElement, byte: u8) -> bool
         (Phase::InCode(Code::LineComment), OpenElement::Script) => {
             matches!(byte, b'\n' | b'\r' | 0xE2 | b'<')
         }
+        (Phase::InCode(Code::FrontComment), OpenElement::Style) => matches!(byte, b'*' | b'<' | 0),
         (Phase::InCode(Code::Plain), OpenElement::Style) => {
             matches!(
                 byte,
@@ -117,6 +118,9 @@ fn code_stretch(code: Code, element: OpenElement, bytes: &[u8]) -> usize
         }
         (Code::LineComment, OpenElement::Script) => {
             scan(Phase::InCode(Code::LineComment), OpenElement::Script, bytes)
+        }
+        (Code::FrontComment, OpenElement::Style) => {
+            scan(Phase::InCode(Code::FrontComment), OpenElement::Style, bytes)
         }
         (Code::Plain, OpenElement::Style) => {
             scan(Phase::InCode(Code::Plain), OpenElement::Style, bytes)

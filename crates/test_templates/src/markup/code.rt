@@ -56,7 +56,7 @@ static STYLES: [Row; 17] = [
     ("<style>a\\:b{c:'", "'}</style>", Some(Forbidden(1))),
     ("<style>a{b:'", "'} c\\:d{}</style>", None),
     ("<style>@Import 'a';b{c:'", "'}</style>", Some(Forbidden(1))),
-    ("<style>@media a{b{c:'", "'}}</style>", None),
+    ("<style>d{}@media a{b{c:'", "'}}</style>", None),
     ("<style>a{b:url(x'y);c:'", "'}</style>", Some(Forbidden(1))),
     ("<style>a{b:'\n';c:'", "'}</style>", Some(Forbidden(1))),
     ("<style>a{b:'</b>';c:'", "'}</style>", None),
@@ -75,6 +75,114 @@ static STYLES: [Row; 17] = [
 #[test]
 fn styles(rt: HostRuntime) {
     hold(&rt, rt.alloc(), &STYLES);
+}
+
+// A preload scanner looks for `@import` from the front of a style on, and knows no strings: behind an at-rule
+// it would find one in a text, behind any other byte it stops.
+static FRONTS: [Row; 54] = [
+    (
+        "<style>@page{margin:0}p::after{content:\"",
+        "\"}</style>",
+        Some(Forbidden(1)),
+    ),
+    (
+        "<style>@font-face{font-family:\"",
+        "\"}</style>",
+        Some(Forbidden(1)),
+    ),
+    ("<style>@media(a){b{c:'", "'}}</style>", Some(Forbidden(1))),
+    ("<style>@layer \"", "\";</style>", Some(Forbidden(1))),
+    ("<style>@charset \"", "\";</style>", Some(Forbidden(1))),
+    ("<style>@namespace\"", "\";</style>", Some(Forbidden(1))),
+    ("<style>@import '", "';</style>", Some(Forbidden(1))),
+    ("<style>@'", "'</style>", Some(Forbidden(1))),
+    ("<style>@;a{b:'", "'}</style>", Some(Forbidden(1))),
+    ("<style> @page{}a{b:'", "'}</style>", Some(Forbidden(1))),
+    (
+        "<style>\t\n\x0c\r @page{}a{b:'",
+        "'}</style>",
+        Some(Forbidden(1)),
+    ),
+    ("<style>/**/@page{}a{b:'", "'}</style>", Some(Forbidden(1))),
+    (
+        "<style>/* a */ /* b */\n@page{}a{b:'",
+        "'}</style>",
+        Some(Forbidden(1)),
+    ),
+    (
+        "<style>/* < */@page{}a{b:'",
+        "'}</style>",
+        Some(Forbidden(1)),
+    ),
+    (
+        "<style>/* </a> */@page{}a{b:'",
+        "'}</style>",
+        Some(Forbidden(1)),
+    ),
+    (
+        "<style>/* *< */@page{}a{b:'",
+        "'}</style>",
+        Some(Forbidden(1)),
+    ),
+    (
+        "<style media=a>@page{}a{b:'",
+        "'}</style>",
+        Some(Forbidden(1)),
+    ),
+    ("<style/>@page{}a{b:'", "'}</style>", Some(Forbidden(1))),
+    ("<style>/\"", "\"</style>", Some(Forbidden(1))),
+    ("<style>/@page{}a{b:'", "'}</style>", Some(Forbidden(1))),
+    ("<style>/a/{b:'", "'}</style>", Some(Forbidden(1))),
+    ("<style>//* */a{b:'", "'}</style>", Some(Forbidden(1))),
+    ("<style>/<a{b:'", "'}</style>", Some(Forbidden(1))),
+    ("<style>/* */ /a{b:'", "'}</style>", Some(Forbidden(1))),
+    ("<style>/* **/a{b:'", "'}</style>", Some(Forbidden(1))),
+    ("<style>/***/a{b:'", "'}</style>", Some(Forbidden(1))),
+    ("<style>/* ***/a{b:'", "'}</style>", Some(Forbidden(1))),
+    ("<style>/* ** */a{b:'", "'}</style>", Some(Forbidden(1))),
+    ("<style>\0@page{}a{b:'", "'}</style>", Some(Forbidden(1))),
+    ("<style> \0a{b:'", "'}</style>", Some(Forbidden(1))),
+    ("<style>/* \0 */a{b:'", "'}</style>", Some(Forbidden(1))),
+    ("<style>/* *\0/a{b:'", "'}</style>", Some(Forbidden(1))),
+    (
+        "<style>@page{margin:0}p::after{content:\"a\"}</style>",
+        "",
+        None,
+    ),
+    ("<style>@font-face{font-family:\"a\"}</style>", "", None),
+    ("<style>@media(a){b{c:'d'}}</style>", "", None),
+    ("<style>@layer \"a\";</style>", "", None),
+    ("<style>@charset \"a\";</style>", "", None),
+    ("<style>@namespace\"a\";</style>", "", None),
+    ("<style>@import 'a';</style>", "", None),
+    ("<style>/\"a\"</style>", "", None),
+    ("<style>/* **/a{b:'c'}</style>", "", None),
+    ("<style>/* </style>", "", None),
+    ("<style> \n\tp::after{content:\"", "\"}</style>", None),
+    ("<style>/* @ */p::after{content:\"", "\"}</style>", None),
+    (
+        "<style> /** a * b */ /**/ p::after{content:\"",
+        "\"}</style>",
+        None,
+    ),
+    (
+        "<style>/* *< </a> */p::after{content:\"",
+        "\"}</style>",
+        None,
+    ),
+    ("<style>a{}/* **/b{c:'", "'}</style>", None),
+    ("<style>a{}/* \0 */b{c:'", "'}</style>", None),
+    ("<style>a{}/***/@page{}b{c:'", "'}</style>", None),
+    ("<style>a\0@page{}b{c:'", "'}</style>", None),
+    ("<style>'", "'</style>", None),
+    ("<style>a{b:'", "'}@page{}c{d:'e'}</style>", None),
+    ("<style><!--@page{}a{b:'", "'}--></style>", None),
+    ("<style></a{b:'", "'}</style>", Some(Forbidden(1))),
+];
+
+#[test]
+fn fronts(rt: HostRuntime) {
+    hold(&rt, rt.alloc(), &FRONTS);
 }
 
 // 13.2.5.12 to 13.2.5.17: in a string `</` is a part of it, unless the end tag of its element follows.
