@@ -19,7 +19,7 @@ use Rattle.html_tokenizer.specs.Tokenizer.Code.Comments.{block_byte, ends_line, 
 use Rattle.html_tokenizer.specs.Tokenizer.Code.Escapes.{escaped_byte}
 use Rattle.html_tokenizer.specs.Tokenizer.Code.Strings.{string_byte}
 use Rattle.html_tokenizer.specs.Tokenizer.Comments.{dash}
-use Rattle.html_tokenizer.specs.Tokenizer.States.{Attribute, Comment, In, InCode, at, at_value}
+use Rattle.html_tokenizer.specs.Tokenizer.States.{Attribute, BogusComment, Comment, In, InCode, at, at_value}
 use Rattle.html_tokenizer.specs.Tokenizer.Stretches.{ends_string, leaves_code, leaves_value}
 use Rattle.html_tokenizer.specs.Tokenizer.Tags.{is_space}
 use Rattle.html_tokenizer.specs.Tokenizer.Tokenization.{consume, state_after, value_byte}
@@ -73,6 +73,11 @@ stays_in_value StyleDouble content attribute b settled remains =
 stays_in_comment : (content : Content) (b : ℕ) → (b == dash) ≡ false → (consume (at Comment content) b).next ≡ at Comment content
 unfolding consume
 stays_in_comment content b no_dash = rw no_dash refl
+
+stays_in_bogus_comment : (content : Content) (b : ℕ) → (b == greater_than) ≡ false →
+    (consume (at BogusComment content) b).next ≡ at BogusComment content
+unfolding consume
+stays_in_bogus_comment content b no_end = rw no_end refl
 
 stays_opaque : (content : Content) (b : ℕ) → code_byte code.Opaque content b ≡ stays code.Opaque content b → (b == less_than) ≡ false →
     (consume (at (InCode code.Opaque) content) b).next ≡ at (InCode code.Opaque) content
@@ -146,3 +151,7 @@ code_stretch_stays kind content bytes count first =
 pub comment_stretch_stays : (content : Content) (bytes : List ℕ) (count : ℕ) → IsFirstPlace (λ b. b == dash) bytes 0 count →
     state_after (at Comment content) (take count bytes) ≡ at Comment content
 comment_stretch_stays content bytes count first = stays_up_to (λ b. b == dash) _ bytes count first (stays_in_comment content)
+
+pub bogus_comment_stretch_stays : (content : Content) (bytes : List ℕ) (count : ℕ) → IsFirstPlace (λ b. b == greater_than) bytes 0 count →
+    state_after (at BogusComment content) (take count bytes) ≡ at BogusComment content
+bogus_comment_stretch_stays content bytes count first = stays_up_to (λ b. b == greater_than) _ bytes count first (stays_in_bogus_comment content)

@@ -1,6 +1,6 @@
 //! What a byte does after `<!` and in a comment.
 ghost use Rattle.std.specs.Prelude.{◌≡◌, ℕ, List};
-ghost use Rattle.html_tokenizer.specs.Tokenizer.Comments.{comment_byte, comment_dash_byte, comment_end_byte, comment_start_byte, comment_start_dash_byte, declaration_byte};
+ghost use Rattle.html_tokenizer.specs.Tokenizer.Comments.{bogus_comment_byte, comment_byte, comment_dash_byte, comment_end_byte, comment_start_byte, comment_start_dash_byte, declaration_byte};
 ghost use Rattle.html_tokenizer.specs.Tokenizer.Phases.{moved};
 ghost use Rattle.html_tokenizer.specs.declared.states.Phase.TheVariants as phase;
 
@@ -31,6 +31,18 @@ pub(crate) fn declaration_byte(content: Content, word: &[u8], byte: u8) -> Move
     } else {
         let letter = byte.to_ascii_lowercase();
         goes(Phase::Declaration, content, Word::Add(letter))
+    }
+}
+
+/// In a comment that `<?` begins.
+#[inline(always)]
+pub(crate) fn bogus_comment_byte(content: Content, byte: u8) -> Move
+    ensures { (word : List ℕ) → moved result word ≡ (bogus_comment_byte content byte).next }
+{
+    if byte == b'>' {
+        to(Phase::In(SlotPlace::Text), content)
+    } else {
+        to(Phase::BogusComment, content)
     }
 }
 

@@ -13,7 +13,8 @@ use crate::code::strings::{
 };
 use crate::code::{code_less_byte, in_code_byte};
 use crate::comments::{
-    comment_byte, comment_dash_byte, comment_end_byte, comment_start_byte, declaration_byte,
+    bogus_comment_byte, comment_byte, comment_dash_byte, comment_end_byte, comment_start_byte,
+    declaration_byte,
 };
 use crate::doctypes::{
     after_doctype_byte, after_public_byte, after_system_byte, before_doctype_byte,
@@ -182,6 +183,7 @@ pub(crate) fn byte_in(phase: Phase, content: Content, kind: Kind, word: &[u8], b
         Phase::BeforeSystem => before_system_byte(content, byte),
         Phase::SystemIdentifier(mark) => system_byte(mark, content, byte),
         Phase::AfterSystem => after_system_byte(content, byte),
+        Phase::BogusComment => bogus_comment_byte(content, byte),
         Phase::CommentStart => comment_start_byte(content, Phase::CommentStartDash, byte),
         Phase::CommentStartDash => comment_start_byte(content, Phase::CommentEnd, byte),
         Phase::Comment => comment_byte(content, byte),

@@ -127,6 +127,7 @@ pub(crate) enum Phase {
     BeforeSystem,
     SystemIdentifier(u8),
     AfterSystem,
+    BogusComment,
     CommentStart,
     CommentStartDash,
     Comment,

@@ -58,6 +58,8 @@ pub(crate) fn tag_open_byte(content: Content, byte: u8) -> Move
         goes(Phase::TagName, content, Word::Begin(letter))
     } else if holds_comments(content.element) && byte == b'!' {
         to(Phase::Declaration, content)
+    } else if holds_comments(content.element) && byte == b'?' {
+        to(Phase::BogusComment, content)
     } else {
         refuses()
     }

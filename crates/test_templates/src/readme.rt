@@ -51,11 +51,12 @@ static PLACES: [(&str, SlotPlace); 8] = [
 ];
 
 // Templates that are taken.
-static TAKEN: [&str; 35] = [
+static TAKEN: [&str; 36] = [
     "<!doctype HTML><p>{{a}}</p>",
     "<!DOCTYPE html PUBLIC \"-//W3C//DTD HTML 4.01//EN\" 'http://www.w3.org/TR/html4/strict.dtd'>",
     "<!DOCTYPE html SYSTEM \"about:legacy-compat\">",
     "<!-- <p> -- & -->{{a}}",
+    "<?xml version=\"1.0\"?><!DOCTYPE html><p>{{a}}</p>",
     "<my-card DATA-id=\"{{a}}\">{{b}}</My-Card>",
     "<p title=\"{{a}}\" lang='{{b}}' class={{c}}>",
     "<input disabled><br/>{{a}}",
@@ -207,7 +208,7 @@ static STYLES: [(&str, &str); 12] = [
 ];
 
 // Markup that is refused, and what to write instead.
-static TAGS: [(&str, &str); 17] = [
+static TAGS: [(&str, &str); 16] = [
     ("a < b", "a &lt; b"),
     ("<p a=b\"c>", "<p a='b\"c'>"),
     ("<p a=>", "<p a=\"\">"),
@@ -216,7 +217,6 @@ static TAGS: [(&str, &str); 17] = [
     ("<p a=\"b\"c>", "<p a=\"b\" c>"),
     ("</p a>", "</p>"),
     ("</p/>", "</p>"),
-    ("<?xml version=\"1.0\"?><p>", "<p>"),
     ("<!-->", "<!---->"),
     ("<!-- a --!>", "<!-- a -->"),
     ("<![CDATA[a]]>", "a"),

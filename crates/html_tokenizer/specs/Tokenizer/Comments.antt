@@ -1,5 +1,5 @@
 -- What a byte does after `<!` and in a comment.
--- HTML Standard, 13.2.5.42 to 13.2.5.45, 13.2.5.50, 13.2.5.51 and 13.2.5.53, where what the standard
+-- HTML Standard, 13.2.5.41 to 13.2.5.45, 13.2.5.50, 13.2.5.51 and 13.2.5.53, where what the standard
 -- calls an error has no reading. 13.2.5.46 to 13.2.5.49 tell errors only: they append and end as
 -- 13.2.5.45 does.
 use Rattle.std.specs.Prelude.{ℕ, List, [], ◌∷◌, ◌++◌, ◌==◌, if◌then◌else◌, bytes_eq, codes}
@@ -23,6 +23,12 @@ declaration_byte content word b =
     else (if bytes_eq word (codes "doctype") then (if is_space b then goes state.BeforeDoctype content [] else refuses)
     else (if b == greater_than then refuses
     else goes (state.Declaration (word ++ to_ascii_lowercase b ∷ [])) content []))
+
+-- 13.2.5.41 Bogus comment state
+abbrev pub bogus_comment_byte : Content → ℕ → Transition
+bogus_comment_byte content b =
+    if b == greater_than then goes (state.In place.Text) content (EmitComment ∷ [])
+    else goes state.BogusComment content (CommentByte b ∷ [])
 
 -- 13.2.5.45 Comment state
 abbrev pub comment_byte : Content → ℕ → Transition

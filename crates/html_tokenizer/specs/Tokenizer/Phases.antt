@@ -46,6 +46,7 @@ state_of phase.BetweenIdentifiers word = state.BetweenIdentifiers
 state_of phase.BeforeSystem word = state.BeforeSystem
 state_of (phase.SystemIdentifier mark) word = state.SystemIdentifier mark
 state_of phase.AfterSystem word = state.AfterSystem
+state_of phase.BogusComment word = state.BogusComment
 state_of phase.CommentStart word = state.CommentStart
 state_of phase.CommentStartDash word = state.CommentStartDash
 state_of phase.Comment word = state.Comment

@@ -65,6 +65,8 @@ pub data State : Type 0 where
   BeforeSystem : State
   SystemIdentifier : ℕ → State
   AfterSystem : State
+  -- 13.2.5.41 Bogus comment state
+  BogusComment : State
   -- 13.2.5.43 Comment start state, 13.2.5.44 Comment start dash state, 13.2.5.45 Comment state, 13.2.5.50 Comment end dash state, 13.2.5.51 Comment end state
   CommentStart : State
   CommentStartDash : State

@@ -1,6 +1,6 @@
 -- What a byte does in a tag.
 -- HTML Standard, 13.2.5.6 to 13.2.5.8, 13.2.5.32 to 13.2.5.35, 13.2.5.39 and 13.2.5.40, where the bytes
--- that the standard calls errors have no reading. A carriage return is white space: the standard
+-- that the standard calls errors have no reading, but for `<?`, which begins a comment. A carriage return is white space: the standard
 -- makes it a line feed before it tokenizes (13.2.3.5).
 pub mod EndTags
 use Rattle.std.specs.Prelude.{ℕ, Bool, ◌&&◌, ◌||◌, List, [], ◌∷◌, ◌++◌, ◌==◌, Option, Some, None, if◌then◌else◌}
@@ -10,7 +10,7 @@ use Rattle.hesc_grammars.specs.Words.{is_white_space}
 use Rattle.html_tokenizer.specs.declared.slot_place.SlotPlace.TheVariants as place
 use Rattle.html_tokenizer.specs.declared.elements.Content.{Content}
 use Rattle.html_tokenizer.specs.declared.elements.OpenElement.{OpenElement}
-use Rattle.html_tokenizer.specs.Tokenizer.Actions.{NewStartTag, NewEndTag, TagNameByte, NewAttribute, NameByte, SetSelfClosing, EmitTag}
+use Rattle.html_tokenizer.specs.Tokenizer.Actions.{NewComment, CommentByte, NewStartTag, NewEndTag, TagNameByte, NewAttribute, NameByte, SetSelfClosing, EmitTag}
 use Rattle.html_tokenizer.specs.Tokenizer.Attributes.{value_of}
 use Rattle.html_tokenizer.specs.Tokenizer.Elements.{beside, closed, content_of, content_state, ends_content, holds_comments, holds_markup, inside, with_element}
 use Rattle.html_tokenizer.specs.Tokenizer.States as state
@@ -23,6 +23,9 @@ is_space b = is_white_space b || b == carriage_return
 
 abbrev pub exclamation_mark : ℕ
 exclamation_mark = 33
+
+abbrev pub question_mark : ℕ
+question_mark = 63
 
 -- at the `>` of a start tag
 abbrev pub opened : Content → Transition
@@ -42,7 +45,8 @@ tag_open_byte content b =
     if holds_markup content.element && is_ascii_alphabetic b
     then goes (state.TagName (to_ascii_lowercase b ∷ [])) content (NewStartTag ∷ TagNameByte (to_ascii_lowercase b) ∷ [])
     else (if holds_comments content.element && b == exclamation_mark then goes (state.Declaration []) content []
-    else refuses)
+    else (if holds_comments content.element && b == question_mark then goes state.BogusComment content (NewComment ∷ CommentByte b ∷ [])
+    else refuses))
 
 -- 13.2.5.7 End tag open state
 abbrev pub end_tag_open_byte : Content → ℕ → Transition

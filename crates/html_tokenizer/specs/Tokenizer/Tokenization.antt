@@ -7,7 +7,7 @@ use Rattle.html_tokenizer.specs.declared.elements.Content.{Content}
 use Rattle.html_tokenizer.specs.Tokenizer.Actions.{Action, read_byte, value_end}
 use Rattle.html_tokenizer.specs.Tokenizer.Code.{in_code_byte, code_less_byte, code_end_tag_byte, code_word_byte}
 use Rattle.html_tokenizer.specs.Tokenizer.Code.Strings.{script_string_byte, style_string_byte, string_less_byte, script_escape_byte, style_escape_byte}
-use Rattle.html_tokenizer.specs.Tokenizer.Comments.{declaration_byte, comment_start_byte, comment_start_dash_byte, comment_byte, comment_dash_byte, comment_end_byte}
+use Rattle.html_tokenizer.specs.Tokenizer.Comments.{declaration_byte, bogus_comment_byte, comment_start_byte, comment_start_dash_byte, comment_byte, comment_dash_byte, comment_end_byte}
 use Rattle.html_tokenizer.specs.Tokenizer.Doctypes.{before_doctype_byte, doctype_byte, after_doctype_byte, doctype_keyword_byte, before_public_byte, public_byte, after_public_byte, between_identifiers_byte, before_system_byte, system_byte, after_system_byte}
 use Rattle.html_tokenizer.specs.Tokenizer.Attributes.{reference_read}
 use Rattle.html_tokenizer.specs.Tokenizer.Values.References.{reference_byte}
@@ -83,6 +83,7 @@ byte_in state.BetweenIdentifiers content attribute b = between_identifiers_byte 
 byte_in state.BeforeSystem content attribute b = before_system_byte content b
 byte_in (state.SystemIdentifier mark) content attribute b = system_byte mark content b
 byte_in state.AfterSystem content attribute b = after_system_byte content b
+byte_in state.BogusComment content attribute b = bogus_comment_byte content b
 byte_in state.CommentStart content attribute b = comment_start_byte content b
 byte_in state.CommentStartDash content attribute b = comment_start_dash_byte content b
 byte_in state.Comment content attribute b = comment_byte content b

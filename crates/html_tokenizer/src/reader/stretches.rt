@@ -1,5 +1,6 @@
 //! Stretches of bytes at which the tokenizer stays where it is, up to the first byte that leads elsewhere.
 ghost use Rattle.std.specs.Prelude.{◌≡◌, ◌≤◌, ◌<◌, ◌==◌, ◌||◌, ℕ, List, None, length, slice_index, take, true};
+ghost use Rattle.hesc_specs.specs.Text.Ascii.{greater_than};
 ghost use Rattle.hesc_specs.specs.Text.FirstPlace.{IsFirstPlace};
 ghost use Rattle.html_tokenizer.specs.Tokenizer.Comments.{dash};
 ghost use Rattle.html_tokenizer.specs.Tokenizer.Phases.{attribute_in, state_of};
@@ -134,7 +135,7 @@ fn code_stretch(code: Code, element: OpenElement, bytes: &[u8]) -> usize
 
 /// How many of the first bytes leave the tokenizer where it is: all up to one that does not, or fewer.
 #[inline(always)]
-#[tactic(auto, using(crate::proofs::Stretches::value_stretch_stays, crate::proofs::Stretches::code_stretch_stays, crate::proofs::Stretches::comment_stretch_stays))]
+#[tactic(auto, using(crate::proofs::Stretches::value_stretch_stays, crate::proofs::Stretches::code_stretch_stays, crate::proofs::Stretches::comment_stretch_stays, crate::proofs::Stretches::bogus_comment_stretch_stays))]
 pub(crate) fn stretch(phase: Phase, content: Content, kind: Kind, bytes: &[u8]) -> usize
     ensures within { result ≤ length bytes.now }
     ensures value { (place : SlotPlace) → phase ≡ phases.In place → IsSettled kind
@@ -143,6 +144,8 @@ pub(crate) fn stretch(phase: Phase, content: Content, kind: Kind, bytes: &[u8]) 
         → IsFirstPlace (leaves_code content.element code) bytes.now 0 result }
     ensures comment { phase ≡ phases.Comment → kind ≡ kinds.Ordinary
         → IsFirstPlace (λ b. b == dash) bytes.now 0 result }
+    ensures bogus_comment { phase ≡ phases.BogusComment → kind ≡ kinds.Ordinary
+        → IsFirstPlace (λ b. b == greater_than) bytes.now 0 result }
     ensures stays { (word : List ℕ)
         → state_after (at_value (state_of phase word) content (attribute_in kind word))
         (take result bytes.now)
@@ -154,6 +157,7 @@ pub(crate) fn stretch(phase: Phase, content: Content, kind: Kind, bytes: &[u8]) 
         }
         (Phase::InCode(code), Kind::Ordinary) => code_stretch(code, content.element, bytes),
         (Phase::Comment, Kind::Ordinary) => first_byte(b'-', bytes, 0),
+        (Phase::BogusComment, Kind::Ordinary) => first_byte(b'>', bytes, 0),
         _ => 0,
     }
 }

@@ -69,6 +69,41 @@ fn texts(rt: HostRuntime) {
     hold(&rt, rt.alloc(), &TEXTS);
 }
 
+// 13.2.5.6 Tag open state, 13.2.5.41 Bogus comment state: from `<?` up to the next `>`.
+static BOGUS_COMMENTS: [Row; 22] = [
+    (
+        "<?xml version=\"1.0\"?><!DOCTYPE html><p title='",
+        "'>",
+        None,
+    ),
+    ("<?php a > b ?>", "", None),
+    ("<?php a --", "> b ?>", Some(NoPlace(1))),
+    ("<?><p title='", "'>", None),
+    ("<?a '><p title='", "'>", None),
+    ("<?<!-- ><p title='", "'>", None),
+    ("<?\0\r\n<b ?><p title='", "'>", None),
+    ("<p><? script></p><script>f('", "')</script>", None),
+    ("<svg><?a?><g id='", "'/></svg>", None),
+    ("<math><?a?><mrow id='", "'/></math>", None),
+    ("<select><?a?><option>", "</select>", None),
+    ("<template><?a?>", "</template>", None),
+    ("<textarea><?a ", "></textarea>", None),
+    ("<?", ">", Some(NoPlace(1))),
+    ("<?a b=\"", "\">", Some(NoPlace(1))),
+    ("", "<?a", Some(Unfinished)),
+    ("<p>", "<?", Some(Unfinished)),
+    ("<noscript><?a?></noscript>", "", Some(Malformed(0))),
+    ("<math><mi><?a?></mi></math>", "", Some(Malformed(0))),
+    ("<svg><title><?a?></title></svg>", "", Some(Malformed(0))),
+    ("</?a>", "", Some(Malformed(0))),
+    ("<svg><style><?a?></style></svg>", "", Some(Malformed(0))),
+];
+
+#[test]
+fn bogus_comments(rt: HostRuntime) {
+    hold(&rt, rt.alloc(), &BOGUS_COMMENTS);
+}
+
 // After an end a `title` has text again, and a script has code.
 static SVG: [Row; 27] = [
     ("<svg/><script>f('", "')</script>", None),
