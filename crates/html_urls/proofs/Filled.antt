@@ -1,3 +1,4 @@
+pub mod NamedTexts
 pub mod OpenSegments
 pub mod LaterSlots
 pub mod FirstSlot

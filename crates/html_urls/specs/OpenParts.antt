@@ -3,7 +3,7 @@ use Rattle.std.specs.Prelude.{ℕ, Bool, true, false, not, ◌&&◌, ◌||◌, �
 use Rattle.std.specs.List.{list_any, starts_with}
 use Rattle.url.specs.Ascii.{dot, number_sign, percent_sign, question_mark, slash}
 use Rattle.html_urls.specs.declared.open_part.OpenPart.{OpenPart}
-use Rattle.html_urls.specs.declared.open_part.OpenPart.TheVariants.{NewSegment, TextSegment, DotSegment, NamedSegment, Query, Fragment}
+use Rattle.html_urls.specs.declared.open_part.OpenPart.TheVariants.{NewSegment, DotSegment, NamedSegment, Query, Fragment}
 use Rattle.html_urls.specs.declared.parts.UrlSlot.{UrlSlot}
 use Rattle.html_urls.specs.declared.place.UrlPlace.TheVariants as place
 use Rattle.html_urls.specs.Hosts.{has_first_segment}
@@ -22,7 +22,6 @@ begins_dots b = b == dot || b == percent_sign
 abbrev pub after_segment_byte : OpenPart → ℕ → OpenPart
 after_segment_byte NamedSegment b = NamedSegment
 after_segment_byte NewSegment b = if begins_dots b then DotSegment else NamedSegment
-after_segment_byte TextSegment b = if is_dot_byte b then DotSegment else NamedSegment
 after_segment_byte DotSegment b = if is_dot_byte b then DotSegment else NamedSegment
 after_segment_byte Query b = if is_dot_byte b then DotSegment else NamedSegment
 after_segment_byte Fragment b = if is_dot_byte b then DotSegment else NamedSegment
@@ -41,7 +40,6 @@ after_query_byte b = if b == number_sign then Fragment else Query
 -- after a byte of markup
 abbrev pub after_byte : OpenPart → ℕ → OpenPart
 after_byte NewSegment b = after_path_byte NewSegment b
-after_byte TextSegment b = after_path_byte TextSegment b
 after_byte DotSegment b = after_path_byte DotSegment b
 after_byte NamedSegment b = after_path_byte NamedSegment b
 after_byte Query b = after_query_byte b
@@ -56,7 +54,6 @@ after_front part (b ∷ markup) = after_front (after_byte part b) markup
 abbrev pub may_be_dots : OpenPart → Bool
 may_be_dots DotSegment = true
 may_be_dots NewSegment = false
-may_be_dots TextSegment = false
 may_be_dots NamedSegment = false
 may_be_dots Query = false
 may_be_dots Fragment = false
@@ -67,18 +64,16 @@ after_markup part [] = Some part
 after_markup part (b ∷ markup) =
     if may_be_dots part && is_end b then None else after_markup (after_byte part b) markup
 
--- the slot that stands here, and what is open after its text
+-- the slot that stands here, and what is open after its text: one that a segment may begin with names it
 abbrev pub slot_at : OpenPart → Option UrlSlot
 slot_at NewSegment = Some (record { place = place.Path; begins_segment = true })
 slot_at NamedSegment = Some (record { place = place.Path; begins_segment = false })
-slot_at TextSegment = None
 slot_at DotSegment = None
 slot_at Query = Some (record { place = place.Query; begins_segment = false })
 slot_at Fragment = Some (record { place = place.Fragment; begins_segment = false })
 
 abbrev pub after_text : OpenPart → OpenPart
-after_text NewSegment = TextSegment
-after_text TextSegment = TextSegment
+after_text NewSegment = NamedSegment
 after_text DotSegment = DotSegment
 after_text NamedSegment = NamedSegment
 after_text Query = Query

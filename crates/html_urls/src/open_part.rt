@@ -15,11 +15,9 @@ use crate::place::UrlPlace;
 pub enum OpenPart {
     /// A segment with nothing in it.
     NewSegment,
-    /// A segment that is one text, which is not empty, and neither `.` nor `..`.
-    TextSegment,
     /// A segment that may read as `.` or `..`.
     DotSegment,
-    /// A segment whose markup keeps it from that, whatever follows.
+    /// A segment that its markup, or the text with which it begins, keeps from that, whatever follows.
     NamedSegment,
     /// The query.
     Query,
@@ -145,7 +143,7 @@ pub fn slot_at(part: OpenPart) -> Option<UrlSlot>
             place: UrlPlace::Path,
             begins_segment: false,
         }),
-        OpenPart::TextSegment | OpenPart::DotSegment => None,
+        OpenPart::DotSegment => None,
         OpenPart::Query => Some(UrlSlot {
             place: UrlPlace::Query,
             begins_segment: false,
@@ -157,14 +155,15 @@ pub fn slot_at(part: OpenPart) -> Option<UrlSlot>
     }
 }
 
-/// What is open after a text that fills the slot, where this was open before it.
+/// What is open after a text that fills the slot, where this was open before it: a text with which a segment
+/// begins names it, since it is not empty, and neither `.` nor `..`.
 ///
-/// Of `NewSegment` it is `TextSegment`, and of `Query` it is `Query`.
+/// Of `NewSegment` it is `NamedSegment`, and of `Query` it is `Query`.
 pub fn after_text(part: OpenPart) -> OpenPart
     ensures { result ≡ spec.after_text part }
 {
     if part == OpenPart::NewSegment {
-        OpenPart::TextSegment
+        OpenPart::NamedSegment
     } else {
         part
     }

@@ -19,7 +19,7 @@ use Rattle.html_urls.specs.Parts.Rests.{path_of}
 use Rattle.html_urls.specs.Parts.Segments.{HasNoDotSegments, last_segment}
 use Rattle.html_urls.specs.Places.{EndsIn, Fits, SuitsPlace, has_whole_host, is_web_scheme}
 use Rattle.html_urls.specs.declared.open_part.OpenPart.{OpenPart}
-use Rattle.html_urls.specs.declared.open_part.OpenPart.TheVariants.{NewSegment, TextSegment, DotSegment, NamedSegment, Query, Fragment}
+use Rattle.html_urls.specs.declared.open_part.OpenPart.TheVariants.{NewSegment, DotSegment, NamedSegment, Query, Fragment}
 use Rattle.html_urls.specs.declared.parts.UrlFault.TheVariants as fault
 use Rattle.html_urls.specs.declared.parts.UrlSlot.{UrlSlot}
 use Rattle.html_urls.specs.declared.place.UrlPlace.{UrlPlace}
@@ -174,7 +174,6 @@ some_fixed (x ∷ xs) fixed = omega arith
 
 slot_closed : (p : OpenPart) (slot : UrlSlot) → slot_at p ≡ Some slot → may_be_dots p ≡ false
 slot_closed NewSegment slot here = refl
-slot_closed TextSegment slot here = refl
 slot_closed DotSegment slot here = cc
 slot_closed NamedSegment slot here = refl
 slot_closed Query slot here = refl
@@ -182,7 +181,6 @@ slot_closed Fragment slot here = refl
 
 pub slot_in_path : (p : OpenPart) (slot : UrlSlot) → slot_at p ≡ Some slot → in_path p ≡ true → slot.place ≡ place.Path
 slot_in_path NewSegment slot here path = cc
-slot_in_path TextSegment slot here path = cc
 slot_in_path DotSegment slot here path = cc
 slot_in_path NamedSegment slot here path = cc
 slot_in_path Query slot here path = cc
@@ -283,7 +281,6 @@ path_fits front p slot text rest stands path here may good =
   where
     text_in_path : (p : OpenPart) → in_path p ≡ true → in_path (after_text p) ≡ true
     text_in_path NewSegment path = refl
-    text_in_path TextSegment path = refl
     text_in_path DotSegment path = refl
     text_in_path NamedSegment path = refl
     text_in_path Query path = path
@@ -297,7 +294,6 @@ path_fits front p slot text rest stands path here may good =
         let starts : slot.begins_segment ≡ true = cc in
         let both : (nat_lt 0 (length text) && dot_count (component text) == 0) ≡ true = rw starts at may in
         long (and_parts (nat_lt 0 (length text)) (dot_count (component text) == 0) both).0
-    some_text TextSegment here path known = cc
     some_text DotSegment here path known = cc
     some_text NamedSegment here path known = let none = known (46 ∷ []) in absurd (omega (arith, one_dot))
     some_text Query here path known = cc
@@ -307,7 +303,6 @@ pub text_fits : (front : List ℕ) (p : OpenPart) (slot : UrlSlot) (text rest : 
 text_fits front Query slot text rest stands here may good = subst (λ at. Fits at front text rest) (sym (slot_in_query slot here)) tt
 text_fits front Fragment slot text rest stands here may good = subst (λ at. Fits at front text rest) (sym (slot_in_fragment slot here)) tt
 text_fits front NewSegment slot text rest stands here may good = subst (λ at. Fits at front text rest) (sym (slot_in_path NewSegment slot here refl)) (path_fits front NewSegment slot text rest stands refl here may good)
-text_fits front TextSegment slot text rest stands here may good = cc
 text_fits front DotSegment slot text rest stands here may good = cc
 text_fits front NamedSegment slot text rest stands here may good = subst (λ at. Fits at front text rest) (sym (slot_in_path NamedSegment slot here refl)) (path_fits front NamedSegment slot text rest stands refl here may good)
 

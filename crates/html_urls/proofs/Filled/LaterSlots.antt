@@ -12,7 +12,7 @@ use Rattle.html_urls.specs.Parts.Paths.{IsPathText, is_path_byte}
 use Rattle.html_urls.specs.Parts.Rests.{before_fragment, path_of}
 use Rattle.html_urls.specs.Parts.Segments.{HasNoDotSegments, IsNoDotSegment}
 use Rattle.html_urls.specs.declared.open_part.OpenPart.{OpenPart}
-use Rattle.html_urls.specs.declared.open_part.OpenPart.TheVariants.{NewSegment, TextSegment, DotSegment, NamedSegment, Query, Fragment}
+use Rattle.html_urls.specs.declared.open_part.OpenPart.TheVariants.{NewSegment, DotSegment, NamedSegment, Query, Fragment}
 use Rattle.html_urls.specs.declared.parts.UrlFault.{UrlFault}
 use Rattle.html_urls.specs.declared.parts.UrlFault.TheVariants as fault
 use Rattle.html_urls.specs.declared.parts.UrlSlot.{UrlSlot}
@@ -21,7 +21,8 @@ use Rattle.html_urls.specs.Slots.{FillSlots, Given, Markup, Slot, Told, after_sl
 use Rattle.html_urls.proofs.Components.{component_bytes, component_visible, component_without}
 use Rattle.html_urls.proofs.Splits.{kept_visible, split_clear}
 use Rattle.html_urls.proofs.Paths.PathSegments.{split_at, split_one}
-use Rattle.html_urls.proofs.Filled.OpenSegments.{Open, after_segment, closes, in_path, named_more, segment_in_path}
+use Rattle.html_urls.proofs.Filled.NamedTexts.{text_names}
+use Rattle.html_urls.proofs.Filled.OpenSegments.{IsNamed, Open, after_segment, closes, in_path, named_more, segment_in_path}
 
 -- ---- the path of a rest
 
@@ -66,7 +67,6 @@ Good p rest = in_path p ≡ true → GoodRest p rest
 
 pub of_path : (p : OpenPart) (b : ℕ) → in_path p ≡ true → after_byte p b ≡ after_path_byte p b
 of_path NewSegment b path = refl
-of_path TextSegment b path = refl
 of_path DotSegment b path = refl
 of_path NamedSegment b path = refl
 of_path Query b path = cc
@@ -142,13 +142,16 @@ pub text_good : (p : OpenPart) (slot : UrlSlot) (text rest : List ℕ) → slot_
 text_good NewSegment slot text rest is may good path =
     let begins : slot.begins_segment ≡ true = cc in
     let both : (nat_lt 0 (length text) && dot_count (component text) == 0) ≡ true = rw begins at may in
-    let none : dot_count (component text) ≡ 0 = no_dots (and_parts (nat_lt 0 (length text)) (dot_count (component text) == 0) both).1 in
-    over_text NewSegment TextSegment text rest (good refl) (λ s new. ap (λ x. dot_count (x ++ component text)) new ∙ none)
+    let parts = and_parts (nat_lt 0 (length text)) (dot_count (component text) == 0) both in
+    let none : dot_count (component text) ≡ 0 = no_dots parts.1 in
+    over_text NewSegment NamedSegment text rest (good refl) (λ s new. subst (λ x. IsNamed (x ++ component text)) (sym new) (λ more. text_names text more (long parts.0) none))
   where
     no_dots : (dot_count (component text) == 0) ≡ true → dot_count (component text) ≡ 0
     no_dots is = grind (arith, nat_tests)
+
+    long : nat_lt 0 (length text) ≡ true → 0 < length text
+    long is = grind (arith, nat_tests)
 text_good NamedSegment slot text rest is may good path = over_text NamedSegment NamedSegment text rest (good refl) (λ s named. named_more s (component text) named)
-text_good TextSegment slot text rest is may good path = cc
 text_good DotSegment slot text rest is may good path = cc
 text_good Query slot text rest is may good path = cc
 text_good Fragment slot text rest is may good path = cc

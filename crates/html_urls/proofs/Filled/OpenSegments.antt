@@ -6,7 +6,7 @@ use Rattle.std.proofs.lemmas.Bool.Decides.{nat_tests}
 use Rattle.std.proofs.lemmas.List.Elements.{All-head}
 use Rattle.url.specs.Path.{dot_count}
 use Rattle.html_urls.specs.declared.open_part.OpenPart.{OpenPart}
-use Rattle.html_urls.specs.declared.open_part.OpenPart.TheVariants.{NewSegment, TextSegment, DotSegment, NamedSegment, Query, Fragment}
+use Rattle.html_urls.specs.declared.open_part.OpenPart.TheVariants.{NewSegment, DotSegment, NamedSegment, Query, Fragment}
 use Rattle.html_urls.specs.OpenParts.{after_segment_byte, begins_dots, may_be_dots}
 use Rattle.html_urls.specs.Parts.Segments.{is_dot_byte}
 use Rattle.html_urls.proofs.Paths.Opening.{all_left, all_right}
@@ -37,7 +37,6 @@ named_more s t named more = ap dot_count (append_assoc s t more) ∙ named (t ++
 
 abbrev pub Open : OpenPart → List ℕ → Type 0
 Open NewSegment s = s ≡ []
-Open TextSegment s = dot_count s ≡ 0
 Open DotSegment s = ⊤
 Open NamedSegment s = IsNamed s
 Open Query s = ⊤
@@ -45,7 +44,6 @@ Open Fragment s = ⊤
 
 abbrev pub in_path : OpenPart → Bool
 in_path NewSegment = true
-in_path TextSegment = true
 in_path DotSegment = true
 in_path NamedSegment = true
 in_path Query = false
@@ -58,7 +56,6 @@ nothing_is_no_dot = refl
 -- a segment that ends here reads as neither
 pub closes : (p : OpenPart) (s : List ℕ) → in_path p ≡ true → may_be_dots p ≡ false → Open p s → dot_count s ≡ 0
 closes NewSegment s path other is = ap dot_count is ∙ nothing_is_no_dot
-closes TextSegment s path other is = is
 closes DotSegment s path other is = cc
 closes NamedSegment s path other is = ap dot_count (sym (append-nil s)) ∙ is []
 closes Query s path other is = cc
@@ -71,7 +68,6 @@ dot_or_named s b false named = named refl
 -- after a byte of the segment
 pub after_segment : (p : OpenPart) (s : List ℕ) (b : ℕ) → Open p s → Open (after_segment_byte p b) (s ++ b ∷ [])
 after_segment NewSegment s b is = subst (λ x. Open (after_segment_byte NewSegment b) (x ++ b ∷ [])) (sym is) (dot_or_named [] b (begins_dots b) (named_first b))
-after_segment TextSegment s b is = dot_or_named s b (is_dot_byte b) (named_byte s b)
 after_segment DotSegment s b is = dot_or_named s b (is_dot_byte b) (named_byte s b)
 after_segment NamedSegment s b is = named_more s (b ∷ []) is
 after_segment Query s b is = dot_or_named s b (is_dot_byte b) (named_byte s b)
@@ -79,7 +75,6 @@ after_segment Fragment s b is = dot_or_named s b (is_dot_byte b) (named_byte s b
 
 pub segment_in_path : (p : OpenPart) (b : ℕ) → in_path (after_segment_byte p b) ≡ true
 segment_in_path NewSegment b = ⊎_elim (λ (yes : begins_dots b ≡ true). rw yes refl) (λ (no : begins_dots b ≡ false). rw no refl) (cases_Bool (begins_dots b))
-segment_in_path TextSegment b = ⊎_elim (λ (yes : is_dot_byte b ≡ true). rw yes refl) (λ (no : is_dot_byte b ≡ false). rw no refl) (cases_Bool (is_dot_byte b))
 segment_in_path DotSegment b = ⊎_elim (λ (yes : is_dot_byte b ≡ true). rw yes refl) (λ (no : is_dot_byte b ≡ false). rw no refl) (cases_Bool (is_dot_byte b))
 segment_in_path NamedSegment b = refl
 segment_in_path Query b = ⊎_elim (λ (yes : is_dot_byte b ≡ true). rw yes refl) (λ (no : is_dot_byte b ≡ false). rw no refl) (cases_Bool (is_dot_byte b))

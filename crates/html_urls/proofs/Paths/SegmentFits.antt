@@ -25,7 +25,7 @@ pub dot_kept : should_percent_encode COMPONENT 46 ≡ false
 unfolding should_percent_encode
 dot_kept = refl
 
-percent_escaped : should_percent_encode COMPONENT 37 ≡ true
+pub percent_escaped : should_percent_encode COMPONENT 37 ≡ true
 unfolding should_percent_encode
 percent_escaped = refl
 

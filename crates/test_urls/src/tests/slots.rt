@@ -75,13 +75,12 @@ const FRONTS: [(&str, UrlFault); 28] = [
 ];
 
 // What stands behind `/a/` and a slot, and its fault.
-const RESTS: [(&str, UrlFault); 8] = [
+const RESTS: [(&str, UrlFault); 7] = [
     ("/../b", UrlFault::DotSegment(2)),
     ("/..", UrlFault::DotSegment(2)),
     ("/%2E?q", UrlFault::DotSegment(2)),
     ("/.#s", UrlFault::DotSegment(2)),
-    (".", UrlFault::DotSegment(2)),
-    ("%2e/b", UrlFault::DotSegment(2)),
+    ("/%2e/b", UrlFault::DotSegment(2)),
     ("/b ", UrlFault::NotPlain(2)),
     ("?q=\u{7F}", UrlFault::NotPlain(2)),
 ];
@@ -157,6 +156,28 @@ fn each_slot_is_told_with_its_place(rt: HostRuntime) -> Result<(), Fail> {
             &[IN_SEGMENT]
         )
     );
+    assert!(rt;
+        are_slots(
+            rt.alloc(),
+            &[Markup("/a/"), Slot, Markup("%2e/b")],
+            &[BEGINS]
+        )
+    );
+    assert!(rt; are_slots(rt.alloc(), &[Markup("/b/"), Slot, Markup(".")], &[BEGINS]));
+    assert!(rt;
+        are_slots(
+            rt.alloc(),
+            &[Markup("/d/"), Slot, Slot],
+            &[BEGINS, IN_SEGMENT]
+        )
+    );
+    assert!(rt;
+        are_slots(
+            rt.alloc(),
+            &[Markup("/img/"), Slot, Markup("."), Slot],
+            &[BEGINS, IN_SEGMENT]
+        )
+    );
     assert!(rt; are_slots(rt.alloc(), &[Markup("a?b/"), Slot], &[IN_QUERY]));
     assert!(rt; are_slots(rt.alloc(), &[Markup("a/b:c/"), Slot], &[BEGINS]));
     assert!(rt;
@@ -191,13 +212,6 @@ fn each_fault_names_its_part(rt: HostRuntime) -> Result<(), Fail> {
             "{rest:?}"
         );
     }
-    assert!(rt;
-        is_fault(
-            rt.alloc(),
-            &[Markup("/a/"), Slot, Slot],
-            UrlFault::DotSegment(2)
-        )
-    );
     assert!(rt; is_fault(rt.alloc(), &[Slot, Markup(":x")], UrlFault::NotFixed(0)));
     Ok(())
 }
@@ -210,11 +224,11 @@ fn slots_are_told_part_by_part(rt: HostRuntime) -> Result<(), Fail> {
     assert!(rt; open_of(b"//").is_none() && open_of(b"javascript:x?").is_none());
     assert!(rt; slot_at(OpenPart::NewSegment) == Some(BEGINS));
     assert!(rt; slot_at(OpenPart::DotSegment).is_none());
-    assert!(rt; after_text(OpenPart::NewSegment) == OpenPart::TextSegment);
-    assert!(rt; after_markup(OpenPart::TextSegment, b"?q=") == Some(OpenPart::Query));
-    assert!(rt; after_markup(OpenPart::TextSegment, b"/../b").is_none());
-    assert!(rt; after_markup(OpenPart::TextSegment, b"/%2") == Some(OpenPart::DotSegment));
-    assert!(rt; may_be_dots(OpenPart::DotSegment) && !may_be_dots(OpenPart::TextSegment));
+    assert!(rt; after_text(OpenPart::NewSegment) == OpenPart::NamedSegment);
+    assert!(rt; after_markup(OpenPart::NamedSegment, b"?q=") == Some(OpenPart::Query));
+    assert!(rt; after_markup(OpenPart::NamedSegment, b"/../b").is_none());
+    assert!(rt; after_markup(OpenPart::NamedSegment, b"/%2") == Some(OpenPart::DotSegment));
+    assert!(rt; may_be_dots(OpenPart::DotSegment) && !may_be_dots(OpenPart::NamedSegment));
     Ok(())
 }
 
