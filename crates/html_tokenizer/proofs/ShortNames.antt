@@ -39,6 +39,8 @@ short_content content name normal other short =
       no (codes "select") (omega arith),
       no (codes "noscript") (omega arith),
       no (codes "iframe") (omega arith),
+      no (codes "embed") (omega arith),
+      no (codes "object") (omega arith),
       parts.0,
       no (codes "img") (omega arith),
       no (codes "input") (omega arith),

@@ -2,7 +2,7 @@
 pub(crate) mod encodings;
 
 ghost use Rattle.std.specs.Prelude.{◌≡◌, ℕ, List, [], true};
-ghost use Rattle.html_tokenizer.specs.Tokenizer.Attributes.{attribute_of, content_after, followed, holds_language, holds_url, holds_urls, is_javascript, is_script_tag, is_switch, names_script_type, raw_value, reference_read, value_byte_read, value_of};
+ghost use Rattle.html_tokenizer.specs.Tokenizer.Attributes.{attribute_of, content_after, followed, holds_language, holds_url, holds_urls, is_javascript, is_script_tag, is_switch, names_script_type, raw_value, reference_read, value_but_of, value_byte_read, value_of};
 ghost use Rattle.html_tokenizer.specs.Tokenizer.Elements.{is_meta};
 ghost use Rattle.html_tokenizer.specs.Tokenizer.Phases.{attribute_in, moved, word_after};
 
@@ -46,9 +46,16 @@ fn holds_urls(name: &[u8]) -> bool
 fn is_switch(name: &[u8]) -> bool
     ensures { result ≡ is_switch name.now }
 {
-    name == b"shadowrootmode".as_slice()
-        || name == b"shadowroot".as_slice()
+    name == b"sandbox".as_slice()
+        || name == b"allow".as_slice()
+        || name == b"csp".as_slice()
         || name == b"code".as_slice()
+        || name == b"classid".as_slice()
+        || name == b"event".as_slice()
+        || name == b"is".as_slice()
+        || name == b"shadowrootmode".as_slice()
+        || name == b"shadowroot".as_slice()
+        || name == b"shadowrootadoptedstylesheets".as_slice()
         || name == b"charset".as_slice()
 }
 
@@ -89,6 +96,19 @@ fn is_javascript(value: &[u8]) -> bool
         || value == b"application/javascript".as_slice()
 }
 
+// After the `=` of an attribute, in which a slot is also barred if it is this one.
+#[inline(always)]
+fn value_but_of(barred: &[u8], content: Content, name: &[u8]) -> Move
+    ensures { moved result name.now ≡ value_but_of barred.now content name.now }
+{
+    let kind = if name == barred {
+        Kind::Forbidden
+    } else {
+        attribute_of(name)
+    };
+    in_value(Phase::BeforeValue, content, kind, Word::New)
+}
+
 // After the `=` of an attribute of a script, or of a data block.
 #[inline(always)]
 fn script_value(content: Content, name: &[u8]) -> Move
@@ -96,7 +116,7 @@ fn script_value(content: Content, name: &[u8]) -> Move
     ensures { moved result name.now ≡ value_of content name.now }
 {
     if !names_script_type(name) {
-        return in_value(Phase::BeforeValue, content, attribute_of(name), Word::New);
+        return value_but_of(b"for", content, name);
     }
     let kind = if content.element == OpenElement::Script && name == b"type".as_slice() {
         Kind::ScriptType
@@ -152,6 +172,10 @@ pub(crate) fn value_of(content: Content, name: &[u8]) -> Move
             let kind = followed(attribute_of(name));
             in_value(Phase::BeforeValue, content, kind, Word::New)
         }
+        OpenElement::EmbedTag
+        | OpenElement::SvgEmbedTag
+        | OpenElement::MathEmbedTag
+        | OpenElement::SelectEmbedTag => value_but_of(b"type", content, name),
         OpenElement::NoScript | OpenElement::NoScriptStyle | OpenElement::NoScriptFrame => {
             raw_value(content, name)
         }

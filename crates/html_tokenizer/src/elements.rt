@@ -5,7 +5,9 @@ ghost use Rattle.std.specs.Prelude.{◌≡◌, ◌||◌, ℕ, List, bytes_eq, co
 ghost use Rattle.html_tokenizer.specs.Tokenizer.Elements.{around, beside, closed, content_of, content_state, element_of, ends_content, follows_urls, holds_comments, holds_markup, in_normal, inside, inside_element, is_meta, is_template, with_element};
 ghost use Rattle.html_tokenizer.specs.Tokenizer.Phases.{state_of};
 
-use crate::elements::restricted::{in_math, in_noscript, in_select, in_svg, is_left_out};
+use crate::elements::restricted::{
+    in_math, in_noscript, in_select, in_svg, is_left_out, runs_by_type,
+};
 use crate::slot_place::SlotPlace;
 use crate::states::{Code, Phase};
 
@@ -44,6 +46,14 @@ pub enum OpenElement {
     MetaType,
     /// The tag of an element that only shows or follows its URLs, as `a` and `img`.
     LinkTag,
+    /// The tag of an `embed` or an `object`.
+    EmbedTag,
+    /// The same in an `svg`.
+    SvgEmbedTag,
+    /// The same in a `math`.
+    MathEmbedTag,
+    /// The same in a `select`.
+    SelectEmbedTag,
     /// The tag of an `svg`.
     SvgTag,
     /// In an `svg`, text up to the end tag of `title`.
@@ -127,6 +137,8 @@ fn in_normal(name: &[u8]) -> Option<OpenElement>
         Some(OpenElement::NoScript)
     } else if name == b"iframe".as_slice() {
         Some(OpenElement::Frame)
+    } else if runs_by_type(name) {
+        Some(OpenElement::EmbedTag)
     } else if follows_urls(name) {
         Some(OpenElement::LinkTag)
     } else if is_left_out(name) {
@@ -224,10 +236,12 @@ fn inside_element(element: OpenElement) -> OpenElement
         | OpenElement::MetaContent
         | OpenElement::MetaPragma
         | OpenElement::MetaType
-        | OpenElement::LinkTag => OpenElement::Normal,
+        | OpenElement::LinkTag
+        | OpenElement::EmbedTag => OpenElement::Normal,
         OpenElement::DataBlock => OpenElement::Script,
-        OpenElement::SvgTag => OpenElement::Svg,
-        OpenElement::MathTag => OpenElement::Math,
+        OpenElement::SvgTag | OpenElement::SvgEmbedTag => OpenElement::Svg,
+        OpenElement::MathTag | OpenElement::MathEmbedTag => OpenElement::Math,
+        OpenElement::SelectEmbedTag => OpenElement::Select,
         _ => element,
     }
 }

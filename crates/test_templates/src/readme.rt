@@ -494,7 +494,7 @@ static URLS: [(&str, TemplateFault, &str); 26] = [
 ];
 
 // Sources, and the fault of each.
-static FAULTS: [(&str, SourceFault); 46] = [
+static FAULTS: [(&str, SourceFault); 56] = [
     ("<xmp>", NoTemplate(Malformed(0))),
     ("<p {{a}}>", NoTemplate(NoPlace(1))),
     ("<!-- {{a}} -->", NoTemplate(NoPlace(1))),
@@ -547,6 +547,19 @@ static FAULTS: [(&str, SourceFault); 46] = [
     ),
     ("<template shadowroot=\"{{a}}\">", NoTemplate(Forbidden(1))),
     ("<embed code=\"{{a}}\">", NoTemplate(Forbidden(1))),
+    ("<object classid=\"{{a}}\">", NoTemplate(Forbidden(1))),
+    ("<script event=\"{{a}}\">", NoTemplate(Forbidden(1))),
+    ("<p is=\"{{a}}\">", NoTemplate(Forbidden(1))),
+    (
+        "<template shadowrootadoptedstylesheets=\"{{a}}\">",
+        NoTemplate(Forbidden(1)),
+    ),
+    ("<iframe sandbox=\"{{a}}\">", NoTemplate(Forbidden(1))),
+    ("<iframe allow=\"{{a}}\">", NoTemplate(Forbidden(1))),
+    ("<iframe csp=\"{{a}}\">", NoTemplate(Forbidden(1))),
+    ("<embed type=\"{{a}}\">", NoTemplate(Forbidden(1))),
+    ("<svg><object type=\"{{a}}\">", NoTemplate(Forbidden(1))),
+    ("<script for=\"{{a}}\">", NoTemplate(Forbidden(1))),
     ("<meta http-equiv=\"{{a}}\">", NoTemplate(Forbidden(1))),
     (
         "<meta http-equiv=\"refresh\" content=\"{{a}}\">",

@@ -6,7 +6,7 @@ use Rattle.hesc_specs.specs.Text.Ascii.{less_than}
 use Rattle.hesc_specs.specs.Text.Words.{begins}
 use Rattle.html_tokenizer.specs.declared.elements.Content.{Content}
 use Rattle.html_tokenizer.specs.declared.elements.OpenElement.{OpenElement}
-use Rattle.html_tokenizer.specs.declared.elements.OpenElement.TheVariants.{Script, DataBlock, Meta, MetaContent, MetaPragma, MetaType, LinkTag, NoScript, NoScriptStyle, NoScriptFrame}
+use Rattle.html_tokenizer.specs.declared.elements.OpenElement.TheVariants.{Script, DataBlock, Meta, MetaContent, MetaPragma, MetaType, LinkTag, EmbedTag, SvgEmbedTag, MathEmbedTag, SelectEmbedTag, NoScript, NoScriptStyle, NoScriptFrame}
 use Rattle.html_tokenizer.specs.Tokenizer.Attributes.Encodings.{is_utf_8, names_no_other}
 use Rattle.html_tokenizer.specs.Tokenizer.States.{Tokenizer, Attribute, Ordinary, Forbidden, Link, Url, ScriptType, Encoding, Pragma, PageType, Unread, Raw, BeforeValue, at_value, refused}
 use Rattle.html_tokenizer.specs.Tokenizer.Elements.{with_element}
@@ -30,12 +30,16 @@ holds_urls name =
     bytes_eq name (codes "ping") || bytes_eq name (codes "srcset") || bytes_eq name (codes "imagesrcset") ||
     bytes_eq name (codes "archive") || bytes_eq name (codes "attributionsrc")
 
--- values that switch something on: a tree of code in a `template` (4.12.3), what an `embed` or an `object` runs,
--- an encoding
+-- values that decide what runs: a framed page's scripts, in this page's origin too, and what else it may do (4.8.5 The
+-- iframe element); what an `embed` or an `object` runs (4.8.6, 4.8.7); the event at which an old script is run
+-- (4.12.1); the class whose constructor is called (4.13 Custom elements); that the content of a `template` is its
+-- parent's tree, and with which styles (4.12.3); an encoding
 abbrev pub is_switch : List ℕ → Bool
 is_switch name =
-    bytes_eq name (codes "shadowrootmode") || bytes_eq name (codes "shadowroot") || bytes_eq name (codes "code") ||
-    bytes_eq name (codes "charset")
+    bytes_eq name (codes "sandbox") || bytes_eq name (codes "allow") || bytes_eq name (codes "csp") ||
+    bytes_eq name (codes "code") || bytes_eq name (codes "classid") || bytes_eq name (codes "event") ||
+    bytes_eq name (codes "is") || bytes_eq name (codes "shadowrootmode") || bytes_eq name (codes "shadowroot") ||
+    bytes_eq name (codes "shadowrootadoptedstylesheets") || bytes_eq name (codes "charset")
 
 abbrev pub attribute_of : List ℕ → Attribute
 attribute_of name =
@@ -80,6 +84,10 @@ plain_value content name = at_value BeforeValue content (attribute_of name)
 abbrev pub forbidden_value : Content → Tokenizer
 forbidden_value content = at_value BeforeValue content Forbidden
 
+-- the same but of this attribute
+abbrev pub value_but_of : List ℕ → Content → List ℕ → Tokenizer
+value_but_of barred content name = if bytes_eq name barred then forbidden_value content else plain_value content name
+
 -- of a `meta` of which this is the value of `http-equiv`, of `content`, and else
 abbrev pub meta_value : Tokenizer → Tokenizer → Content → List ℕ → Tokenizer
 meta_value pragma described content name =
@@ -92,20 +100,25 @@ meta_value pragma described content name =
 abbrev pub raw_value : Content → List ℕ → Tokenizer
 raw_value content name = if is_charset name || is_http_equiv name then refused else at_value BeforeValue content Raw
 
--- after the `=` of an attribute: a script is a data block unless its one type is JavaScript's; a `meta` has one
--- `http-equiv`, and not after a `content`, which might hold a slot
+-- after the `=` of an attribute: a script is a data block unless its one type is JavaScript's, and with a `for` other
+-- than `window` it is passed over (4.12.1); a `meta` has one `http-equiv`, which `content_after` judges behind a
+-- `content`; of the `type` `text/html` an `embed` or an `object` runs its resource as a page (4.8.6, 4.8.7)
 abbrev pub value_in : OpenElement → Content → List ℕ → Tokenizer
 value_in Script content name =
     if bytes_eq name (codes "type") then at_value BeforeValue (with_element content DataBlock) (ScriptType [])
     else (if names_script_type name then forbidden_value (with_element content DataBlock)
-    else plain_value content name)
+    else value_but_of (codes "for") content name)
 value_in DataBlock content name =
-    if names_script_type name then forbidden_value content else plain_value content name
+    if names_script_type name then forbidden_value content else value_but_of (codes "for") content name
 value_in Meta content name =
     meta_value (at_value BeforeValue (with_element content MetaPragma) (Pragma [])) (plain_value (with_element content MetaContent) name) content name
 value_in MetaContent content name = meta_value refused (plain_value content name) content name
 value_in MetaPragma content name = meta_value refused (forbidden_value content) content name
 value_in MetaType content name = meta_value refused (at_value BeforeValue content (PageType [])) content name
+value_in EmbedTag content name = value_but_of (codes "type") content name
+value_in SvgEmbedTag content name = value_but_of (codes "type") content name
+value_in MathEmbedTag content name = value_but_of (codes "type") content name
+value_in SelectEmbedTag content name = value_but_of (codes "type") content name
 value_in LinkTag content name = at_value BeforeValue content (followed (attribute_of name))
 value_in NoScript content name = raw_value content name
 value_in NoScriptStyle content name = raw_value content name

@@ -1,6 +1,6 @@
 //! Which elements are taken in the contents of `svg`, `math`, `select` and `noscript`.
 ghost use Rattle.std.specs.Prelude.{◌≡◌};
-ghost use Rattle.html_tokenizer.specs.Tokenizer.Elements.Restricted.{in_math, in_noscript, in_select, in_svg, is_left_out, is_left_out_of_svg, is_not_foreign, is_read_apart, is_text_alone};
+ghost use Rattle.html_tokenizer.specs.Tokenizer.Elements.Restricted.{in_math, in_noscript, in_select, in_svg, is_left_out, is_left_out_of_svg, is_not_foreign, is_read_apart, is_text_alone, runs_by_type};
 
 use crate::elements::OpenElement;
 
@@ -13,6 +13,12 @@ pub(crate) fn is_left_out(name: &[u8]) -> bool
         || name == b"noembed".as_slice()
         || name == b"noframes".as_slice()
         || name == b"frameset".as_slice()
+}
+
+pub(crate) fn runs_by_type(name: &[u8]) -> bool
+    ensures { result ≡ runs_by_type name.now }
+{
+    name == b"embed".as_slice() || name == b"object".as_slice()
 }
 
 fn is_read_apart(name: &[u8]) -> bool
@@ -57,6 +63,8 @@ pub(crate) fn in_svg(name: &[u8]) -> Option<OpenElement>
         Some(OpenElement::SvgStyle)
     } else if is_not_foreign(name) || is_left_out_of_svg(name) {
         None
+    } else if runs_by_type(name) {
+        Some(OpenElement::SvgEmbedTag)
     } else {
         Some(OpenElement::Svg)
     }
@@ -77,6 +85,8 @@ pub(crate) fn in_math(name: &[u8]) -> Option<OpenElement>
         Some(OpenElement::MathMtext)
     } else if is_not_foreign(name) {
         None
+    } else if runs_by_type(name) {
+        Some(OpenElement::MathEmbedTag)
     } else {
         Some(OpenElement::Math)
     }
@@ -87,6 +97,8 @@ pub(crate) fn in_select(name: &[u8]) -> Option<OpenElement>
 {
     if is_read_apart(name) || name == b"meta".as_slice() {
         None
+    } else if runs_by_type(name) {
+        Some(OpenElement::SelectEmbedTag)
     } else {
         Some(OpenElement::Select)
     }

@@ -352,7 +352,7 @@ fn modules_of_scripts(rt: HostRuntime) {
     hold(&rt, rt.alloc(), &MODULES);
 }
 
-static SWITCHES: [Row; 7] = [
+static SWITCHES: [Row; 35] = [
     ("<template shadowroot=", "></template>", Some(Forbidden(1))),
     (
         "<template shadowrootmode=\"",
@@ -364,6 +364,62 @@ static SWITCHES: [Row; 7] = [
     ("<object CODE=", "></object>", Some(Forbidden(1))),
     ("<object codetype='", "'></object>", None),
     ("<a hrefcharset='", "'>", None),
+    (
+        "<iframe sandbox=\"allow-scripts ",
+        "\"></iframe>",
+        Some(Forbidden(1)),
+    ),
+    ("<iframe allow='", "'></iframe>", Some(Forbidden(1))),
+    ("<iframe csp=", "></iframe>", Some(Forbidden(1))),
+    (
+        "<noscript></noscript><IFRAME SandBox='",
+        "'></IFRAME>",
+        Some(Forbidden(1)),
+    ),
+    ("<object classid=", "></object>", Some(Forbidden(1))),
+    (
+        "<script event='",
+        "' for=window></script>",
+        Some(Forbidden(1)),
+    ),
+    ("<script for=", "></script>", Some(Forbidden(1))),
+    (
+        "<script type=a/b for=\"",
+        "\"></script>",
+        Some(Forbidden(1)),
+    ),
+    ("<label for='", "'></label>", None),
+    ("<button is=", "></button>", Some(Forbidden(1))),
+    (
+        "<template shadowrootmode=open shadowrootadoptedstylesheets='",
+        "'></template>",
+        Some(Forbidden(1)),
+    ),
+    ("<embed type=", ">", Some(Forbidden(1))),
+    ("<EMBED src=/a TYPE=\"text/", "\">", Some(Forbidden(1))),
+    ("<object type='", "'></object>", Some(Forbidden(1))),
+    ("<svg><embed type='", "'></svg>", Some(Forbidden(1))),
+    ("<svg><object type='", "'/></svg>", Some(Forbidden(1))),
+    ("<math><embed type='", "'></math>", Some(Forbidden(1))),
+    ("<math><object type='", "'></math>", Some(Forbidden(1))),
+    ("<select><embed type='", "'></select>", Some(Forbidden(1))),
+    ("<select><object type='", "'></select>", Some(Forbidden(1))),
+    (
+        "<template><object type='",
+        "'></template>",
+        Some(Forbidden(1)),
+    ),
+    (
+        "<noscript><object type='",
+        "'></noscript>",
+        Some(Forbidden(1)),
+    ),
+    ("<object type=a/b title='", "'></object>", None),
+    ("<object></object><p type='", "'>", None),
+    ("<svg><object></object><a type='", "'></svg>", None),
+    ("<math><embed><a type='", "'></math>", None),
+    ("<select><object/><option type='", "'></select>", None),
+    ("<input type=", ">", None),
 ];
 
 #[test]

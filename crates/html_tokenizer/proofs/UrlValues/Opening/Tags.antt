@@ -9,7 +9,7 @@ use Rattle.html_tokenizer.specs.Tokenizer.Actions.{Action, NewEndTag, TagNameByt
 use Rattle.html_tokenizer.specs.Tokenizer.Elements.{closed, content_of, content_state, ends_content, with_element}
 use Rattle.html_tokenizer.specs.Tokenizer.States.{BeforeName, EndTagName, Ordinary, State, TagName, Tokenizer}
 use Rattle.html_tokenizer.specs.Tokenizer.Transitions.{Transition, goes, moves, reconsumes, refuses}
-use Rattle.html_tokenizer.specs.Tokenizer.Tags.{after_element_name, closed_itself, end_tag_byte, end_tag_name_byte, ends_name, first_name_byte, in_tag, name_byte, opened, tag_name_byte}
+use Rattle.html_tokenizer.specs.Tokenizer.Tags.{after_element_name, closed_itself, end_tag_byte, end_tag_name_byte, ends_name, first_name_byte, in_tag, name_byte, opened, tag_name_byte, tag_open_byte}
 use Rattle.html_tokenizer.specs.Tokenizer.Tags.EndTags.{is_appropriate, held_end_tag_byte}
 use Rattle.html_tokenizer.specs.UrlValues.{is_url}
 use Rattle.html_tokenizer.proofs.UrlValues.Names.{content_unnamed, is_named, may_open, neither_opens}
@@ -57,6 +57,9 @@ first_name_holds_none content b = grind arith
 
 pub name_holds_none : (content : Content) (name : List ℕ) (b : ℕ) → HoldsNone (name_byte content name b)
 name_holds_none content name b = grind arith
+
+pub tag_open_opens_none : (content : Content) (b : ℕ) → OpensNone (tag_open_byte content b)
+tag_open_opens_none content b = grind arith
 
 named_opens_none : (content : Option Content) (b : ℕ) → OpensNone (after_element_name content b)
 named_opens_none None b = refl

@@ -1,13 +1,17 @@
 -- Which elements are taken in the contents of `svg`, `math`, `select` and `noscript`.
 use Rattle.std.specs.Prelude.{ℕ, Bool, true, false, ◌||◌, List, Option, Some, None, if◌then◌else◌, bytes_eq, codes}
 use Rattle.html_tokenizer.specs.declared.elements.OpenElement.{OpenElement}
-use Rattle.html_tokenizer.specs.declared.elements.OpenElement.TheVariants.{Svg, SvgTitle, SvgStyle, Math, MathMi, MathMo, MathMn, MathMs, MathMtext, Select, NoScript, NoScriptStyle, NoScriptFrame}
+use Rattle.html_tokenizer.specs.declared.elements.OpenElement.TheVariants.{Svg, SvgEmbedTag, SvgTitle, SvgStyle, Math, MathEmbedTag, MathMi, MathMo, MathMn, MathMs, MathMtext, Select, SelectEmbedTag, NoScript, NoScriptStyle, NoScriptFrame}
 
 -- elements whose content the tree construction reads in ways of its own (13.2.6), which this profile leaves out
 abbrev pub is_left_out : List ℕ → Bool
 is_left_out name =
     bytes_eq name (codes "xmp") || bytes_eq name (codes "plaintext") || bytes_eq name (codes "noembed") ||
     bytes_eq name (codes "noframes") || bytes_eq name (codes "frameset")
+
+-- elements whose `type` says as what their resource runs: 4.8.6 The embed element, 4.8.7 The object element
+abbrev pub runs_by_type : List ℕ → Bool
+runs_by_type name = bytes_eq name (codes "embed") || bytes_eq name (codes "object")
 
 -- elements whose content is read in a way of its own in HTML, and not in the content of an `svg`, a `math` or a
 -- `select`
@@ -37,7 +41,8 @@ in_svg name =
     if bytes_eq name (codes "title") then Some SvgTitle
     else (if bytes_eq name (codes "style") then Some SvgStyle
     else (if is_not_foreign name || is_left_out_of_svg name then None
-    else Some Svg))
+    else (if runs_by_type name then Some SvgEmbedTag
+    else Some Svg)))
 
 -- the same of a `math`. The MathML text integration points (13.2.6) have text alone, since behind an element in
 -- them a browser passes over the end tag `math`
@@ -49,12 +54,16 @@ in_math name =
     else (if bytes_eq name (codes "ms") then Some MathMs
     else (if bytes_eq name (codes "mtext") then Some MathMtext
     else (if is_not_foreign name then None
-    else Some Math)))))
+    else (if runs_by_type name then Some MathEmbedTag
+    else Some Math))))))
 
 -- the content of a `select`: browsers before 2025 drop most start tags in it, and others read them (13.2.6.4.7).
 -- No matter, since none of those is taken that would switch the tokenizer
 abbrev pub in_select : List ℕ → Option OpenElement
-in_select name = if is_read_apart name || bytes_eq name (codes "meta") then None else Some Select
+in_select name =
+    if is_read_apart name || bytes_eq name (codes "meta") then None
+    else (if runs_by_type name then Some SelectEmbedTag
+    else Some Select)
 
 -- the content of a `noscript`, 13.2.6.4.4 and 13.2.6.4.7: raw text (13.2.5.3) where scripts run, and else markup.
 -- Taken is what ends at the same end tag in both
