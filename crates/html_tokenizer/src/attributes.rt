@@ -2,7 +2,7 @@
 pub(crate) mod encodings;
 
 ghost use Rattle.std.specs.Prelude.{◌≡◌, ℕ, List, [], true};
-ghost use Rattle.html_tokenizer.specs.Tokenizer.Attributes.{attribute_of, content_after, followed, holds_language, holds_url, holds_urls, is_javascript, is_script_tag, is_switch, names_script_type, raw_value, reference_read, value_but_of, value_byte_read, value_of};
+ghost use Rattle.html_tokenizer.specs.Tokenizer.Attributes.{attribute_of, content_after, content_after_pragma, followed, holds_language, holds_url, holds_urls, is_javascript, is_script_tag, is_switch, names_script_type, raw_value, reference_read, value_but_of, value_byte_read, value_of};
 ghost use Rattle.html_tokenizer.specs.Tokenizer.Elements.{is_meta};
 ghost use Rattle.html_tokenizer.specs.Tokenizer.Phases.{attribute_in, moved, word_after};
 
@@ -138,6 +138,7 @@ fn meta_value(content: Content, name: &[u8]) -> Move
         _ if name == b"charset".as_slice() => (content.element, Kind::Encoding),
         _ if !pragma && !described => (content.element, attribute_of(name)),
         OpenElement::Meta if pragma => (OpenElement::MetaPragma, Kind::Pragma),
+        OpenElement::MetaContent if pragma => (OpenElement::MetaContent, Kind::Pragma),
         _ if pragma => return refuses(),
         OpenElement::Meta | OpenElement::MetaContent => {
             (OpenElement::MetaContent, attribute_of(name))
@@ -194,14 +195,27 @@ pub(crate) fn content_after(content: Content, kind: Kind, word: &[u8]) -> Option
     }
 }
 
+fn content_after_pragma(content: Content, name: &[u8]) -> Option<Content>
+    ensures { result ≡ content_after_pragma content.element content name.now }
+{
+    match content.element {
+        OpenElement::MetaContent if name == b"x-ua-compatible".as_slice() => {
+            Some(with_element(content, OpenElement::MetaPragma))
+        }
+        OpenElement::MetaContent => None,
+        _ if name == b"content-type".as_slice() => {
+            Some(with_element(content, OpenElement::MetaType))
+        }
+        _ => Some(content),
+    }
+}
+
 fn content_after_word(content: Content, kind: Kind, word: &[u8]) -> Option<Content>
     ensures { result ≡ content_after content (attribute_in kind word.now) }
 {
     match kind {
         Kind::ScriptType if is_javascript(word) => Some(with_element(content, OpenElement::Script)),
-        Kind::Pragma if word == b"content-type".as_slice() => {
-            Some(with_element(content, OpenElement::MetaType))
-        }
+        Kind::Pragma => content_after_pragma(content, word),
         Kind::Encoding if !is_utf_8(word) => None,
         Kind::PageType if !names_no_other(word) => None,
         Kind::Unread => None,

@@ -75,6 +75,7 @@ static TAKEN: [&str; 36] = [
     "<meta charset=\"utf-8\">",
     "<meta http-equiv=\"Content-Type\" content=\"text/html; charset=UTF-8\">",
     "<meta name=\"author\" content=\"{{a}}\">",
+    "<meta content=\"IE=edge\" http-equiv=\"X-UA-Compatible\">",
     "<svg viewBox=\"0 0 9 9\"><title>{{a}}</title><path id=\"{{b}}\"/></svg>",
     "<svg><style>g > a { fill: red }</style></svg>{{a}}",
     "<math><mi>{{a}}</mi><mo>=</mo><mn>{{b}}</mn></math>",

@@ -101,8 +101,8 @@ abbrev pub raw_value : Content → List ℕ → Tokenizer
 raw_value content name = if is_charset name || is_http_equiv name then refused else at_value BeforeValue content Raw
 
 -- after the `=` of an attribute: a script is a data block unless its one type is JavaScript's, and with a `for` other
--- than `window` it is passed over (4.12.1); a `meta` has one `http-equiv`, which `content_after` judges behind a
--- `content`; of the `type` `text/html` an `embed` or an `object` runs its resource as a page (4.8.6, 4.8.7)
+-- than `window` it is passed over (4.12.1); a `meta` has one `http-equiv`; of the `type` `text/html` an `embed` or an
+-- `object` runs its resource as a page (4.8.6, 4.8.7)
 abbrev pub value_in : OpenElement → Content → List ℕ → Tokenizer
 value_in Script content name =
     if bytes_eq name (codes "type") then at_value BeforeValue (with_element content DataBlock) (ScriptType [])
@@ -112,7 +112,7 @@ value_in DataBlock content name =
     if names_script_type name then forbidden_value content else value_but_of (codes "for") content name
 value_in Meta content name =
     meta_value (at_value BeforeValue (with_element content MetaPragma) (Pragma [])) (plain_value (with_element content MetaContent) name) content name
-value_in MetaContent content name = meta_value refused (plain_value content name) content name
+value_in MetaContent content name = meta_value (at_value BeforeValue content (Pragma [])) (plain_value content name) content name
 value_in MetaPragma content name = meta_value refused (forbidden_value content) content name
 value_in MetaType content name = meta_value refused (at_value BeforeValue content (PageType [])) content name
 value_in EmbedTag content name = value_but_of (codes "type") content name
@@ -128,11 +128,18 @@ value_in other content name = plain_value content name
 abbrev pub value_of : Content → List ℕ → Tokenizer
 value_of content name = value_in content.element content name
 
+-- after the value of an `http-equiv`: 4.2.5.3 Pragma directives. Behind a `content`, in which a slot may have stood,
+-- only the one that user agents are required to ignore
+abbrev pub content_after_pragma : OpenElement → Content → List ℕ → Option Content
+content_after_pragma MetaContent content name =
+    if bytes_eq name (codes "x-ua-compatible") then Some (with_element content MetaPragma) else None
+content_after_pragma other content name = Some (if bytes_eq name (codes "content-type") then with_element content MetaType else content)
+
 -- after the value of an attribute, if the profile has it
 abbrev pub content_after : Content → Attribute → Option Content
 content_after content (ScriptType type) = Some (if is_javascript type then with_element content Script else content)
 content_after content (Encoding label) = if is_utf_8 label then Some content else None
-content_after content (Pragma name) = Some (if bytes_eq name (codes "content-type") then with_element content MetaType else content)
+content_after content (Pragma name) = content_after_pragma content.element content name
 content_after content (PageType value) = if names_no_other value then Some content else None
 content_after content Unread = None
 content_after content other = Some content

@@ -79,7 +79,7 @@ fn urls_of_styles(rt: HostRuntime) {
     hold(&rt, rt.alloc(), &URLS);
 }
 
-static ENCODINGS: [Row; 32] = [
+static ENCODINGS: [Row; 42] = [
     ("<meta charset=\"", "\">", Some(Forbidden(1))),
     ("<script charset=", "></script>", Some(Forbidden(1))),
     ("<meta http-equiv='", "' content=x>", Some(Forbidden(1))),
@@ -112,6 +112,56 @@ static ENCODINGS: [Row; 32] = [
         "<meta content='text/html; charset=utf-8' http-equiv=content-type>",
         "",
         Some(Malformed(0)),
+    ),
+    (
+        "<meta content='text/html' http-equiv=content-type>",
+        "",
+        Some(Malformed(0)),
+    ),
+    (
+        "<meta content='0;url=/a' http-equiv=refresh>",
+        "",
+        Some(Malformed(0)),
+    ),
+    (
+        "<meta content='IE=edge' http-equiv='X-UA&#45;Compatible'>",
+        "",
+        Some(Malformed(0)),
+    ),
+    (
+        "<meta content='IE=edge' http-equiv=X-UA-Compatible http-equiv=refresh>",
+        "",
+        Some(Malformed(0)),
+    ),
+    (
+        "<meta content='IE=edge' http-equiv='X-UA-Compatible ' id=a>",
+        "",
+        Some(Malformed(0)),
+    ),
+    (
+        "<meta content='IE=edge' http-equiv='X-UA-Compatible' content='",
+        "'>",
+        Some(Forbidden(1)),
+    ),
+    (
+        "<meta content='IE=edge' http-equiv='",
+        "'>",
+        Some(Forbidden(1)),
+    ),
+    (
+        "<meta content='IE=edge' http-equiv=x-ua-compatible charset=big5>",
+        "",
+        Some(Malformed(0)),
+    ),
+    (
+        "<meta content='IE=edge' HTTP-EQUIV=\"X-UA-COMPATIBLE\"/><meta content='",
+        "' name=a>",
+        None,
+    ),
+    (
+        "<meta name=a content=b http-equiv=x-ua-compatible id='",
+        "'>",
+        None,
     ),
     ("<meta charset=shift_jis>", "", Some(Malformed(0))),
     ("<meta charset=\"windows-1252\">", "", Some(Malformed(0))),
