@@ -9,6 +9,9 @@ pub mod AttributeTurns
 pub mod NamesOfLetters
 pub mod LastGaps
 pub mod GoodAttributes
+pub mod GoodReadings
+pub mod TextReadings
+pub mod TextForms
 pub mod StoodNames
 pub mod AnsweredFaults
 pub mod OneReading

@@ -4,5 +4,6 @@ pub mod FormReadings
 pub mod PageReadings
 pub mod FormTexts
 pub mod PageTexts
+pub mod FormEntries
 pub mod FormFaults
 pub mod StoodNames

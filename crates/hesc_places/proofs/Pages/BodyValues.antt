@@ -23,7 +23,7 @@ with_byte b bytes found (Some next) are is =
     let one : 1 + next.1 ≡ suc next.1 = omega arith in
     rw (sym same) record { value = rw (one, here.value) refl; within = omega (arith, here.within) }
 
-body_bytes : (mode : Mode) (bytes : List ℕ) (found : List ℕ × ℕ) → reading_after script_body_step 0 mode bytes ≡ Some found → IsBytes bytes found
+pub body_bytes : (mode : Mode) (bytes : List ℕ) (found : List ℕ × ℕ) → reading_after script_body_step 0 mode bytes ≡ Some found → IsBytes bytes found
 unfolding script_body_step
 body_bytes mode [] found is = absurd (cc)
 body_bytes mode (b ∷ bytes) found is = elim (cases_Bool (ends_script mode (b ∷ bytes))) [

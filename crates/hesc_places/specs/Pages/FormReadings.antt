@@ -3,7 +3,9 @@
 -- 13.2.5.40 Self-closing start tag state, in this profile: these tags alone, the first two in
 -- lower case, without white space inside the second and third.
 use Rattle.std.specs.Prelude.{ℕ, ◌-◌, List, [], ◌∷◌, Option, Some, None, codes, bytes_eq, drop, length, map, if◌then◌else◌}
+use Rattle.std.specs.List.{AllByRecursion}
 use Rattle.std.specs.Option.{option_or}
+use Rattle.std.specs.Str.{IsUtf8}
 use Rattle.hesc_grammars.specs.declared.place.Place.TheVariants.{ScriptSingle, ScriptBody}
 use Rattle.hesc_places.specs.Pages.AttributeReadings.{Entry, attributes_at, differ}
 use Rattle.hesc_places.specs.Pages.Parsers.{◌>>=◌, past, past_in_any_case, past_while}
@@ -20,6 +22,11 @@ pub record FormRead : Type 0 where
 abbrev pub value_of : List ℕ → List Entry → Option (List ℕ)
 value_of name [] = None
 value_of name (a ∷ others) = if bytes_eq name a.name then Some a.value else value_of name others
+
+-- each value and the literal are texts
+pub record IsTextForm (form : FormRead) : Type 0 where
+  pub values : AllByRecursion (λ a. IsUtf8 a.value) form.attributes
+  pub script : IsUtf8 form.script
 
 abbrev pub form_found : List Entry → List ℕ → ℕ → FormRead
 form_found attributes script end = record { attributes = attributes; script = script; end = end }

@@ -1,8 +1,12 @@
 //! The reader of forms: what stands in a form, and where it ends.
-ghost use Rattle.std.specs.Prelude.{◌≡◌, map, IfOk};
+ghost use Rattle.std.specs.Prelude.{◌≡◌, map, IfOk, IfSome};
 ghost use Rattle.std.specs.Option.{option_map};
+ghost use Rattle.std.specs.Str.{IsUtf8};
 ghost use Rattle.hesc_places.specs.Pages.AttributeReadings.{entry};
+ghost use Rattle.hesc_places.specs.Pages.FormEntries.{entries_of};
+ghost use Rattle.hesc_places.specs.Pages.FormTexts.{AreGood};
 ghost use Rattle.hesc_places.specs.Pages.FormReadings.{
+  IsTextForm,
   alerted,
   after_attributes,
   form_reading,
@@ -38,8 +42,8 @@ impl<A: Allocator> Form<A> {
     /// Of `<input a=1 b="2"/><script>alert('x');</script>` the value of `b` is `2`, and there is none
     /// of `c`.
     pub fn value_of(&self, name: &str) -> Option<&[u8]>
-        ensures { option_map (λ value. value.now) result ≡ value_of name.now
-            (map (λ a. entry a.0.items a.1 a.2.items) self.now.attributes.items) }
+        ensures { option_map (λ value. value.now) result
+            ≡ value_of name.now (entries_of self.now) }
     {
         let mut rest = self.attributes.as_slice();
         'attributes: while let [(other, _, value), after @ ..] = rest {
@@ -54,7 +58,9 @@ impl<A: Allocator> Form<A> {
 
 /// Reads a form from the front of the bytes: an input's tag with any attributes, no two of one name,
 /// and a script that hands one string to `alert`. There is `None` exactly where there is no reading,
-/// and `AllocError` where memory, or a copy of `alloc`, is refused. The bytes need be no UTF-8.
+/// and `AllocError` where memory, or a copy of `alloc`, is refused. The bytes need be no UTF-8. The
+/// attributes are good, so that they can be written again by `build_form`, and of a text each value
+/// is a text.
 ///
 /// Of `<input/><script>alert('x');</script>` it has no attributes, and the script string `x`.
 #[tactic(auto, unfolding(crate::specs::Pages::FormReadings::form_reading))]
@@ -62,9 +68,11 @@ pub fn read_form<A: Allocator + Clone>(
     alloc: A,
     bytes: &[u8],
 ) -> Result<Option<Form<A>>, AllocError>
-    ensures { IfOk result (λ found. option_map (λ f. form_found
-        (map (λ a. entry a.0.items a.1 a.2.items) f.attributes.items) f.script.items f.end) found
-        ≡ form_reading bytes.now) }
+    ensures value { IfOk result (λ found. option_map
+        (λ f. form_found (entries_of f) f.script.items f.end) found ≡ form_reading bytes.now) }
+    ensures good { IfOk result (λ found. IfSome found (λ f. AreGood (entries_of f))) }
+    ensures utf8 { IsUtf8 bytes.now → IfOk result (λ found. IfSome found
+        (λ f. IsTextForm (form_found (entries_of f) f.script.items f.end))) }
 {
     let Some(inside) = past(bytes, b"<input") else {
         return Ok(None);
