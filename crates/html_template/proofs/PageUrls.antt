@@ -6,6 +6,7 @@ pub mod Law
 pub mod MarkupSteps
 pub mod OpenEnds
 pub mod Opening
+pub mod OpenPlaces
 pub mod Placed
 pub mod SlotSteps
 pub mod Splitting

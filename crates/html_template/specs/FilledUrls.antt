@@ -1,11 +1,16 @@
 -- The URLs of a template, and those of its pages: these, filled by the texts of its slots in URLs.
-use Rattle.std.specs.Prelude.{◌≡◌, ⊤, ℕ, suc, true, List, [], ◌∷◌, ◌++◌, drop, take}
+use Rattle.std.specs.Prelude.{◌≡◌, ⊤, ℕ, suc, true, List, [], ◌∷◌, ◌++◌, drop, map, take}
 use Rattle.std.specs.List.{AllByRecursion}
 use Rattle.std.specs.Str.{IsUtf8}
 use Rattle.html_template.specs.declared.parts.SlotKind.{SlotKind}
 use Rattle.html_template.specs.declared.parts.SlotKind.TheVariants as kind
 use Rattle.html_template.specs.PageUrls.{urls_of}
-use Rattle.html_template.specs.Templates.{Chunk, Fill, Markup, Slot, page}
+use Rattle.html_template.specs.TemplateFaults.{placed}
+use Rattle.html_template.specs.Templates as template
+use Rattle.html_template.specs.Templates.{Chunk, Fill, Markup, Slot, after_slot, page}
+use Rattle.html_tokenizer.specs.Tokenizer.States.{Tokenizer, data_state}
+use Rattle.html_tokenizer.specs.Tokenizer.Tokenization.{state_after}
+use Rattle.html_tokenizer.specs.UrlValues.{open_url, urls_from}
 use Rattle.html_urls.specs.Links.{is_link}
 use Rattle.html_urls.specs.Slots.{FillUrl, Given, url_of}
 use Rattle.html_urls.specs.Slots as part
@@ -55,13 +60,61 @@ pub record AreFilled (urls : List TemplateUrl) (chunks : List Chunk) (texts : Li
   pub same : urls_of (page chunks texts) ≡ filled_urls urls (url_texts chunks texts)
   pub full : FillUrls urls (url_texts chunks texts)
 
--- a template has URLs of which this is so, whatever texts fill it
-pub record HasUrls (chunks : List Chunk) : Type 0 where
-  pub urls : List TemplateUrl
-  pub filled : (texts : List (List ℕ)) → Fill chunks texts → AllByRecursion IsUtf8 texts → AreFilled urls chunks texts
+-- ---- the URLs of a template, as the tokenizer reads them
+
+-- what is open of a URL: its value so far, the parts so far of one with slots, or a slot that is all of it
+pub data OpenValue : Type 0 where
+  Value : List ℕ → OpenValue
+  Slotted : List Given → OpenValue
+  OneSlot : OpenValue
+
+-- the value so far where markup begins
+abbrev pub value_before : OpenValue → List ℕ
+value_before (Value value) = value
+value_before other = []
+
+-- the URLs that end in markup, of which the first is what was open
+abbrev pub ended_urls : OpenValue → List (List ℕ) → List TemplateUrl
+ended_urls (Value value) urls = map Fixed urls
+ended_urls (Slotted parts) [] = []
+ended_urls (Slotted parts) (url ∷ urls) = Parts (parts ++ part.Markup url ∷ []) ∷ map Fixed urls
+ended_urls OneSlot [] = []
+ended_urls OneSlot (url ∷ urls) = Whole ∷ map Fixed urls
+
+-- what is open behind markup in which these URLs end, and this value is left
+abbrev pub open_behind : OpenValue → List (List ℕ) → List ℕ → OpenValue
+open_behind (Slotted parts) [] value = Slotted (parts ++ part.Markup value ∷ [])
+open_behind OneSlot [] value = OneSlot
+open_behind other urls value = Value value
+
+-- and behind a slot
+abbrev pub open_at_slot : OpenValue → SlotKind → OpenValue
+open_at_slot held kind.Text = Value []
+open_at_slot (Value value) (kind.UrlPart slot) = Slotted (part.Markup value ∷ part.Slot ∷ [])
+open_at_slot (Slotted parts) (kind.UrlPart slot) = Slotted (parts ++ part.Slot ∷ [])
+open_at_slot held other = OneSlot
+
+-- the URLs that end in these pieces
+abbrev pub urls_behind : Tokenizer → OpenValue → List Chunk → List TemplateUrl
+urls_behind t held [] = []
+urls_behind t held (Markup bytes ∷ chunks) =
+    ended_urls held (urls_from t (value_before held) bytes)
+    ++ urls_behind (state_after t bytes) (open_behind held (urls_from t (value_before held) bytes) (open_url t (value_before held) bytes)) chunks
+urls_behind t held (Slot p kind ∷ chunks) = urls_behind (after_slot p kind t) (open_at_slot held kind) chunks
+
+abbrev pub piece_urls : List Chunk → List TemplateUrl
+piece_urls chunks = urls_behind data_state (Value []) chunks
+
+-- those of the template of these parts
+abbrev pub template_urls : List template.Given → List TemplateUrl
+template_urls parts = piece_urls (placed parts)
+
+-- whatever texts fill the pieces, the URLs of the page are these, filled by them
+abbrev pub HasUrls : List Chunk → Type 0
+HasUrls chunks =
+    (texts : List (List ℕ)) → Fill chunks texts → AllByRecursion IsUtf8 texts → AreFilled (piece_urls chunks) chunks texts
 
 -- it is so of the page of these texts, and of any other page
 pub record HasUrlsOf (chunks : List Chunk) (texts : List (List ℕ)) : Type 0 where
-  pub urls : List TemplateUrl
-  pub here : AreFilled urls chunks texts
-  pub any : (others : List (List ℕ)) → Fill chunks others → AllByRecursion IsUtf8 others → AreFilled urls chunks others
+  pub here : AreFilled (piece_urls chunks) chunks texts
+  pub any : HasUrls chunks

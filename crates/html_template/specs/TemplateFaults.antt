@@ -1,5 +1,5 @@
 -- The pieces of a template's parts, and what keeps parts from being a template.
-use Rattle.std.specs.Prelude.{◌≡◌, ⊤, ℕ, ◌+◌, if◌then◌else◌, List, [], ◌∷◌, Result, Ok, Err, true, false}
+use Rattle.std.specs.Prelude.{◌≡◌, ⊤, ℕ, ◌+◌, Bool, if◌then◌else◌, List, [], ◌∷◌, Result, Ok, Err, true, false}
 use Rattle.html_template.specs.declared.faults.TemplateFault.{TemplateFault}
 use Rattle.html_template.specs.declared.faults.TemplateFault.TheVariants.{Malformed, NoPlace, Forbidden, Unfinished, Memory}
 use Rattle.html_template.specs.declared.open_url.OpenUrl.{OpenUrl}
@@ -72,6 +72,14 @@ told_chunks (Err fault) = []
 
 abbrev pub placed : List Given → List Chunk
 placed parts = told_chunks (template_of parts)
+
+-- the parts have none: they are a template
+abbrev pub is_told : Told → Bool
+is_told (Ok chunks) = true
+is_told (Err fault) = false
+
+abbrev pub is_template : List Given → Bool
+is_template parts = is_told (template_of parts)
 
 -- after one part more the pieces are this one and those of the others, or its fault is the first
 abbrev pub TakesPart : {T : Type 0} → (T → Chunk) → ℕ → Walk → Given → Walk → Result T TemplateFault → Type 0

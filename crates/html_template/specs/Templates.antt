@@ -7,8 +7,6 @@ use Rattle.html_template.specs.declared.stored.Stored.{Stored}
 use Rattle.html_template.specs.declared.stored.Stored.TheVariants as stored
 use Rattle.html_template.specs.declared.parts.Part.{Part}
 use Rattle.html_template.specs.declared.parts.Part.TheVariants as part
-use Rattle.html_template.specs.declared.parts.Piece.{Piece}
-use Rattle.html_template.specs.declared.parts.Piece.TheVariants as piece
 use Rattle.html_template.specs.declared.parts.SlotKind.{SlotKind}
 use Rattle.html_tokenizer.specs.declared.slot_place.SlotPlace.{SlotPlace}
 use Rattle.html_tokenizer.specs.Tokenizer.Actions.{Action, read_byte}
@@ -49,12 +47,7 @@ Fill (Markup bytes ∷ chunks) texts = Fill chunks texts
 Fill (Slot p kind ∷ chunks) [] = ⊥
 Fill (Slot p kind ∷ chunks) (text ∷ texts) = MayFill p kind text × Fill chunks texts
 
--- a piece, as the laws take it
-abbrev pub kept : Piece → Chunk
-kept (piece.Markup text) = Markup text.now
-kept (piece.Slot p kind) = Slot p kind
-
--- the same, as a template stores it
+-- a piece, as a template stores it
 abbrev pub chunk_of : Stored → Chunk
 chunk_of (stored.Markup markup) = Markup markup.text.now
 chunk_of (stored.Slot slot) = Slot slot.place slot.kind

@@ -20,7 +20,7 @@ mod walk;
 
 pub use crate::faults::{FillFault, TemplateFault, WriteFault};
 pub use crate::open_url::{OpenUrl, PlacedSlot};
-pub use crate::parts::{Part, Piece, SlotKind};
+pub use crate::parts::{Part, SlotKind};
 pub use crate::template::Template;
 pub use crate::texts::Texts;
 pub use html_tokenizer::{Code, Content, SlotPlace};

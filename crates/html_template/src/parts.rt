@@ -1,5 +1,4 @@
 //! What a template is made of, and what its laws speak of.
-use html_tokenizer::SlotPlace;
 use html_urls::UrlSlot;
 
 /// A part of a template.
@@ -20,13 +19,4 @@ pub enum SlotKind {
     UrlPart(UrlSlot),
     /// A whole URL, which has to be a link and is encoded for its place.
     Link,
-}
-
-/// A part that has been read: of a slot it is known where it stands, and what its text is.
-#[derive(Clone, Copy, Debug)]
-pub enum Piece<'a> {
-    /// Markup, which stands in each page as it is.
-    Markup(&'a str),
-    /// A slot at this place.
-    Slot(SlotPlace, SlotKind),
 }

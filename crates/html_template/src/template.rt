@@ -7,14 +7,14 @@ ghost use Rattle.hesc_engine.specs.Forms.{Appended, string_room};
 ghost use Rattle.html_template.specs.EachFault.{AnswersEach};
 ghost use Rattle.html_template.specs.FillFaults.{AnswersFill, fill_fault, has_checked, slot_count};
 ghost use Rattle.html_tokenizer.specs.Tokenizer.States.{data_state};
-ghost use Rattle.html_template.specs.Structure.{IsPageOf, IsReadAs};
+ghost use Rattle.html_template.specs.Structure.{IsPageOf, IsReadAs, JoinsWritten};
 ghost use Rattle.html_template.specs.Walks.{walk_of};
 ghost use Rattle.html_template.specs.Writing.{AnswersWriting};
 ghost use Rattle.html_template.specs.declared.faults.TemplateFault.TheVariants.{Memory};
 ghost use Rattle.html_template.specs.declared.faults.WriteFault.TheVariants.{Texts};
 ghost use Rattle.html_template.specs.OpenUrls.{Answers};
 ghost use Rattle.html_template.specs.FilledUrls.{HasUrlsOf};
-ghost use Rattle.html_template.specs.PageUrls.{LeadsAsAny};
+ghost use Rattle.html_template.specs.PageUrls.{LeadsAsAny, urls_of};
 ghost use Rattle.html_template.specs.TemplateFaults.{TakesMore, placed, template_of};
 ghost use Rattle.html_template.specs.Templates.{
   Fill,
@@ -83,7 +83,7 @@ impl<'a, A: Allocator + Copy> Template<'a, A> {
     /// Whatever follows the page, it is tokenized as the template is, with each text handed to its
     /// slot whole. Its URLs are those of the template, filled by the texts of its slots in URLs, as
     /// `laws::page_urls_law` says; they and those of any page are alike, as `laws::url_law` says.
-    /// After a page it makes a page of the joined parts.
+    /// Behind a page it makes a page of the joined parts, whose URLs are those of both.
     ///
     /// Of `<p title="`, a slot and `">`, the page of `a"` is `<p title="a&quot;">`.
     pub fn append<B: Allocator>(
@@ -107,6 +107,10 @@ impl<'a, A: Allocator + Copy> Template<'a, A> {
             → IsPageOf parts before (string_bytes output.old)
             → IsPageOf (parts ++ map part_of (pieces_of self.now)) (before ++ texts_of texts.now)
             (string_bytes output.new)) }
+        ensures joined_urls { OnOk result ((parts : List Given) (before : List (List ℕ))
+            → IsPageOf parts before (string_bytes output.old)
+            → urls_of (string_bytes output.new) ≡ urls_of (string_bytes output.old)
+            ++ urls_of (page (pieces_of self.now) (texts_of texts.now))) }
     {
         self.append_texts(output, &texts)
     }
@@ -115,7 +119,7 @@ impl<'a, A: Allocator + Copy> Template<'a, A> {
     ///
     /// Of `<p title="`, a slot and `">`, the page of `a"` is `<p title="a&quot;">`.
     #[inline(always)]
-    #[tactic(auto, using(crate::proofs::Structure::is_read_as, crate::proofs::PageUrls::Law::leads_as_any, crate::proofs::PageUrls::Law::has_urls_of, crate::proofs::Joined::page_after, crate::proofs::EachFault::Answers::each_filled))]
+    #[tactic(auto, using(crate::proofs::Structure::is_read_as, crate::proofs::PageUrls::Law::leads_as_any, crate::proofs::PageUrls::Law::has_urls_of, crate::proofs::Joined::urls_after, crate::proofs::EachFault::Answers::each_filled))]
     pub fn append_texts<T: Texts, B: Allocator>(
         &self,
         output: &mut String<B>,
@@ -137,6 +141,10 @@ impl<'a, A: Allocator + Copy> Template<'a, A> {
             → IsPageOf parts before (string_bytes output.old)
             → IsPageOf (parts ++ map part_of (pieces_of self.now)) (before ++ T.list texts.now)
             (string_bytes output.new)) }
+        ensures joined_urls { OnOk result ((parts : List Given) (before : List (List ℕ))
+            → IsPageOf parts before (string_bytes output.old)
+            → urls_of (string_bytes output.new) ≡ urls_of (string_bytes output.old)
+            ++ urls_of (page (pieces_of self.now) (T.list texts.now))) }
     {
         if let Err(fault) = check(&self.pieces, self.summary, texts) {
             return Err(fault);
@@ -172,6 +180,8 @@ impl<'a, A: Allocator + Copy> Template<'a, A> {
             (page (pieces_of self.now) (texts_of texts.now))) }
         ensures filled { OnOk result (HasUrlsOf (pieces_of self.now) (texts_of texts.now)) }
         ensures urls { OnOk result (LeadsAsAny (pieces_of self.now) (texts_of texts.now)) }
+        ensures joins { OnOk result (JoinsWritten (map part_of (pieces_of self.now)) (texts_of texts.now)
+            (W.contents output.old) (W.contents output.new)) }
     {
         self.append_texts_to_writer(output, &texts)
     }
@@ -180,7 +190,7 @@ impl<'a, A: Allocator + Copy> Template<'a, A> {
     ///
     /// Of `<p title="`, a slot and `">` and the text `a"` it writes `<p title="a&quot;">`.
     #[inline(always)]
-    #[tactic(auto, using(crate::proofs::Structure::is_read_as, crate::proofs::PageUrls::Law::leads_as_any, crate::proofs::PageUrls::Law::has_urls_of, crate::proofs::EachFault::Answers::each_written))]
+    #[tactic(auto, using(crate::proofs::Structure::is_read_as, crate::proofs::PageUrls::Law::leads_as_any, crate::proofs::PageUrls::Law::has_urls_of, crate::proofs::Joined::written_after, crate::proofs::EachFault::Answers::each_written))]
     pub fn append_texts_to_writer<T: Texts, W: Write>(
         &self,
         output: &mut W,
@@ -203,6 +213,8 @@ impl<'a, A: Allocator + Copy> Template<'a, A> {
             (page (pieces_of self.now) (T.list texts.now))) }
         ensures filled { OnOk result (HasUrlsOf (pieces_of self.now) (T.list texts.now)) }
         ensures urls { OnOk result (LeadsAsAny (pieces_of self.now) (T.list texts.now)) }
+        ensures joins { OnOk result (JoinsWritten (map part_of (pieces_of self.now)) (T.list texts.now)
+            (W.contents output.old) (W.contents output.new)) }
     {
         if let Err(fault) = check(&self.pieces, self.summary, texts) {
             return Err(WriteFault::Texts(fault));

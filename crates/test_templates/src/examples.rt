@@ -95,6 +95,10 @@ fn pages_have_the_structure_that_the_laws_say(rt: HostRuntime) -> Result<(), Fai
         panic!(rt; "the text fills the slot");
     };
     assert!(rt; tags(&plain) == 2 && tags(&hostile) == 2);
+    laws::template_law();
+    laws::structure_law();
+    laws::token_law();
+    laws::joined_law();
     laws::pages_law();
     let mut both = String::new(rt.alloc());
     assert!(rt; template.append(&mut both, &["a"]) == Ok(()));
@@ -115,7 +119,8 @@ static LINK: [Part; 3] = [
 
 #[test]
 fn a_page_has_the_urls_that_the_law_says(rt: HostRuntime) -> Result<(), Fail> {
-    laws::page_urls_law(&LINK);
+    laws::page_urls_law();
+    laws::url_law();
     let Ok(template) = Template::new(rt.alloc(), &LINK) else {
         panic!(rt; "the slot stands in a query");
     };

@@ -1,8 +1,8 @@
 -- A URL that ends in markup behind a slot in it.
-use Rattle.std.proofs.Common.{ℕ, ◌≡◌, true, false, List, [], ◌∷◌, ◌++◌, map, refl, sym, ap, ◌∙◌, ⊎_elim, append_assoc}
+use Rattle.std.proofs.Common.{ℕ, ◌≡◌, true, false, List, [], ◌∷◌, ◌++◌, map, refl, sym, ap, ◌∙◌, ⊎_elim, append-nil, append_assoc}
 use Rattle.std.proofs.lemmas.Bool.{cases_Bool, true≢false}
 use Rattle.html_template.specs.declared.open_url.OpenUrl.TheVariants.{Outside}
-use Rattle.html_template.specs.FilledUrls.{Fixed, url_texts}
+use Rattle.html_template.specs.FilledUrls.{Fixed, Parts, Slotted, Whole, url_texts, urls_behind}
 use Rattle.html_template.specs.PageUrls.{whole_urls}
 use Rattle.html_template.specs.Templates.{Chunk, Markup, page}
 use Rattle.html_tokenizer.specs.declared.elements.Content.{Content}
@@ -16,7 +16,9 @@ use Rattle.html_tokenizer.proofs.UrlValues.Ends.{Ends, ends_at, ends_url_at}
 use Rattle.html_tokenizer.proofs.UrlValues.Places.{is_value_place}
 use Rattle.html_tokenizer.proofs.UrlValues.Slots.AtSlots.{value_fresh, value_tame}
 use Rattle.html_tokenizer.proofs.UrlValues.Staying.{StaysUrl}
-use Rattle.html_template.proofs.PageUrls.Filled.{EndsBehind, fixed_before}
+use Rattle.html_urls.specs.Slots as part
+use Rattle.html_urls.specs.Slots.{Given}
+use Rattle.html_template.proofs.PageUrls.Filled.{EndsBehind, HasLater, fixed_before}
 use Rattle.html_template.proofs.PageUrls.Opening.{Goes, behind_bytes}
 
 -- ---- where it has ended, its value is looked at no more
@@ -66,26 +68,53 @@ module _ (p : SlotPlace) (content : Content) (attribute : Attribute) (place : is
       ∙ ap (λ x. ended ∷ (fixed ++ x)) (forgotten here b rest ended text more (ends_at p content attribute b place url ends))
       ∙ ap (λ x. ended ∷ (fixed ++ urls_from x (open_url here text (b ∷ rest)) more)) (sym after)
 
-  -- so what is proved of the rest is proved of all
-  pub ends_in : (raw text : List ℕ) (b : ℕ) (rest : List ℕ) (chunks : List Chunk) → StaysUrl here raw text here → ends_value p b ≡ true →
-      Goes Outside (state_after here (raw ++ b ∷ rest)) (raw ++ b ∷ rest) chunks → EndsBehind here text (Markup (raw ++ b ∷ rest) ∷ chunks)
-  ends_in raw text b rest chunks stays ends goes =
-      let after : Tokenizer = state_after here (raw ++ b ∷ rest) in
-      let left : List ℕ = open_url here text (b ∷ rest) in
+  -- the URL that ends there, and those without slots behind it
+  ends_there : (raw text : List ℕ) (b : ℕ) (rest : List ℕ) → StaysUrl here raw text here → ends_value p b ≡ true →
+      urls_from here [] (raw ++ b ∷ rest) ≡ text ∷ urls_from (consume here b).next [] rest
+  ends_there raw text b rest stays ends =
       let fixed : List (List ℕ) = urls_from (consume here b).next [] rest in
-      let found = goes left (record {
-        start = here;
-        tame = value_tame p content attribute place;
-        before = [];
-        fresh = value_fresh p content attribute [];
-        after = refl;
-        is = sym (value_behind raw text b rest [] stays);
-      }) in
-      record {
-        later = map Fixed fixed ++ found.urls;
-        ends = λ value texts full utf8. record {
-          others = fixed ++ urls_from after left (page chunks texts);
-          same = ended_urls raw text b rest value (page chunks texts) stays ends;
-          filled = fixed_before fixed (urls_from after left (page chunks texts)) (whole_urls chunks texts) found.urls (url_texts chunks texts) (found.filled texts full utf8);
-        };
-      }
+      ap (urls_from here []) (sym (append-nil (raw ++ b ∷ rest)))
+      ∙ ended_urls raw text b rest [] [] stays ends
+      ∙ ap (λ urls. text ∷ urls) (append-nil fixed)
+
+  module _ (raw text : List ℕ) (b : ℕ) (rest : List ℕ) (chunks : List Chunk) (stays : StaysUrl here raw text here) (ends : ends_value p b ≡ true)
+      (goes : Goes Outside (state_after here (raw ++ b ∷ rest)) (raw ++ b ∷ rest) chunks) where
+    abbrev all : List ℕ
+    all = raw ++ b ∷ rest
+
+    abbrev left : List ℕ
+    left = open_url here text (b ∷ rest)
+
+    abbrev fixed : List (List ℕ)
+    fixed = urls_from (consume here b).next [] rest
+
+    left_behind : open_url here [] all ≡ left
+    left_behind = value_behind raw text b rest [] stays
+
+    found : HasLater (state_after here all) left chunks
+    found = goes left (record {
+      start = here;
+      tame = value_tame p content attribute place;
+      before = [];
+      fresh = value_fresh p content attribute [];
+      after = refl;
+      is = sym left_behind;
+    })
+
+    -- so what is proved of the rest is proved of all
+    pub ends_in : EndsBehind here text (Markup all ∷ chunks)
+    ends_in = record {
+      later = map Fixed fixed ++ found.urls;
+      told = rw (ends_there raw text b rest stays ends, left_behind) (ap (λ urls. Whole ∷ (map Fixed fixed ++ urls)) found.told);
+      ends = λ value texts full utf8. record {
+        others = fixed ++ urls_from (state_after here all) left (page chunks texts);
+        same = ended_urls raw text b rest value (page chunks texts) stays ends;
+        filled = fixed_before fixed (urls_from (state_after here all) left (page chunks texts)) (whole_urls chunks texts) found.urls (url_texts chunks texts) (found.filled texts full utf8);
+      };
+    }
+
+    -- and of the parts of a URL before it
+    pub parts_end : (before : List Given) → urls_behind here (Slotted before) (Markup all ∷ chunks) ≡ Parts (before ++ part.Markup text ∷ []) ∷ ends_in.later
+    unfolding ends_in found
+    parts_end before =
+        rw (ends_there raw text b rest stays ends, left_behind) (ap (λ urls. Parts (before ++ part.Markup text ∷ []) ∷ (map Fixed fixed ++ urls)) found.told)

@@ -1,7 +1,7 @@
 -- What is proved of a template from one place on: the URLs there, which the texts fill, and how the URL that is open goes on.
 use Rattle.std.proofs.Common.{ℕ, ◌≡◌, List, [], ◌∷◌, ◌++◌, IsUtf8, Ok, ap, ◌∙◌, append_assoc, drop, map, take}
 use Rattle.std.specs.List.{AllByRecursion}
-use Rattle.html_template.specs.FilledUrls.{FillUrls, Fixed, Parts, TemplateUrl, Whole, filled_urls, slots_in, url_texts}
+use Rattle.html_template.specs.FilledUrls.{FillUrls, Fixed, OneSlot, Parts, Slotted, TemplateUrl, Value, Whole, filled_urls, slots_in, url_texts, urls_behind}
 use Rattle.html_template.specs.PageUrls.{whole_urls}
 use Rattle.html_template.specs.Templates.{Chunk, Fill, page}
 use Rattle.html_tokenizer.specs.Tokenizer.States.{Tokenizer}
@@ -51,12 +51,14 @@ ends_more value text more same ends = record {
 -- where no URL with a slot is open
 pub record HasLater (t : Tokenizer) (value : List ℕ) (chunks : List Chunk) : Type 0 where
   pub urls : List TemplateUrl
+  pub told : urls_behind t (Value value) chunks ≡ urls
   pub filled : (texts : List (List ℕ)) → Fill chunks texts → AllByRecursion IsUtf8 texts →
       IsFilled (urls_from t value (page chunks texts)) (whole_urls chunks texts) urls (url_texts chunks texts)
 
 -- where the URL that is open goes on with this text and ends
 pub record EndsBehind (t : Tokenizer) (text : List ℕ) (chunks : List Chunk) : Type 0 where
   pub later : List TemplateUrl
+  pub told : urls_behind t OneSlot chunks ≡ Whole ∷ later
   pub ends : (value : List ℕ) (texts : List (List ℕ)) → Fill chunks texts → AllByRecursion IsUtf8 texts →
       EndsFirst (urls_from t value (page chunks texts)) (whole_urls chunks texts) (value ++ text) later (url_texts chunks texts)
 
@@ -64,8 +66,9 @@ pub record EndsBehind (t : Tokenizer) (text : List ℕ) (chunks : List Chunk) : 
 pub record GoesOn (part : OpenPart) (t : Tokenizer) (chunks : List Chunk) : Type 0 where
   pub parts : List Given
   pub slots : List UrlSlot
-  pub told : (number : ℕ) → later_slots number part parts ≡ Ok slots
+  pub fixed : (number : ℕ) → later_slots number part parts ≡ Ok slots
   pub later : List TemplateUrl
+  pub told : (before : List Given) → urls_behind t (Slotted before) chunks ≡ Parts (before ++ parts) ∷ later
   pub fits : (texts : List (List ℕ)) → Fill chunks texts → FillSlots slots (take (slots_in parts) (url_texts chunks texts))
   pub ends : (value : List ℕ) (texts : List (List ℕ)) → Fill chunks texts → AllByRecursion IsUtf8 texts →
       EndsFirst (urls_from t value (page chunks texts)) (whole_urls chunks texts) (value ++ url_of parts (take (slots_in parts) (url_texts chunks texts)))

@@ -4,7 +4,7 @@ use Rattle.std.specs.List.{AllByRecursion}
 use Rattle.html_template.specs.declared.open_url.OpenUrl.{OpenUrl}
 use Rattle.html_template.specs.declared.open_url.OpenUrl.TheVariants.{Outside, Within, Whole}
 use Rattle.html_template.specs.declared.open_url.PlacedSlot.{PlacedSlot}
-use Rattle.html_template.specs.FilledUrls.{HasUrls, HasUrlsOf, url_texts}
+use Rattle.html_template.specs.FilledUrls.{AreFilled, HasUrls, HasUrlsOf, url_texts}
 use Rattle.html_template.specs.PageUrls.{AllAlike, LeadsAsAny, urls_of, whole_urls}
 use Rattle.html_template.specs.TemplateFaults.{Walk, at_beginning, behind_markup, behind_slot, pieces_from, template_of}
 use Rattle.html_template.specs.Templates.{Chunk, Fill, Given, GivenMarkup, GivenSlot, after_slot, page, part_of}
@@ -21,7 +21,7 @@ use Rattle.html_template.proofs.PageUrls.SlotSteps.{past_slot, slot_goes, tame_b
 use Rattle.html_template.proofs.Walks.{slot_suits}
 
 end_goes : (url : OpenUrl) (t : Tokenizer) (markup : List ℕ) → IsTame t → may_end t ≡ true → Goes url t markup []
-end_goes Outside t markup tame may = λ value from. record { urls = []; filled = λ texts full utf8. record { same = refl; full = tt; whole_same = refl } }
+end_goes Outside t markup tame may = λ value from. record { urls = []; told = refl; filled = λ texts full utf8. record { same = refl; full = tt; whole_same = refl } }
 end_goes (Within p open_part) t markup tame may = λ stands. absurd (no_end p t tame may stands)
 end_goes (Whole p) t markup tame may = λ stands. absurd (no_end p t tame may stands)
 
@@ -53,20 +53,16 @@ all_later : (parts : List Given) (chunks : List Chunk) → template_of parts ≡
 all_later parts chunks told = all_goes 0 at_beginning parts chunks told data_state_is_tame [] (no_url_open data_state [] refl)
 
 pub has_urls : (parts : List Given) (chunks : List Chunk) → template_of parts ≡ Ok chunks → HasUrls chunks
-has_urls parts chunks told =
+has_urls parts chunks told = λ texts full utf8.
     let later = all_later parts chunks told in
-    record {
-      urls = later.urls;
-      filled = λ texts full utf8.
-          let found = later.filled texts full utf8 in
-          record { same = found.same; full = found.full };
-    }
+    let found = later.filled texts full utf8 in
+    subst (λ urls. AreFilled urls chunks texts) (sym later.told) (record { same = found.same; full = found.full })
 
 pub has_urls_of : (chunks : List Chunk) (texts : List (List ℕ)) → template_of (map part_of chunks) ≡ Ok chunks → Fill chunks texts →
     AllByRecursion IsUtf8 texts → HasUrlsOf chunks texts
 has_urls_of chunks texts told full utf8 =
-    let found = has_urls (map part_of chunks) chunks told in
-    record { urls = found.urls; here = found.filled texts full utf8; any = found.filled }
+    let any = has_urls (map part_of chunks) chunks told in
+    record { here = any texts full utf8; any = any }
 
 -- ---- those of two pages
 

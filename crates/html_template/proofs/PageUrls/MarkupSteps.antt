@@ -1,11 +1,11 @@
 -- Markup, and what is open behind it.
-use Rattle.std.proofs.Common.{ℕ, ◌≡◌, ◌+◌, true, false, List, [], ◌∷◌, ◌++◌, Ok, Err, Some, length, map, take, nat_lt, refl, sym, subst, ⊎_elim, append-nil, arith}
+use Rattle.std.proofs.Common.{ℕ, ◌≡◌, ◌+◌, true, false, List, [], ◌∷◌, ◌++◌, Ok, Err, Some, length, map, take, nat_lt, refl, sym, ap, ◌∙◌, subst, ⊎_elim, append-nil, append_assoc, arith}
 use Rattle.std.proofs.lemmas.Bool.{cases_Bool}
 use Rattle.std.proofs.lemmas.Bool.Decides.{nat_tests}
 use Rattle.html_template.specs.declared.faults.TemplateFault.TheVariants.{AfterLink}
 use Rattle.html_template.specs.declared.open_url.OpenUrl.{OpenUrl}
 use Rattle.html_template.specs.declared.open_url.OpenUrl.TheVariants.{Outside, Within, Whole}
-use Rattle.html_template.specs.FilledUrls.{Fixed, url_texts}
+use Rattle.html_template.specs.FilledUrls.{Fixed, Parts, Slotted, url_texts, urls_behind}
 use Rattle.html_template.specs.OpenUrls.{url_markup, value_length}
 use Rattle.html_template.specs.PageUrls.{whole_urls}
 use Rattle.html_template.specs.Templates.{Chunk, Markup, page}
@@ -24,10 +24,10 @@ use Rattle.html_tokenizer.proofs.UrlValues.Slots.Tame.{IsTame}
 use Rattle.html_tokenizer.proofs.UrlValues.Staying.{StaysUrl, stays_none}
 use Rattle.html_urls.specs.OpenParts.{after_markup, may_be_dots}
 use Rattle.html_urls.specs.Slots as part
-use Rattle.html_urls.specs.Slots.{is_plain}
+use Rattle.html_urls.specs.Slots.{Given, is_plain}
 use Rattle.html_urls.specs.declared.open_part.OpenPart.{OpenPart}
 use Rattle.html_template.proofs.PageUrls.Filled.{EndsBehind, GoesOn, IsFilled, ends_more, fixed_before}
-use Rattle.html_template.proofs.PageUrls.EndedUrls.{ends_in}
+use Rattle.html_template.proofs.PageUrls.EndedUrls.{ends_in, parts_end}
 use Rattle.html_template.proofs.PageUrls.LaterMarkup.{as_told, behind_told, goes_on, is_ended, ok_url}
 use Rattle.html_template.proofs.PageUrls.Opening.{Goes, behind_bytes, fresh_here, goes_as, value_place}
 use Rattle.html_template.proofs.PageUrls.Splitting.{IsCut, IsWhole, whole_or_cut}
@@ -42,6 +42,7 @@ outside_goes t markup bytes chunks tame goes = λ value from.
     let later = goes open_value (record { start = t; tame = tame; before = value; fresh = fresh_here from; after = refl; is = refl }) in
     record {
       urls = map Fixed ended ++ later.urls;
+      told = ap (λ urls. map Fixed ended ++ urls) later.told;
       filled = λ texts full utf8.
           subst (λ found. IsFilled found (whole_urls chunks texts) (map Fixed ended ++ later.urls) (url_texts chunks texts))
           (sym (urls_from-append t value bytes (page chunks texts)))
@@ -62,8 +63,11 @@ module _ (p : SlotPlace) (content : Content) (attribute : Attribute) (place : is
   goes_within open_part after raw text chunks plain opened stays behind = record {
     parts = part.Markup text ∷ behind.parts;
     slots = behind.slots;
-    told = λ number. rw (plain, opened) (behind.told (number + 1));
+    fixed = λ number. rw (plain, opened) (behind.fixed (number + 1));
     later = behind.later;
+    told = λ before.
+        rw (stays.none_ends [], stays.passes.after, stays.value []) (behind.told (before ++ part.Markup text ∷ []))
+        ∙ ap (λ all. Parts all ∷ behind.later) (append_assoc before (part.Markup text ∷ []) behind.parts);
     fits = behind.fits;
     ends = λ value texts full utf8.
         ends_more value text _ (behind_bytes here value raw (page chunks texts) (stays.none_ends value) stays.passes.after (stays.value value))
@@ -71,12 +75,14 @@ module _ (p : SlotPlace) (content : Content) (attribute : Attribute) (place : is
   }
 
   ends_within : (open_part after : OpenPart) (text : List ℕ) (chunks : List Chunk) → is_plain text ≡ true → after_markup open_part text ≡ Some after →
-      may_be_dots after ≡ false → EndsBehind here text chunks → GoesOn open_part here chunks
-  ends_within open_part after text chunks plain opened none end = record {
+      may_be_dots after ≡ false → (end : EndsBehind here text chunks) →
+      ((before : List Given) → urls_behind here (Slotted before) chunks ≡ Parts (before ++ part.Markup text ∷ []) ∷ end.later) → GoesOn open_part here chunks
+  ends_within open_part after text chunks plain opened none end told = record {
     parts = part.Markup text ∷ [];
     slots = [];
-    told = λ number. rw (plain, opened, none) refl;
+    fixed = λ number. rw (plain, opened, none) refl;
     later = end.later;
+    told = told;
     fits = λ texts full. tt;
     ends = λ value texts full utf8. rw (append-nil text) (end.ends value texts full utf8);
   }
@@ -113,7 +119,8 @@ module _ (p : SlotPlace) (content : Content) (attribute : Attribute) (place : is
         (goes_as Outside (state_after here bytes) bytes chunks end.outside goes) in
         subst (λ (x : List ℕ). GoesOn open_part here (Markup x ∷ chunks)) (sym cut.parts)
         (ends_within open_part behind.after behind.text (Markup (raw ++ cut.first ∷ cut.rest) ∷ chunks) behind.adds.plain behind.opened end.no_dots
-        (ends_in p content attribute place url raw behind.text cut.first cut.rest chunks stays cut.passes there))
+        (ends_in p content attribute place url raw behind.text cut.first cut.rest chunks stays cut.passes there)
+        (parts_end p content attribute place url raw behind.text cut.first cut.rest chunks stays cut.passes there))
 
     within_goes : GoesOn open_part here (Markup bytes ∷ chunks)
     within_goes = ⊎_elim whole_goes cut_goes (whole_or_cut (ends_value p) bytes)
@@ -125,7 +132,7 @@ module _ (p : SlotPlace) (content : Content) (attribute : Attribute) (place : is
   link_goes number [] opened chunks told goes =
       let still : Goes (Whole p) here [] chunks = goes_as (Whole p) here [] chunks (ok_url told) goes in
       let end = still (record { state_is = refl; attribute_is = url }) in
-      record { later = end.later; ends = end.ends }
+      record { later = end.later; told = end.told; ends = end.ends }
   link_goes number (b ∷ rest) opened chunks told goes =
       ⊎_elim
       (λ (ends : ends_value p b ≡ true).

@@ -58,4 +58,4 @@ module _ (p : SlotPlace) (t : Tokenizer) (value : List ℕ) (chunks : List Chunk
   pub text_goes : Goes Outside next [] chunks → HasLater t value (Slot p kind.Text ∷ chunks)
   text_goes goes =
       let later = goes [] (no_url_open next [] (text_stands_apart p t suited).no_url) in
-      record { urls = later.urls; filled = text_filled later }
+      record { urls = later.urls; told = rw suited later.told; filled = text_filled later }

@@ -1,5 +1,5 @@
 -- A slot for a part of a URL, and one that is a whole URL.
-use Rattle.std.proofs.Common.{ℕ, ◌≡◌, ◌+◌, true, List, [], ◌∷◌, ◌++◌, IsUtf8, IsOkAnd, Ok, Some, drop, take, refl, sym, ap, ◌∙◌, subst, append-nil}
+use Rattle.std.proofs.Common.{ℕ, ◌≡◌, ◌+◌, true, List, [], ◌∷◌, ◌++◌, IsUtf8, IsOkAnd, Ok, Some, drop, take, refl, sym, ap, ◌∙◌, subst, append-nil, append_assoc}
 use Rattle.std.specs.List.{AllByRecursion}
 use Rattle.std.proofs.lemmas.Bool.{false≢true}
 use Rattle.hesc_places.specs.Places.ReadBack.{read_back}
@@ -75,8 +75,9 @@ module _ (t : Tokenizer) (p : SlotPlace) (slot : UrlSlot) (chunks : List Chunk) 
     later_goes = record {
       parts = part.Slot ∷ behind.parts;
       slots = slot ∷ behind.slots;
-      told = λ number. rw (placed, behind.told (number + 1)) refl;
+      fixed = λ number. rw (placed, behind.fixed (number + 1)) refl;
       later = behind.later;
+      told = λ before. rw suited (behind.told (before ++ part.Slot ∷ [])) ∙ ap (λ all. Parts all ∷ behind.later) (append_assoc before (part.Slot ∷ []) behind.parts);
       fits = slots_fit;
       ends = slots_end;
     }
@@ -87,7 +88,7 @@ module _ (t : Tokenizer) (p : SlotPlace) (slot : UrlSlot) (chunks : List Chunk) 
       parts = part.Markup front ∷ part.Slot ∷ behind.parts
 
       parts_told : slots_of parts ≡ Ok (slot ∷ behind.slots)
-      parts_told = rw (plain, opened, placed, behind.told 2) refl
+      parts_told = rw (plain, opened, placed, behind.fixed 2) refl
 
       parts_filled : (texts : List (List ℕ)) → Fill (Slot p (kind.UrlPart slot) ∷ chunks) texts → AllByRecursion IsUtf8 texts →
           IsFilled (urls_from t front (page (Slot p (kind.UrlPart slot) ∷ chunks) texts)) (whole_urls (Slot p (kind.UrlPart slot) ∷ chunks) texts)
@@ -104,7 +105,7 @@ module _ (t : Tokenizer) (p : SlotPlace) (slot : UrlSlot) (chunks : List Chunk) 
       pub first_goes : (value : List ℕ) → value ≡ front → HasLater t value (Slot p (kind.UrlPart slot) ∷ chunks)
       first_goes value is =
           subst (λ (x : List ℕ). HasLater t x (Slot p (kind.UrlPart slot) ∷ chunks)) (sym is)
-          (record { urls = Parts parts ∷ behind.later; filled = parts_filled })
+          (record { urls = Parts parts ∷ behind.later; told = rw suited (behind.told (part.Markup front ∷ part.Slot ∷ [])); filled = parts_filled })
 
 -- ---- a whole URL
 
@@ -146,4 +147,4 @@ module _ (t : Tokenizer) (p : SlotPlace) (chunks : List Chunk) (tame : IsTame t)
   pub link_goes : (value : List ℕ) → value ≡ [] → EndsBehind link_next [] chunks → HasLater t value (Slot p kind.Link ∷ chunks)
   link_goes value none end =
       subst (λ (x : List ℕ). HasLater t x (Slot p kind.Link ∷ chunks)) (sym none)
-      (record { urls = Whole ∷ end.later; filled = link_filled end })
+      (record { urls = Whole ∷ end.later; told = rw suited end.told; filled = link_filled end })

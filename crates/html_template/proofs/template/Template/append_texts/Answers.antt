@@ -4,6 +4,7 @@ use Rattle.html_template.specs.TemplatePieces.{pieces_of}
 use Rattle.html_template.specs.Templates.{chunk_of}
 use Rattle.html_template.proofs.EachFault.Answers.{each_filled}
 use Rattle.html_template.proofs.FillAnswers.{answered, no_fault}
+use Rattle.html_template.proofs.Joined.{page_after}
 use Rattle.html_template.proofs.template.Template.append_texts.Goals as goal
 
 pub returns-in-Err-clause-faults : goal.returns-in-Err-clause-faults
@@ -24,3 +25,7 @@ returns-clause-each g c =
     each_filled (Unit {0}) (pieces_of c.args.self.now) (g.T.Texts.list c.args.texts.now) _
     (sym (ap (λ pieces. fill_fault 0 (map chunk_of pieces) (g.T.Texts.list c.args.texts.now)) c.deref.ensures.value)
     ∙ no_fault (Unit {0}) _ c.check.result c.in_default.not-Err c.check.ensures.faults)
+
+pub returns-clause-joins : goal.returns-clause-joins
+returns-clause-joins g c =
+    page_after (pieces_of c.args.self.now) (g.T.Texts.list c.args.texts.now) (search rules) (search rules) (search rules) (search rules)

@@ -1,0 +1,84 @@
+-- The parts of two templates, one after the other, are a template's.
+use Rattle.std.proofs.Common.{ℕ, ◌≡◌, ◌+◌, true, List, [], ◌∷◌, ◌++◌, Ok, Err, refl, sym, ap, ◌∙◌, subst}
+use Rattle.html_template.specs.declared.open_url.OpenUrl.{OpenUrl}
+use Rattle.html_template.specs.declared.open_url.OpenUrl.TheVariants.{Outside}
+use Rattle.html_template.specs.declared.open_url.PlacedSlot.{PlacedSlot}
+use Rattle.html_template.specs.TemplateFaults.{Told, Walk, at_beginning, behind_markup, behind_slot, is_template, is_told, pieces_from, placed, template_of, told_chunks}
+use Rattle.html_template.specs.Templates.{Chunk, Given, GivenMarkup, GivenSlot, after_slot}
+use Rattle.html_tokenizer.specs.Standing.{standing}
+use Rattle.html_tokenizer.specs.Tokenizer.States.{Tokenizer, data_state}
+use Rattle.html_tokenizer.proofs.UrlValues.Slots.Tame.{IsTame, data_state_is_tame, tame_after}
+use Rattle.html_template.proofs.MayEnd.{ends_in_data}
+use Rattle.html_template.proofs.PartNumbers.{markup_before, markup_number, pieces_number, slot_before}
+use Rattle.html_template.proofs.PageUrls.OpenPlaces.{OpenStands, markup_stands, none_open, slot_stands}
+use Rattle.html_template.proofs.PageUrls.SlotSteps.{past_slot, tame_behind}
+use Rattle.html_template.proofs.Pieces.{at_end, at_markup, at_slot}
+use Rattle.html_template.proofs.Walks.{slot_suits}
+
+-- behind a template another one begins as at the front of a page
+abbrev behind_template : List ℕ → Walk
+behind_template markup = record { tokenizer = data_state; markup = markup; url = Outside }
+
+begins_anew : (number : ℕ) (markup : List ℕ) (parts : List Given) (chunks : List Chunk) → template_of parts ≡ Ok chunks →
+    pieces_from number (behind_template markup) parts ≡ Ok chunks
+begins_anew number markup [] chunks told = told
+begins_anew number markup (GivenMarkup bytes ∷ parts) chunks told =
+    let here = at_markup 0 at_beginning bytes parts chunks told in
+    rw here.whole
+    (markup_before number (behind_template markup) bytes parts here.url here.rest here.read (markup_number 0 number Outside bytes here.url here.opened)
+    (pieces_number 1 (number + 1) (behind_markup (behind_template markup) bytes here.url) parts here.rest here.told))
+begins_anew number markup (GivenSlot ∷ parts) chunks told =
+    let here = at_slot 0 at_beginning parts chunks told in
+    rw here.whole
+    (slot_before number (behind_template markup) parts here.slot here.rest here.placed
+    (pieces_number 1 (number + 1) (behind_slot (behind_template markup) here.slot) parts here.rest here.told))
+
+begins_where : (number : ℕ) (walk : Walk) (parts : List Given) (chunks : List Chunk) → walk.tokenizer ≡ data_state → walk.url ≡ Outside →
+    template_of parts ≡ Ok chunks → pieces_from number walk parts ≡ Ok chunks
+begins_where number walk parts chunks ended closed told = rw (ended, closed) (begins_anew number walk.markup parts chunks told)
+
+told_behind_slot : (walk : Walk) (slot : PlacedSlot) → after_slot slot.place slot.kind walk.tokenizer ≡ past_slot walk.tokenizer slot.place →
+    IsTame (past_slot walk.tokenizer slot.place) → OpenStands slot.url (past_slot walk.tokenizer slot.place) →
+    IsTame (behind_slot walk slot).tokenizer × OpenStands (behind_slot walk slot).url (behind_slot walk slot).tokenizer
+told_behind_slot walk slot goes tame stands = (subst IsTame (sym goes) tame, subst (OpenStands slot.url) (sym goes) stands)
+
+joined_from : (number : ℕ) (walk : Walk) (first second : List Given) (one two : List Chunk) → pieces_from number walk first ≡ Ok one →
+    IsTame walk.tokenizer → OpenStands walk.url walk.tokenizer → template_of second ≡ Ok two → pieces_from number walk (first ++ second) ≡ Ok (one ++ two)
+joined_from number walk [] second one two told tame stands next =
+    let end = at_end number walk one told in
+    rw end.none
+    (begins_where number walk second two (ends_in_data walk.tokenizer end.may) (none_open walk.url walk.tokenizer tame end.may stands) next)
+joined_from number walk (GivenMarkup bytes ∷ first) second one two told tame stands next =
+    let here = at_markup number walk bytes first one told in
+    rw here.whole
+    (markup_before number walk bytes (first ++ second) here.url (here.rest ++ two) here.read here.opened
+    (joined_from (number + 1) (behind_markup walk bytes here.url) first second here.rest two here.told (tame_after walk.tokenizer bytes tame)
+    (markup_stands number walk.url walk.tokenizer bytes here.url tame here.read here.opened stands) next))
+joined_from number walk (GivenSlot ∷ first) second one two told tame stands next =
+    let here = at_slot number walk first one told in
+    let suited = (slot_suits number walk.markup walk.url (standing walk.tokenizer) here.slot here.placed).suited in
+    let goes : after_slot here.slot.place here.slot.kind walk.tokenizer ≡ past_slot walk.tokenizer here.slot.place = rw suited refl in
+    let behind = told_behind_slot walk here.slot goes (tame_behind number walk.markup walk.url walk.tokenizer here.slot tame here.placed)
+    (slot_stands number walk.markup walk.url walk.tokenizer (standing walk.tokenizer) here.slot refl here.placed) in
+    rw here.whole
+    (slot_before number walk (first ++ second) here.slot (here.rest ++ two) here.placed
+    (joined_from (number + 1) (behind_slot walk here.slot) first second here.rest two here.told behind.0 behind.1 next))
+
+pub joined_told : (first second : List Given) (one two : List Chunk) → template_of first ≡ Ok one → template_of second ≡ Ok two →
+    template_of (first ++ second) ≡ Ok (one ++ two)
+joined_told first second one two told next = joined_from 0 at_beginning first second one two told data_state_is_tame tt next
+
+-- ---- by the test
+
+is_told_of : (told : Told) → is_told told ≡ true → told ≡ Ok (told_chunks told)
+is_told_of (Ok chunks) is = refl
+is_told_of (Err fault) is = absurd (cc)
+
+pub placed_told : (parts : List Given) → is_template parts ≡ true → template_of parts ≡ Ok (placed parts)
+placed_told parts is = is_told_of (template_of parts) is
+
+pub is_template_of : (parts : List Given) (chunks : List Chunk) → template_of parts ≡ Ok chunks → is_template parts ≡ true
+is_template_of parts chunks told = ap is_told told
+
+pub placed_of : (parts : List Given) (chunks : List Chunk) → template_of parts ≡ Ok chunks → placed parts ≡ chunks
+placed_of parts chunks told = ap told_chunks told

@@ -1,0 +1,129 @@
+-- Where a URL with slots is open, the tokenizer is in its value.
+use Rattle.std.proofs.Common.{ℕ, ◌≡◌, ◌∙◌, Bool, true, false, List, [], ◌∷◌, Ok, Err, length, take, nat_lt, refl, sym, subst, ⊎_elim, arith}
+use Rattle.std.specs.Prelude.{⊤}
+use Rattle.std.proofs.lemmas.Bool.{cases_Bool, true≢false}
+use Rattle.std.proofs.lemmas.Bool.Decides.{nat_tests}
+use Rattle.html_template.specs.declared.faults.TemplateFault.TheVariants.{AfterLink}
+use Rattle.html_template.specs.declared.open_url.OpenUrl.{OpenUrl}
+use Rattle.html_template.specs.declared.open_url.OpenUrl.TheVariants.{Outside, Within, Whole}
+use Rattle.html_template.specs.declared.open_url.PlacedSlot.{PlacedSlot}
+use Rattle.html_template.specs.declared.parts.SlotKind.{SlotKind}
+use Rattle.html_template.specs.declared.parts.SlotKind.TheVariants as kind
+use Rattle.html_template.specs.OpenUrls.{slot_behind, url_markup, value_length}
+use Rattle.html_template.specs.Slots.{suits}
+use Rattle.html_template.specs.TemplateFaults.{slot_at}
+use Rattle.html_tokenizer.specs.declared.elements.Content.{Content}
+use Rattle.html_tokenizer.specs.declared.reader.Standing.{Standing}
+use Rattle.html_tokenizer.specs.declared.reader.Standing.TheVariants.{Stands, InUrl, InLink, Nowhere, Barred}
+use Rattle.html_tokenizer.specs.declared.slot_place.SlotPlace.{SlotPlace}
+use Rattle.html_tokenizer.specs.Standing.{is_refused, may_end, standing}
+use Rattle.html_tokenizer.specs.Tokenizer.States.{Attribute, In, Tokenizer, at_value}
+use Rattle.html_tokenizer.specs.Tokenizer.Tokenization.{state_after}
+use Rattle.html_tokenizer.specs.UrlValues.{ends_value, is_url}
+use Rattle.html_tokenizer.proofs.UrlValues.Places.{is_value_place}
+use Rattle.html_tokenizer.proofs.UrlValues.Reading.{reads_on}
+use Rattle.html_tokenizer.proofs.UrlValues.Slots.Tame.{IsTame}
+use Rattle.html_urls.specs.declared.open_part.OpenPart.{OpenPart}
+use Rattle.html_template.proofs.PageUrls.LaterMarkup.{as_told, behind_told, goes_on, is_ended, ok_url}
+use Rattle.html_template.proofs.PageUrls.OpenEnds.{no_end}
+use Rattle.html_template.proofs.PageUrls.Opening.{StandsAt, value_place}
+use Rattle.html_template.proofs.PageUrls.Placed.{InPart, IsFirst, behind, first_told, part_told, whole}
+use Rattle.html_template.proofs.PageUrls.SlotSteps.{past_slot}
+use Rattle.html_template.proofs.TemplateLaw.{link_in_url, part_in_url}
+use Rattle.html_template.proofs.Walks.{ok_slot, slot_suits, told_behind_markup}
+use Rattle.html_template.proofs.PageUrls.Splitting.{IsCut, IsWhole, whole_or_cut}
+
+abbrev pub OpenStands : OpenUrl → Tokenizer → Type 0
+OpenStands Outside t = ⊤
+OpenStands (Within p part) t = StandsAt p t
+OpenStands (Whole p) t = StandsAt p t
+
+-- so none is open where a template may end
+pub none_open : (url : OpenUrl) (t : Tokenizer) → IsTame t → may_end t ≡ true → OpenStands url t → url ≡ Outside
+none_open Outside t tame may stands = refl
+none_open (Within p part) t tame may stands = absurd (no_end p t tame may stands)
+none_open (Whole p) t tame may stands = absurd (no_end p t tame may stands)
+
+-- ---- behind markup
+
+module _ (p : SlotPlace) (content : Content) (attribute : Attribute) (place : is_value_place p ≡ true) (url : is_url attribute ≡ true) where
+  abbrev here : Tokenizer
+  here = at_value (In p) content attribute
+
+  part_stands : (number : ℕ) (part : OpenPart) (bytes : List ℕ) (opened : OpenUrl) → is_refused (state_after here bytes).state ≡ false →
+      url_markup number (Within p part) bytes ≡ Ok opened → OpenStands opened (state_after here bytes)
+  part_stands number part bytes opened unrefused told =
+      ⊎_elim
+      (λ (whole : IsWhole (ends_value p) bytes).
+      let end = whole.end in
+      let all_of_it : nat_lt (value_length p bytes) (length bytes) ≡ false = grind (arith, nat_tests) in
+      let behind = behind_told number p part false bytes opened (rw (all_of_it, whole.all) at told) in
+      let stays = reads_on p content attribute bytes behind.text place url whole.none behind.adds.read unrefused in
+      subst (λ (x : OpenUrl). OpenStands x (state_after here bytes)) (goes_on number p behind.after opened behind.told)
+      (subst (StandsAt p) (sym stays.passes.after) (record { state_is = refl; attribute_is = url })))
+      (λ (cut : IsCut (ends_value p) bytes).
+      let within = cut.within in
+      let ends : nat_lt (value_length p bytes) (length bytes) ≡ true = grind (arith, nat_tests) in
+      let behind = behind_told number p part true (take (value_length p bytes) bytes) opened (rw ends at told) in
+      subst (λ (x : OpenUrl). OpenStands x (state_after here bytes)) (is_ended number p behind.after opened behind.told).outside tt)
+      (whole_or_cut (ends_value p) bytes)
+
+  whole_stands : (number : ℕ) (bytes : List ℕ) (opened : OpenUrl) → url_markup number (Whole p) bytes ≡ Ok opened → OpenStands opened (state_after here bytes)
+  whole_stands number [] opened told =
+      subst (λ (x : OpenUrl). OpenStands x here) (ok_url told) (record { state_is = refl; attribute_is = url })
+  whole_stands number (b ∷ rest) opened told =
+      ⊎_elim
+      (λ (ends : ends_value p b ≡ true). subst (λ (x : OpenUrl). OpenStands x (state_after here (b ∷ rest))) (ok_url (rw ends at told)) tt)
+      (λ (goes_on : ends_value p b ≡ false).
+      let clash : Err (AfterLink number) ≡ as_told opened = rw goes_on at told in
+      absurd (cc))
+      (cases_Bool (ends_value p b))
+
+pub markup_stands : (number : ℕ) (before : OpenUrl) (t : Tokenizer) (bytes : List ℕ) (opened : OpenUrl) → IsTame t →
+    is_refused (state_after t bytes).state ≡ false → url_markup number before bytes ≡ Ok opened → OpenStands before t → OpenStands opened (state_after t bytes)
+markup_stands number Outside t bytes opened tame unrefused told stands =
+    subst (λ (x : OpenUrl). OpenStands x (state_after t bytes)) (ok_url told) tt
+markup_stands number (Within p part) t bytes opened tame unrefused told stands =
+    subst (λ s. OpenStands opened (state_after (at_value s t.content t.attribute) bytes)) (sym stands.state_is)
+    (part_stands p t.content t.attribute (value_place p t tame stands) stands.attribute_is number part bytes opened
+    (subst (λ s. is_refused (state_after (at_value s t.content t.attribute) bytes).state ≡ false) stands.state_is unrefused) told)
+markup_stands number (Whole p) t bytes opened tame unrefused told stands =
+    subst (λ s. OpenStands opened (state_after (at_value s t.content t.attribute) bytes)) (sym stands.state_is)
+    (whole_stands p t.content t.attribute (value_place p t tame stands) stands.attribute_is number bytes opened told)
+
+-- ---- behind a slot
+
+-- a slot in a URL leaves that URL open
+abbrev OpensUrl : PlacedSlot → Type 0
+OpensUrl slot = (t : Tokenizer) → is_url t.attribute ≡ true → OpenStands slot.url (past_slot t slot.place)
+
+part_opens : (p : SlotPlace) (part : OpenPart) (slot : PlacedSlot) → InPart p part slot → OpensUrl slot
+part_opens p part slot placed = subst OpensUrl placed.is (λ t url. record { state_is = refl; attribute_is = url })
+
+first_opens : (p : SlotPlace) (markup : List ℕ) (slot : PlacedSlot) → IsFirst p markup slot → OpensUrl slot
+first_opens p markup slot (whole last is) = subst OpensUrl is (λ t url. record { state_is = refl; attribute_is = url })
+first_opens p markup slot (behind raw last front) = part_opens p front.part slot front.placed
+
+url_opens : (number : ℕ) (p : SlotPlace) (is_followed : Bool) (markup : List ℕ) (url : OpenUrl) (slot : PlacedSlot) →
+    slot_behind number p is_followed markup url ≡ Ok slot → OpensUrl slot
+url_opens number p is_followed markup Outside slot told = first_opens p markup slot (first_told number p is_followed markup slot told)
+url_opens number p is_followed markup (Within q part) slot told = part_opens p part slot (part_told number p part slot told)
+url_opens number p is_followed markup (Whole q) slot told = absurd (cc)
+
+-- it stands in the value of an attribute that holds one
+holds_url : (found : SlotKind) (p : SlotPlace) (t : Tokenizer) → suits found p (standing t) ≡ true → suits kind.Text p (standing t) ≡ false → is_url t.attribute ≡ true
+holds_url kind.Text p t suited no_text = absurd (true≢false (sym suited ∙ no_text))
+holds_url (kind.UrlPart slot) p t suited no_text = (part_in_url slot p t.state t.content t.attribute suited).attribute_is
+holds_url kind.Link p t suited no_text = (link_in_url p t.state t.content t.attribute suited).attribute_is
+
+pub slot_stands : (number : ℕ) (markup : List ℕ) (url : OpenUrl) (t : Tokenizer) (s : Standing) (slot : PlacedSlot) → standing t ≡ s →
+    slot_at number markup url s ≡ Ok slot → OpenStands slot.url (past_slot t slot.place)
+slot_stands number markup url t (Stands p) slot is told = subst (λ (x : PlacedSlot). OpenStands x.url (past_slot t x.place)) (ok_slot told) tt
+slot_stands number markup url t (InUrl p) slot is told =
+    url_opens number p false markup url slot (told_behind_markup number p false markup url slot told) t
+    (holds_url slot.kind slot.place t (rw is (slot_suits number markup url (InUrl p) slot told).suited) (rw is refl))
+slot_stands number markup url t (InLink p) slot is told =
+    url_opens number p true markup url slot (told_behind_markup number p true markup url slot told) t
+    (holds_url slot.kind slot.place t (rw is (slot_suits number markup url (InLink p) slot told).suited) (rw is refl))
+slot_stands number markup url t Barred slot is told = absurd (cc)
+slot_stands number markup url t Nowhere slot is told = absurd (cc)

@@ -1,0 +1,64 @@
+-- A page of a template's parts: how it is read, and that of any other texts beside it.
+use Rattle.std.proofs.Common.{ℕ, ◌≡◌, true, List, [], ◌++◌, IsUtf8, Ok, refl, sym, ap, ◌∙◌, subst, append-nil}
+use Rattle.std.specs.List.{AllByRecursion}
+use Rattle.html_tokenizer.specs.Tokenizer.States.{Tokenizer, data_state}
+use Rattle.html_tokenizer.specs.Tokenizer.Tokenization.{actions_of, state_after}
+use Rattle.html_tokenizer.specs.Tokens.{skeleton, tokens}
+use Rattle.html_template.specs.FilledUrls.{FillUrls, HasUrls, filled_urls, template_urls, url_texts}
+use Rattle.html_template.specs.PageUrls.{AllAlike, urls_of, whole_urls}
+use Rattle.html_template.specs.Structure.{IsPageOf, IsReadAs, structure}
+use Rattle.html_template.specs.TemplateFaults.{is_template, placed}
+use Rattle.html_template.specs.Templates.{Given, page, state_after_all}
+use Rattle.html_template.proofs.JoinedParts.{placed_told}
+use Rattle.html_template.proofs.PageUrls.Law.{has_urls, urls_alike}
+use Rattle.html_template.proofs.Pieces.{sound_told}
+use Rattle.html_template.proofs.Structure.{is_read_as, structure_of_page}
+use Rattle.html_template.proofs.TokenLaw.{skeleton_of_pages}
+
+sound : (parts : List Given) → is_template parts ≡ true → state_after_all data_state (placed parts) ≡ data_state
+sound parts is = sound_told parts (placed parts) (placed_told parts is)
+
+pub page_reads : (parts : List Given) (texts : List (List ℕ)) (bytes : List ℕ) → IsPageOf parts texts bytes → IsReadAs (placed parts) texts bytes
+page_reads parts texts bytes is =
+    subst (IsReadAs (placed parts) texts) is.whole (is_read_as (placed parts) texts (sound parts is.template) is.full is.utf8)
+
+-- behind it the tokenizer is where a page begins
+pub page_passes : (parts : List Given) (texts : List (List ℕ)) (bytes : List ℕ) → IsPageOf parts texts bytes → state_after data_state bytes ≡ data_state
+page_passes parts texts bytes is = ap (state_after data_state) (sym (append-nil bytes)) ∙ (page_reads parts texts bytes is).ends []
+
+-- ---- two pages
+
+pub same_structure : (parts : List Given) (texts others : List (List ℕ)) (first second : List ℕ) → IsPageOf parts texts first → IsPageOf parts others second →
+    structure (actions_of data_state first) ≡ structure (actions_of data_state second)
+same_structure parts texts others first second one two =
+    let is = sound parts one.template in
+    ap (λ bytes. structure (actions_of data_state bytes)) (sym one.whole)
+    ∙ structure_of_page (placed parts) texts is one.full one.utf8
+    ∙ sym (structure_of_page (placed parts) others is two.full two.utf8)
+    ∙ ap (λ bytes. structure (actions_of data_state bytes)) two.whole
+
+pub same_tokens : (parts : List Given) (texts others : List (List ℕ)) (first second : List ℕ) → IsPageOf parts texts first → IsPageOf parts others second →
+    skeleton (tokens (actions_of data_state first)) ≡ skeleton (tokens (actions_of data_state second))
+same_tokens parts texts others first second one two =
+    ap (λ bytes. skeleton (tokens (actions_of data_state bytes))) (sym one.whole)
+    ∙ skeleton_of_pages (placed parts) texts others (sound parts one.template) one.full one.utf8 two.full two.utf8
+    ∙ ap (λ bytes. skeleton (tokens (actions_of data_state bytes))) two.whole
+
+pub same_urls : (parts : List Given) (texts others : List (List ℕ)) (first second : List ℕ) → IsPageOf parts texts first → IsPageOf parts others second →
+    AllAlike (whole_urls (placed parts) texts) (whole_urls (placed parts) others) (urls_of first) (urls_of second)
+same_urls parts texts others first second one two =
+    rw (← one.whole, ← two.whole)
+    (urls_alike parts (placed parts) texts others (placed_told parts one.template) one.full two.full one.utf8 two.utf8)
+
+-- ---- its URLs
+
+pub parts_have_urls : (parts : List Given) → is_template parts ≡ true → HasUrls (placed parts)
+parts_have_urls parts is = has_urls parts (placed parts) (placed_told parts is)
+
+pub page_urls : (parts : List Given) (texts : List (List ℕ)) (bytes : List ℕ) → IsPageOf parts texts bytes →
+    urls_of bytes ≡ filled_urls (template_urls parts) (url_texts (placed parts) texts)
+page_urls parts texts bytes is =
+    ap urls_of (sym is.whole) ∙ (parts_have_urls parts is.template texts is.full is.utf8).same
+
+pub urls_fill : (parts : List Given) (texts : List (List ℕ)) (bytes : List ℕ) → IsPageOf parts texts bytes → FillUrls (template_urls parts) (url_texts (placed parts) texts)
+urls_fill parts texts bytes is = (parts_have_urls parts is.template texts is.full is.utf8).full

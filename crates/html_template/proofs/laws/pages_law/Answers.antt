@@ -1,0 +1,5 @@
+use Rattle.html_template.proofs.Joined.{joined_pages, joined_urls, no_page}
+use Rattle.html_template.proofs.laws.pages_law.Goals as goal
+
+pub returns : goal.returns
+returns c = record { none = no_page; both = joined_pages; urls = joined_urls }
