@@ -5,3 +5,4 @@ pub mod PathLaw
 pub mod PathSegments
 pub mod SegmentFits
 pub mod UrlSegments
+pub mod WebSchemes

@@ -1,13 +1,13 @@
 -- What is open at the end of a URL's beginning (URL Standard, 4.4 URL parsing: path state, query state, fragment state).
-use Rattle.std.specs.Prelude.{ℕ, Bool, true, false, not, ◌&&◌, ◌||◌, ◌==◌, eqb, List, [], ◌∷◌, drop, codes, Option, Some, None, if◌then◌else◌}
+use Rattle.std.specs.Prelude.{ℕ, Bool, true, false, not, ◌&&◌, ◌||◌, ◌==◌, eqb, List, [], ◌∷◌, ◌+◌, drop, take, slice_index, codes, Option, Some, None, if◌then◌else◌}
 use Rattle.std.specs.List.{list_any, starts_with}
-use Rattle.url.specs.Ascii.{dot, number_sign, percent_sign, question_mark, slash}
+use Rattle.url.specs.Ascii.{colon, dot, number_sign, percent_sign, question_mark, slash}
 use Rattle.html_urls.specs.declared.open_part.OpenPart.{OpenPart}
 use Rattle.html_urls.specs.declared.open_part.OpenPart.TheVariants.{NewSegment, DotSegment, NamedSegment, Query, Fragment}
 use Rattle.html_urls.specs.declared.parts.UrlSlot.{UrlSlot}
 use Rattle.html_urls.specs.declared.place.UrlPlace.TheVariants as place
-use Rattle.html_urls.specs.Hosts.{has_first_segment}
-use Rattle.html_urls.specs.Links.{is_link}
+use Rattle.html_urls.specs.Hosts.{has_first_segment, is_web_scheme}
+use Rattle.html_urls.specs.Links.{is_link, mark_at}
 use Rattle.html_urls.specs.Parts.Segments.{is_dot_byte}
 
 -- a segment ends before it
@@ -98,13 +98,14 @@ begins bytes mark = starts_with eqb bytes mark
 abbrev pub is_rooted : List ℕ → Bool
 is_rooted front = begins front (codes "/") && not (begins front (codes "//"))
 
--- `http:` or `https:`, and such a host
+-- `http:` or `https:`, in any case, and such a host
 abbrev pub has_web_host : List ℕ → Bool
-has_web_host front = (begins front (codes "http:") && has_host (drop 5 front)) || (begins front (codes "https:") && has_host (drop 6 front))
+has_web_host front =
+    slice_index front (mark_at front) == colon && is_web_scheme (take (mark_at front) front) && has_host (drop (mark_at front + 1) front)
 
--- one of these, or a first segment and `/`
+-- one of these, such a host with the scheme of the page, or a first segment and `/`
 abbrev pub is_fixed : List ℕ → Bool
-is_fixed front = is_rooted front || has_first_segment front || has_web_host front
+is_fixed front = is_rooted front || has_first_segment front || has_host front || has_web_host front
 
 -- what is open at its end
 abbrev pub open_of_link : List ℕ → Option OpenPart

@@ -1,5 +1,5 @@
 -- In which part of a URL its front ends.
-use Rattle.std.specs.Prelude.{◌≡◌, ⊤, ℕ, ◌-◌, Bool, false, not, ◌&&◌, ◌||◌, ◌==◌, nat_lt, List, [], ◌∷◌, length, slice_index, codes, bytes_eq, Option, Some, None, is_some, if◌then◌else◌}
+use Rattle.std.specs.Prelude.{◌≡◌, ⊤, ℕ, ◌-◌, Bool, false, not, ◌&&◌, ◌||◌, ◌==◌, nat_lt, List, [], ◌∷◌, length, slice_index, Option, Some, None, is_some, if◌then◌else◌}
 use Rattle.std.specs.List.{list_all}
 use Rattle.url.specs.Ascii.{number_sign, question_mark, slash, space}
 use Rattle.url.specs.Input.{split_once}
@@ -8,7 +8,7 @@ use Rattle.url.specs.Parts.{Parts}
 use Rattle.url.specs.Parser.{split_scheme}
 use Rattle.html_urls.specs.declared.place.UrlPlace.{UrlPlace}
 use Rattle.html_urls.specs.declared.place.UrlPlace.TheVariants.{Path, Query, Fragment}
-use Rattle.html_urls.specs.Hosts.{IsWebBase, has_first_segment}
+use Rattle.html_urls.specs.Hosts.{IsWebBase, has_first_segment, is_web_scheme}
 use Rattle.html_urls.specs.Inputs.{kept}
 use Rattle.html_urls.specs.Parts.Fragments.{EndsInFragment, fragment_goes_on}
 use Rattle.html_urls.specs.Parts.Paths.{EndsInPath, FitsSegment, is_path_byte, path_goes_on}
@@ -48,9 +48,6 @@ goes_on Fragment = fragment_goes_on
 
 -- ---- the test of a front
 
-abbrev pub is_web_scheme : List ℕ → Bool
-is_web_scheme scheme = bytes_eq scheme (codes "http") || bytes_eq scheme (codes "https")
-
 -- `//`, a host and `/`
 abbrev pub has_whole_host : List ℕ → Bool
 has_whole_host (a ∷ b ∷ more) = a == slash && b == slash && nat_lt 0 (length (split_once slash more).0) && is_some (split_once slash more).1
@@ -66,7 +63,7 @@ is_absolute None = false
 abbrev pub fixes_host : List ℕ → Bool
 fixes_host [] = false
 fixes_host (b ∷ rest) =
-    if b == slash then not (slice_index rest 0 == slash)
+    if b == slash then not (slice_index rest 0 == slash) || has_whole_host (b ∷ rest)
     else has_first_segment (b ∷ rest) || is_absolute (split_scheme (b ∷ rest))
 
 -- where what the parser keeps of a front ends

@@ -4,7 +4,9 @@ ghost use Rattle.url.specs.Input.{lowercase};
 ghost use Rattle.html_urls.specs.Links as spec;
 
 /// Whether the text is a URL with the scheme `http`, `https` or `mailto`, or one with no scheme, which
-/// has that of the page.
+/// has that of the page. What stands before a `:` counts as a scheme where no `/`, `?` and `#` is in it,
+/// also where it is none to a browser: a scheme begins with a letter and has letters, digits, `+`, `-` and
+/// `.` alone. So `12:30`, `a b:c` and `é:x` are no links, and `./12:30` is one.
 ///
 /// Of `HTTPS://a.example` and `/a:b` it is `true`, and of `javascript:x`, ` javascript:x` and
 /// `java\tscript:x` it is `false`.

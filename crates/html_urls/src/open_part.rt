@@ -192,12 +192,21 @@ fn is_rooted(front: &[u8]) -> bool
     front.starts_with(b"/") && !front.starts_with(b"//")
 }
 
-// `http://` or `https://`, a host and `/`.
+fn is_web_scheme(scheme: &[u8]) -> bool
+    ensures { result ≡ hosts.is_web_scheme scheme.now }
+{
+    scheme.eq_ignore_ascii_case(b"http") || scheme.eq_ignore_ascii_case(b"https")
+}
+
+// `http://` or `https://`, in any case, a host and `/`.
 fn has_web_host(front: &[u8]) -> bool
     ensures { result ≡ spec.has_web_host front.now }
 {
-    (front.starts_with(b"http:") && has_host(&front[5..]))
-        || (front.starts_with(b"https:") && has_host(&front[6..]))
+    let at = mark_at(front);
+    at < front.len()
+        && front[at] == b':'
+        && is_web_scheme(&front[..at])
+        && has_host(&front[at + 1..])
 }
 
 // The first segment of a relative path, which is not empty and has no `:`, and `/`.
@@ -209,18 +218,18 @@ fn has_first_segment(front: &[u8]) -> bool
 }
 
 // Whether the host is fixed before markup that goes on: by one `/`, by a first segment of a relative
-// path and `/`, or by the markup's own host.
+// path and `/`, or by the markup's own host, with a scheme or that of the page.
 fn is_fixed(front: &[u8]) -> bool
     ensures { result ≡ spec.is_fixed front.now }
 {
-    is_rooted(front) || has_first_segment(front) || has_web_host(front)
+    is_rooted(front) || has_first_segment(front) || has_host(front) || has_web_host(front)
 }
 
 /// What is open at the end of the markup before the first slot, if a text may stand there. Behind a scheme
 /// that is none of `http`, `https` and `mailto` none may: of a `javascript:` or a `data:` URL a browser
 /// decodes all that follows, and runs or shows it.
 ///
-/// Of `/items/` and `items/` it is `NewSegment`, of `mailto:a@b.example?subject=` it is `Query`, and of
+/// Of `/items/`, `items/` and `//a.example/` it is `NewSegment`, of `mailto:a@b.example?subject=` it is `Query`, and of
 /// `//`, `items` and `javascript:x?` it is `None`.
 pub fn open_of(front: &[u8]) -> Option<OpenPart>
     ensures { result ≡ spec.open_of front.now }

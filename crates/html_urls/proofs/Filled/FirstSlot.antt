@@ -1,6 +1,6 @@
 -- The markup before the first slot, and what its text and the parts behind it do.
-use Rattle.std.proofs.Common.{◌≡◌, ◌≢◌, ℕ, ◌+◌, ◌<◌, Bool, true, false, not, ◌&&◌, ◌||◌, ◌==◌, nat_lt, List, [], ◌∷◌, ◌++◌, length, drop, codes, Option, Some, None, Ok, Err, IsOkAnd, is_some, All, sym, refl, ap, ◌∙◌, subst, ⊎_elim, append_assoc, append-nil, arith}
-use Rattle.std.proofs.lemmas.Bool.{cases_Bool, cases_eq, both_ways, eq-eqb, ne_eqb, and_parts, cond-true, cond-false, lt-leb, lt-ltb}
+use Rattle.std.proofs.Common.{◌≡◌, ◌≢◌, ℕ, ◌+◌, ◌<◌, Bool, true, false, not, ◌&&◌, ◌||◌, ◌==◌, nat_lt, List, [], ◌∷◌, ◌++◌, length, drop, take, get_or, lt_of_not-le, codes, Option, Some, None, Ok, Err, IsOkAnd, is_some, All, sym, refl, ap, ◌∙◌, subst, ⊎_elim, append_assoc, append-nil, arith}
+use Rattle.std.proofs.lemmas.Bool.{cases_Bool, cases_eq, both_ways, eq-eqb, eqb-true, ne_eqb, and_parts, cond-true, cond-false, lt-leb, lt-ltb}
 use Rattle.std.proofs.lemmas.Bool.Decides.{nat_tests, Decides-eqb}
 use Rattle.std.proofs.lemmas.List.Elements.{All-nil, All-cons, All-head, All-tail, All-append, All-push, All-weaker}
 use Rattle.std.proofs.lemmas.Slice.Eq.{starts_is}
@@ -8,16 +8,17 @@ use Rattle.url.specs.Input.{rsplit_once, split_once, trim_c0_control_and_space}
 use Rattle.url.specs.Path.{dot_count}
 use Rattle.url.specs.Parts.{Parts}
 use Rattle.url.specs.Parser.{parse_url}
-use Rattle.url.proofs.InputLemmas.{All_from_list_all}
+use Rattle.url.proofs.InputLemmas.{All_from_list_all, split_around}
+use Rattle.std.proofs.lemmas.List.{get_or_past}
 use Rattle.html_urls.specs.Components.{component}
 use Rattle.html_urls.specs.Heads.{head_of}
-use Rattle.html_urls.specs.Hosts.{FixesHost, IsWebBase, has_first_segment, rooted}
+use Rattle.html_urls.specs.Hosts.{FixesHost, IsWebBase, has_first_segment, is_web_scheme, rooted}
 use Rattle.html_urls.specs.Inputs.{IsNot, IsVisible, kept, kept_rest}
-use Rattle.html_urls.specs.Links.{is_link}
+use Rattle.html_urls.specs.Links.{is_link, mark_at}
 use Rattle.html_urls.specs.Parts.Paths.{FitsSegment, IsPathText, is_path_byte}
 use Rattle.html_urls.specs.Parts.Rests.{path_of}
 use Rattle.html_urls.specs.Parts.Segments.{HasNoDotSegments, last_segment}
-use Rattle.html_urls.specs.Places.{EndsIn, Fits, SuitsPlace, has_whole_host, is_web_scheme}
+use Rattle.html_urls.specs.Places.{EndsIn, Fits, SuitsPlace, has_whole_host}
 use Rattle.html_urls.specs.declared.open_part.OpenPart.{OpenPart}
 use Rattle.html_urls.specs.declared.open_part.OpenPart.TheVariants.{NewSegment, DotSegment, NamedSegment, Query, Fragment}
 use Rattle.html_urls.specs.declared.parts.UrlFault.TheVariants as fault
@@ -28,7 +29,7 @@ use Rattle.html_urls.specs.OpenParts.{after_byte, after_front, after_segment_byt
 use Rattle.html_urls.specs.Slots.{FillSlots, Given, Markup, Slot, Told, after_slots, first_slots, is_plain, is_plain_byte, later_slots, may_fill, told_of, url_of}
 use Rattle.html_urls.proofs.Splits.{kept_nothing, kept_visible}
 use Rattle.html_urls.proofs.Paths.PathSegments.{last_after, last_of_whole, last_whole}
-use Rattle.html_urls.proofs.Places.PlaceSound.{first_segment, whole_host}
+use Rattle.html_urls.proofs.Places.PlaceSound.{first_segment, own_host, whole_host}
 use Rattle.html_urls.proofs.Places.PlaceStays.{all_visible}
 use Rattle.html_urls.proofs.Places.UrlLaw.{head_law}
 use Rattle.html_urls.proofs.Filled.OpenSegments.{Open, after_segment, closes, in_path, segment_in_path}
@@ -71,10 +72,16 @@ rooted_front (a ∷ b ∷ rest) one two =
     let other : b ≢ 47 = λ e. let clash = rw (same, e) at two in cc in
     subst (λ x. FixesHost (x ∷ b ∷ rest)) (sym same) (rooted (b ∷ rest) other)
 
-absolute_front : (scheme front : List ℕ) → begins front (scheme ++ 58 ∷ []) ≡ true → is_web_scheme scheme ≡ true → has_host (drop (length (scheme ++ 58 ∷ [])) front) ≡ true → FixesHost front
-absolute_front scheme front one web host =
-    let body = drop (length (scheme ++ 58 ∷ [])) front in
-    whole_host front scheme body (begun front (scheme ++ 58 ∷ []) one ∙ append_assoc scheme (58 ∷ []) body) web (host_is_whole body host)
+absolute_front : (front : List ℕ) → has_web_host front ≡ true → FixesHost front
+absolute_front front web =
+    let n = mark_at front in
+    let scheme = take n front in
+    let body = drop (n + 1) front in
+    let parts = and_parts (get_or front n 0 == 58 && is_web_scheme scheme) (has_host body) web in
+    let first = and_parts (get_or front n 0 == 58) (is_web_scheme scheme) parts.0 in
+    let same : get_or front n 0 ≡ 58 = eqb-true _ 58 first.0 in
+    let inside : n < length front = lt_of_not-le (λ past. let none : get_or front n 0 ≡ 0 = get_or_past front n 0 past in omega arith) in
+    whole_host front scheme body (split_around front n 58 inside same) first.1 (host_is_whole body parts.1)
 
 pub fixed_front : (front : List ℕ) → is_fixed front ≡ true → FixesHost front
 fixed_front front fixed =
@@ -83,19 +90,14 @@ fixed_front front fixed =
     let both = and_parts (begins front (codes "/")) (not (begins front (codes "//"))) root in
     rooted_front front both.0 (not_true (begins front (codes "//")) both.1))
     (λ (no_root : is_rooted front ≡ false).
-    let either : (has_first_segment front || has_web_host front) ≡ true = right (is_rooted front) (has_first_segment front) (has_web_host front) no_root fixed in
+    let either : (has_first_segment front || has_host front || has_web_host front) ≡ true = right (is_rooted front) (has_first_segment front || has_host front || has_web_host front) no_root (sym (or_assoc (is_rooted front) (has_first_segment front) (has_host front) (has_web_host front)) ∙ fixed) in
     ⊎_elim
     (λ (below : has_first_segment front ≡ true). first_segment front below)
     (λ (not_below : has_first_segment front ≡ false).
     ⊎_elim
-    (λ (http : (begins front (codes "http:") && has_host (drop 5 front)) ≡ true).
-    let both = and_parts (begins front (codes "http:")) (has_host (drop 5 front)) http in
-    absolute_front (codes "http") front both.0 refl both.1)
-    (λ (no_http : (begins front (codes "http:") && has_host (drop 5 front)) ≡ false).
-    let https : (begins front (codes "https:") && has_host (drop 6 front)) ≡ true = rw (not_below, no_http) at either in
-    let both = and_parts (begins front (codes "https:")) (has_host (drop 6 front)) https in
-    absolute_front (codes "https") front both.0 refl both.1)
-    (cases_Bool (begins front (codes "http:") && has_host (drop 5 front))))
+    (λ (own : has_host front ≡ true). own_host front (host_is_whole front own))
+    (λ (no_own : has_host front ≡ false). absolute_front front (rw (not_below, no_own) at either))
+    (cases_Bool (has_host front)))
     (cases_Bool (has_first_segment front)))
     (cases_Bool (begins front (codes "/") && not (begins front (codes "//"))))
   where
@@ -103,9 +105,13 @@ fixed_front front fixed =
     not_true true is = cc
     not_true false is = refl
 
-    right : (x y z : Bool) → x ≡ false → (x || y || z) ≡ true → (y || z) ≡ true
-    right true y z none is = cc
-    right false y z none is = is
+    right : (x y : Bool) → x ≡ false → (x || y) ≡ true → y ≡ true
+    right true y none is = cc
+    right false y none is = is
+
+    or_assoc : (w x y z : Bool) → (w || x || y || z) ≡ (w || (x || y || z))
+    or_assoc true x y z = refl
+    or_assoc false x y z = refl
 
 -- ---- the open segment
 

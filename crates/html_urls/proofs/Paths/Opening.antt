@@ -8,8 +8,8 @@ use Rattle.url.specs.declared.error.ParseError.TheVariants.{RelativeUrlWithoutBa
 use Rattle.url.specs.declared.host.Host.{Host}
 use Rattle.url.specs.declared.scheme.SchemeType.{SchemeType}
 use Rattle.url.specs.declared.scheme.SchemeType.TheVariants.{SpecialNotFile}
-use Rattle.url.specs.Input.{is_empty, split_once, rsplit_once}
-use Rattle.url.specs.Scheme.{IsScheme, default_port, scheme_type, scheme_len, is_special, is_file, is_slash}
+use Rattle.url.specs.Input.{is_empty, lowercase, split_once, rsplit_once}
+use Rattle.url.specs.Scheme.{scheme_type, scheme_len, is_special, is_file, is_slash}
 use Rattle.url.specs.Host.{parse_host}
 use Rattle.url.specs.Path.{segment_len, shorten_path, parse_path, parse_path_start}
 use Rattle.url.specs.Parts.{Parts, kind_of, cannot_be_a_base}
@@ -17,9 +17,9 @@ use Rattle.url.specs.Head.{with_authority, head_only}
 use Rattle.url.specs.Parser.{Parsed, and_then, lacks_host, split_port, parse_port, parse_authority, with_path, leading_slashes, skip_slashes, after_double_slash, after_slashes, inherit, parse_relative, parse_not_file, parse_body, with_tail, before_tail, parse_all, parse_parts, split_scheme, base_for_scheme, parse_by_scheme}
 use Rattle.url.proofs.InputLemmas.{Passes, prefix_len_at, is_empty_nonempty}
 use Rattle.url.proofs.ParsedCanonical.{before_special}
-use Rattle.url.proofs.RoundTrip.{split_own_scheme}
 use Rattle.html_urls.specs.Hosts.{IsWebScheme, IsWebBase}
 use Rattle.html_urls.specs.Inputs.{IsNot}
+use Rattle.html_urls.proofs.Paths.WebSchemes.{split_web, web_type}
 
 -- the body is read in the path state, at this path, and the rest of the URL is settled
 abbrev pub Reads : Option Parts → List ℕ → Parsed Parts → List ℕ → List ℕ → Type 0
@@ -135,16 +135,6 @@ finish_special scheme path query fragment (Ok url) kind same =
     ap (λ (u : Parts). Ok (with_tail u query fragment)) (before_special (with_path url path) query fragment (ap is_special (ap scheme_type same ∙ kind)))
 finish_special scheme path query fragment (Err e) kind same = refl
 
-is_web : (scheme : List ℕ) → IsWebScheme scheme → scheme_type scheme ≡ SpecialNotFile
-unfolding scheme_type default_port
-is_web scheme (inl http) = ap scheme_type http
-is_web scheme (inr https) = ap scheme_type https
-
-is_scheme : (scheme : List ℕ) → IsWebScheme scheme → IsScheme scheme
-unfolding scheme_len
-is_scheme scheme (inl http) = subst IsScheme (sym http) (record { nonempty = lit< tt; whole = refl; lower = refl })
-is_scheme scheme (inr https) = subst IsScheme (sym https) (record { nonempty = lit< tt; whole = refl; lower = refl })
-
 abbrev is_any_slash : ℕ → Bool
 is_any_slash b = b == 47 || b == 92
 
@@ -205,21 +195,44 @@ unfolding parse_parts
 all_reads scheme None body query fragment = refl
 all_reads scheme (Some base) body query fragment = cond-false _ _ _ (is_empty_nonempty (47 ∷ body) (omega arith))
 
-pub absolute_reads : (base : Option Parts) (scheme host rest : List ℕ) → IsWebScheme scheme → 0 < length host → All (IsNot 47) host → All (IsNot 92) host →
-    Reads base (scheme ++ codes "://" ++ host ++ 47 ∷ rest) (parse_authority scheme host) [] rest
+-- the body behind `//`, where this scheme counts
+hosted_parts : (scheme : List ℕ) (base : Option Parts) (host rest : List ℕ) (query fragment : Option (List ℕ)) → scheme_type scheme ≡ SpecialNotFile → Fits scheme base →
+    0 < length host → All (IsNot 47) host → All (IsNot 92) host →
+    parse_parts scheme base (47 ∷ 47 ∷ (host ++ 47 ∷ rest)) query fragment
+    ≡ and_then (parse_authority scheme host) (λ url. Ok (with_tail (with_path url (parse_path SpecialNotFile [] rest)) query fragment))
 unfolding parse_body
+hosted_parts scheme base host rest query fragment kind fits some other plain =
+    let slashless = no_slashes host other plain in
+    all_reads scheme base (47 ∷ (host ++ 47 ∷ rest)) query fragment
+    ∙ ap (λ r. and_then r (λ url. Ok (with_tail (before_tail url query fragment) query fragment)))
+    (cond-false _ _ _ (ap is_file kind) ∙ with_any_base scheme base (host ++ 47 ∷ rest) kind fits ∙ ap (after_double_slash scheme) (skipped host (47 ∷ rest) some slashless) ∙ after_host scheme host rest kind slashless)
+    ∙ finish_special scheme (parse_path SpecialNotFile [] rest) query fragment (parse_authority scheme host) kind (authority_scheme scheme host)
+
+pub absolute_reads : (base : Option Parts) (scheme host rest : List ℕ) → IsWebScheme scheme → 0 < length host → All (IsNot 47) host → All (IsNot 92) host →
+    Reads base (scheme ++ codes "://" ++ host ++ 47 ∷ rest) (parse_authority (lowercase scheme) host) [] rest
 absolute_reads base scheme host rest web some other plain query fragment =
-    let kind = is_web scheme web in
-    let valid = is_scheme scheme web in
     let body = 47 ∷ 47 ∷ (host ++ 47 ∷ rest) in
     let input = scheme ++ codes "://" ++ host ++ 47 ∷ rest in
     let spelled : input ≡ scheme ++ 58 ∷ body = simp append_assoc in
-    let split = ap split_scheme spelled ∙ split_own_scheme scheme body valid in
-    let slashless = no_slashes host other plain in
-    let fits = base_for_scheme base scheme in
-    ap (λ s. parse_by_scheme s base input query fragment) split
-    ∙ ap (λ s. parse_parts s (base_for_scheme base s) body query fragment) valid.lower
-    ∙ all_reads scheme fits (47 ∷ (host ++ 47 ∷ rest)) query fragment
-    ∙ ap (λ r. and_then r (λ url. Ok (with_tail (before_tail url query fragment) query fragment)))
-    (cond-false _ _ _ (ap is_file kind) ∙ with_any_base scheme fits (host ++ 47 ∷ rest) kind (fitting base scheme) ∙ ap (after_double_slash scheme) (skipped host (47 ∷ rest) some slashless) ∙ after_host scheme host rest kind slashless)
-    ∙ finish_special scheme (parse_path SpecialNotFile [] rest) query fragment (parse_authority scheme host) kind (authority_scheme scheme host)
+    ap (λ s. parse_by_scheme s base input query fragment) (ap split_scheme spelled ∙ split_web scheme body web)
+    ∙ hosted_parts (lowercase scheme) (base_for_scheme base (lowercase scheme)) host rest query fragment (web_type scheme web) (fitting base (lowercase scheme)) some other plain
+
+-- behind the scheme of the base, or why nothing is relative to it
+abbrev pub authority_of : Option Parts → List ℕ → Parsed Parts
+authority_of None host = Err RelativeUrlWithoutBase
+authority_of (Some base) host = cond (cannot_be_a_base base) (Err RelativeUrlWithCannotBeABaseBase) (parse_authority base.scheme host)
+
+pub hosted_reads : (base : Option Parts) (host rest : List ℕ) → IsWebBase base → 0 < length host → All (IsNot 47) host → All (IsNot 92) host →
+    Reads base (codes "//" ++ host ++ 47 ∷ rest) (authority_of base host) [] rest
+unfolding split_scheme scheme_len
+hosted_reads None host rest web some other plain query fragment = refl
+hosted_reads (Some base) host rest web some other plain query fragment =
+    let input = 47 ∷ 47 ∷ (host ++ 47 ∷ rest) in
+    ap (λ e. cond (cannot_be_a_base base && not (e && not (is_some query) && is_some fragment)) (Err RelativeUrlWithCannotBeABaseBase) (parse_parts base.scheme (Some base) input query fragment)) (is_empty_nonempty input (omega arith))
+    ∙ step (cannot_be_a_base base) (hosted_parts base.scheme (Some base) host rest query fragment web refl some other plain)
+  where
+    step : (refused : Bool) → parse_parts base.scheme (Some base) (47 ∷ 47 ∷ (host ++ 47 ∷ rest)) query fragment ≡ and_then (parse_authority base.scheme host) (λ url. Ok (with_tail (with_path url (parse_path SpecialNotFile [] rest)) query fragment)) →
+        cond (refused && true) (Err RelativeUrlWithCannotBeABaseBase) (parse_parts base.scheme (Some base) (47 ∷ 47 ∷ (host ++ 47 ∷ rest)) query fragment)
+        ≡ and_then (cond refused (Err RelativeUrlWithCannotBeABaseBase) (parse_authority base.scheme host)) (λ url. Ok (with_tail (with_path url (parse_path SpecialNotFile [] rest)) query fragment))
+    step true parts = refl
+    step false parts = parts

@@ -6,7 +6,7 @@ use Rattle.percent_encoding.proofs.PercentLemmas.{percent_encode_nonempty}
 use Rattle.url.specs.declared.sets.TheConstants.{PATH}
 use Rattle.url.specs.declared.scheme.SchemeType.TheVariants.{SpecialNotFile}
 use Rattle.url.specs.Head.{without_tail}
-use Rattle.url.specs.Input.{split_once}
+use Rattle.url.specs.Input.{lowercase, split_once}
 use Rattle.url.specs.Path.{dot_count, parse_path}
 use Rattle.url.specs.Parts.{Parts}
 use Rattle.url.specs.Parser.{Parsed, and_then, parse_authority, with_path, with_tail, split_scheme, parse_by_scheme, parse_url}
@@ -14,7 +14,7 @@ use Rattle.url.proofs.InputLemmas.{split_once_none}
 use Rattle.html_urls.specs.declared.component.TheConstants.{COMPONENT}
 use Rattle.html_urls.specs.Components.{component}
 use Rattle.html_urls.specs.Heads.{on_ok}
-use Rattle.html_urls.specs.Hosts.{FixesHost, absolute, rooted, relative, IsWebBase}
+use Rattle.html_urls.specs.Hosts.{FixesHost, absolute, hosted, rooted, relative, IsWebBase}
 use Rattle.html_urls.specs.Inputs.{IsNot, kept, kept_rest}
 use Rattle.html_urls.specs.Parts.Paths.{is_path_byte, IsPathText, EndsInPath, FitsSegment, path_goes_on}
 use Rattle.html_urls.specs.Parts.Rests.{path_of, query_of, fragment_of}
@@ -22,7 +22,7 @@ use Rattle.html_urls.specs.Parts.Segments.{last_segment, HasNoDotSegments}
 use Rattle.html_urls.proofs.Components.{component_without, encode_around}
 use Rattle.html_urls.proofs.Splits.{kept_around, split_clear}
 use Rattle.html_urls.proofs.Paths.PathSegments.{after_front, last_after, path_alone, path_grows}
-use Rattle.html_urls.proofs.Paths.Opening.{Reads, from_base, folder_of, all_left, all_right, rooted_reads, root_reads, absolute_reads}
+use Rattle.html_urls.proofs.Paths.Opening.{Reads, authority_of, hosted_reads, from_base, folder_of, all_left, all_right, rooted_reads, root_reads, absolute_reads}
 use Rattle.html_urls.proofs.Paths.FirstSegment.{folder_reads}
 
 -- ---- bytes
@@ -52,13 +52,26 @@ opened base _ text web plain (absolute scheme host rest is_web some other) text_
     let host_plain = all_right (IsNot 92) (scheme ++ codes "://") host before in
     let after = All-tail (IsNot 92) 47 rest (all_right (IsNot 92) head (47 ∷ rest) plain) in
     record {
-      start = parse_authority scheme host;
+      start = parse_authority (lowercase scheme) host;
       path = [];
       body = rest;
       plain = after;
       last = sym (last_after head rest);
       alone = absolute_reads base scheme host rest is_web some other host_plain;
-      goes_on = λ more. subst (λ x. Reads base x (parse_authority scheme host) [] (rest ++ (component text ++ more))) (sym (append_assoc head (47 ∷ rest) (component text ++ more))) (absolute_reads base scheme host (rest ++ (component text ++ more)) is_web some other host_plain);
+      goes_on = λ more. subst (λ x. Reads base x (parse_authority (lowercase scheme) host) [] (rest ++ (component text ++ more))) (sym (append_assoc head (47 ∷ rest) (component text ++ more))) (absolute_reads base scheme host (rest ++ (component text ++ more)) is_web some other host_plain);
+    }
+opened base _ text web plain (hosted host rest some other) text_some =
+    let head = codes "//" ++ host in
+    let host_plain = all_right (IsNot 92) (codes "//") host (all_left (IsNot 92) head (47 ∷ rest) plain) in
+    let after = All-tail (IsNot 92) 47 rest (all_right (IsNot 92) head (47 ∷ rest) plain) in
+    record {
+      start = authority_of base host;
+      path = [];
+      body = rest;
+      plain = after;
+      last = sym (last_after head rest);
+      alone = hosted_reads base host rest web some other host_plain;
+      goes_on = λ more. subst (λ x. Reads base x (authority_of base host) [] (rest ++ (component text ++ more))) (sym (append_assoc head (47 ∷ rest) (component text ++ more))) (hosted_reads base host (rest ++ (component text ++ more)) web some other host_plain);
     }
 opened base _ text web plain (rooted [] other) text_some = record {
   start = from_base base;

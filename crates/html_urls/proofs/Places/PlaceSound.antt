@@ -1,21 +1,21 @@
 -- The test of a front tells what the laws ask.
 use Rattle.std.proofs.Common.{◌≡◌, ◌≢◌, ℕ, ◌+◌, ◌-◌, ◌<◌, Bool, true, false, not, ◌&&◌, ◌||◌, ◌==◌, nat_lt, List, [], ◌∷◌, ◌++◌, length, get_or, take, drop, length-take-le, lt_of_not-le, refl, codes, bytes_eq, Option, Some, None, IfSome, is_some, All, sym, ap, ◌∙◌, subst, inl, inr, ⊎_elim, append_assoc, arith}
 use Rattle.std.specs.List.{list_all, list_any}
-use Rattle.std.proofs.lemmas.Bool.{cond_both, cond-false, cases_Bool, cases_eq, and_parts, eq-eqb, ne_eqb}
+use Rattle.std.proofs.lemmas.Bool.{cond_both, cond-true, cond-false, cases_Bool, cases_eq, and_parts, eq-eqb, ne_eqb}
 use Rattle.std.proofs.lemmas.Bool.Decides.{nat_tests}
 use Rattle.std.proofs.lemmas.List.{get_or_past}
 use Rattle.std.proofs.lemmas.List.Elements.{All-nil, All-cons, All-head, All-tail}
 use Rattle.std.proofs.lemmas.Slice.Eq.{bytes_eq-Decides}
-use Rattle.url.specs.Input.{split_once}
+use Rattle.url.specs.Input.{lowercase, split_once}
 use Rattle.url.specs.Path.{dot_count}
 use Rattle.url.specs.Parser.{split_scheme}
 use Rattle.url.proofs.InputLemmas.{All_from_list_all, All-take-prefix_len, Passes, split_around}
-use Rattle.html_urls.specs.Hosts.{IsWebScheme, FixesHost, absolute, rooted, relative, has_first_segment, is_first_byte}
+use Rattle.html_urls.specs.Hosts.{IsWebScheme, FixesHost, absolute, hosted, is_web_scheme, rooted, relative, has_first_segment, is_first_byte}
 use Rattle.html_urls.specs.Inputs.{IsNot, EndsVisibly, kept}
 use Rattle.html_urls.specs.Links.{is_mark, mark_at}
 use Rattle.html_urls.specs.Parts.Paths.{is_path_byte, EndsInPath}
 use Rattle.html_urls.specs.Parts.Segments.{last_segment}
-use Rattle.html_urls.specs.Places.{is_web_scheme, has_whole_host, is_absolute, fixes_host, place_of_kept, place_of, EndsIn}
+use Rattle.html_urls.specs.Places.{has_whole_host, is_absolute, fixes_host, place_of_kept, place_of, EndsIn}
 use Rattle.html_urls.specs.declared.place.UrlPlace.{UrlPlace}
 use Rattle.html_urls.specs.declared.place.UrlPlace.TheVariants.{Path, Query, Fragment}
 use Rattle.html_urls.proofs.Splits.{some_value}
@@ -23,10 +23,11 @@ use Rattle.html_urls.proofs.Links.LinkLaw.{IsSchemeOf, own_scheme}
 
 web_scheme : (scheme : List ℕ) → is_web_scheme scheme ≡ true → IsWebScheme scheme
 web_scheme scheme known =
+    let low = lowercase scheme in
     ⊎_elim
-    (λ (http : bytes_eq scheme (codes "http") ≡ true). inl ((bytes_eq-Decides scheme (codes "http")).0 http))
-    (λ (other : bytes_eq scheme (codes "http") ≡ false). let https : bytes_eq scheme (codes "https") ≡ true = rw other at known in inr ((bytes_eq-Decides scheme (codes "https")).0 https))
-    (cases_Bool (bytes_eq scheme (codes "http")))
+    (λ (http : bytes_eq low (codes "http") ≡ true). inl ((bytes_eq-Decides low (codes "http")).0 http))
+    (λ (other : bytes_eq low (codes "http") ≡ false). let https : bytes_eq low (codes "https") ≡ true = rw other at known in inr ((bytes_eq-Decides low (codes "https")).0 https))
+    (cases_Bool (bytes_eq low (codes "http")))
 
 -- what stands before a mark has none of it, and is followed by it
 split_parts : (s : ℕ) (xs after : List ℕ) → (split_once s xs).1 ≡ Some after → All (IsNot s) (split_once s xs).0 × (xs ≡ (split_once s xs).0 ++ s ∷ after)
@@ -43,20 +44,34 @@ split_parts s (x ∷ xs) after found =
     (rw (ne_eqb x s other) (All-cons (IsNot s) x (split_once s xs).0 other later.0), rw (ne_eqb x s other) (ap (λ l. x ∷ l) later.1)))
     (cases_eq x s)
 
-pub whole_host : (front scheme body : List ℕ) → front ≡ scheme ++ 58 ∷ body → is_web_scheme scheme ≡ true → has_whole_host body ≡ true → FixesHost front
-whole_host front scheme (a ∷ b ∷ more) is web host =
-    let found : is_some (split_once 47 more).1 ≡ true = (and_parts (a == 47 && b == 47 && nat_lt 0 (length (split_once 47 more).0)) (is_some (split_once 47 more).1) host).1 in
+-- `//`, a host and `/`
+record HostAt (body : List ℕ) : Type 0 where
+  host : List ℕ
+  rest : List ℕ
+  some : 0 < length host
+  none : All (IsNot 47) host
+  parts : body ≡ codes "//" ++ host ++ 47 ∷ rest
+
+host_at : (body : List ℕ) → has_whole_host body ≡ true → HostAt body
+host_at (a ∷ b ∷ more) whole =
+    let found : is_some (split_once 47 more).1 ≡ true = (and_parts (a == 47 && b == 47 && nat_lt 0 (length (split_once 47 more).0)) (is_some (split_once 47 more).1) whole).1 in
     let first : a ≡ 47 = grind (arith, nat_tests) in
     let second : b ≡ 47 = grind (arith, nat_tests) in
     let (rest, after) = some_value (split_once 47 more).1 found in
     let (none, joined) = split_parts 47 more rest after in
-    let name = (split_once 47 more).0 in
-    let nonempty : 0 < length name = grind (arith, nat_tests) in
-    let spelled : front ≡ scheme ++ codes "://" ++ name ++ 47 ∷ rest =
-    is ∙ (λ i. scheme ++ 58 ∷ first i ∷ second i ∷ joined i) ∙ simp append_assoc in
-    subst FixesHost (sym spelled) (absolute scheme name rest (web_scheme scheme web) nonempty none)
-whole_host front scheme (a ∷ []) is web host = cc
-whole_host front scheme [] is web host = cc
+    record { host = (split_once 47 more).0; rest = rest; some = grind (arith, nat_tests); none = none; parts = λ i. first i ∷ second i ∷ joined i }
+host_at (a ∷ []) whole = cc
+host_at [] whole = cc
+
+pub own_host : (front : List ℕ) → has_whole_host front ≡ true → FixesHost front
+own_host front whole = let at = host_at front whole in subst FixesHost (sym at.parts) (hosted at.host at.rest at.some at.none)
+
+pub whole_host : (front scheme body : List ℕ) → front ≡ scheme ++ 58 ∷ body → is_web_scheme scheme ≡ true → has_whole_host body ≡ true → FixesHost front
+whole_host front scheme body is web whole =
+    let at = host_at body whole in
+    let spelled : front ≡ scheme ++ codes "://" ++ at.host ++ 47 ∷ at.rest =
+    is ∙ ap (λ l. scheme ++ 58 ∷ l) at.parts ∙ simp append_assoc in
+    subst FixesHost (sym spelled) (absolute scheme at.host at.rest (web_scheme scheme web) at.some at.none)
 
 first_bytes : (xs : List ℕ) → All (Passes (λ b. not (is_mark b))) xs → list_any (λ b. b == 92) xs ≡ false → All (λ b. is_first_byte b ≡ true) xs
 first_bytes [] marks plain = All-nil (λ b. is_first_byte b ≡ true)
@@ -94,8 +109,11 @@ fixed (b ∷ rest) fixes =
     ⊎_elim
     (λ (root : (b == 47) ≡ true).
     let same : b ≡ 47 = grind (arith, nat_tests) in
-    let other : get_or rest 0 0 ≢ 47 = λ e. let clash = rw root at fixes in absurd (grind (arith, nat_tests)) in
-    subst (λ x. FixesHost (x ∷ rest)) (sym same) (rooted rest other))
+    let either : (not (get_or rest 0 0 == 47) || has_whole_host (b ∷ rest)) ≡ true = sym (cond-true _ _ _ root) ∙ fixes in
+    ⊎_elim
+    (λ (next : (get_or rest 0 0 == 47) ≡ true). own_host (b ∷ rest) (right (not (get_or rest 0 0 == 47)) (has_whole_host (b ∷ rest)) (rw next refl) either))
+    (λ (other : (get_or rest 0 0 == 47) ≡ false). subst (λ x. FixesHost (x ∷ rest)) (sym same) (rooted rest (λ e. absurd (grind (arith, nat_tests)))))
+    (cases_Bool (get_or rest 0 0 == 47)))
     (λ (no_root : (b == 47) ≡ false).
     let either : (has_first_segment (b ∷ rest) || is_absolute (split_scheme (b ∷ rest))) ≡ true = sym (cond-false _ _ _ no_root) ∙ fixes in
     ⊎_elim

@@ -10,7 +10,7 @@ use Rattle.url.specs.Path.{dot_count}
 use Rattle.url.specs.Relative.{segments}
 use Rattle.html_urls.specs.declared.component.TheConstants.{COMPONENT}
 use Rattle.html_urls.specs.Components.{component, is_component_byte}
-use Rattle.html_urls.specs.Hosts.{FixesHost, absolute, rooted, relative}
+use Rattle.html_urls.specs.Hosts.{FixesHost, absolute, hosted, rooted, relative}
 use Rattle.html_urls.specs.Inputs.{IsVisible, KeepsEnd, IsNot, EndsVisibly, kept, kept_rest}
 use Rattle.html_urls.specs.Parts.Fragments.{EndsInFragment}
 use Rattle.html_urls.specs.Parts.Paths.{EndsInPath, FitsSegment, IsPathText, is_path_byte}
@@ -103,6 +103,8 @@ last_plain xs more dots =
 fixes_more : (front more : List ℕ) → FixesHost front → (front ≡ 47 ∷ [] → get_or more 0 0 ≢ 47) → FixesHost (front ++ more)
 fixes_more _ more (absolute scheme host rest web some other) begins =
     subst FixesHost (sym (append_assoc (scheme ++ codes "://" ++ host) (47 ∷ rest) more)) (absolute scheme host (rest ++ more) web some other)
+fixes_more _ more (hosted host rest some other) begins =
+    subst FixesHost (sym (append_assoc (codes "//" ++ host) (47 ∷ rest) more)) (hosted host (rest ++ more) some other)
 fixes_more _ more (rooted [] other) begins = rooted more (begins refl)
 fixes_more _ more (rooted (b ∷ rest) other) begins = rooted (b ∷ rest ++ more) other
 fixes_more _ more (relative first rest some bytes) begins = subst FixesHost (sym (append_assoc first (47 ∷ rest) more)) (relative first (rest ++ more) some bytes)

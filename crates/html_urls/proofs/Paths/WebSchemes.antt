@@ -1,0 +1,57 @@
+-- A scheme of the web, in any case, at the front of an input.
+use Rattle.std.proofs.Common.{◌≡◌, ℕ, ◌+◌, ◌<◌, true, ◌&&◌, ◌==◌, nat_lt, List, [], ◌∷◌, ◌++◌, length, drop, get_or, codes, Some, All, sym, refl, ap, ◌∙◌, subst, inl, inr, append_assoc, arith, length-append, take_at, drop_at}
+use Rattle.std.specs.Char.{is_ascii_alphabetic, to_ascii_lowercase}
+use Rattle.std.proofs.lemmas.Bool.{cond-true}
+use Rattle.std.proofs.lemmas.Bool.Decides.{nat_tests}
+use Rattle.std.proofs.lemmas.List.{get_or_at, length-map}
+use Rattle.std.proofs.lemmas.List.Elements.{All-nil, All-cons, All-head, All-tail, All-weaker}
+use Rattle.url.specs.declared.scheme.SchemeType.TheVariants.{SpecialNotFile}
+use Rattle.url.specs.Input.{lowercase}
+use Rattle.url.specs.Scheme.{default_port, is_scheme_byte, scheme_len, scheme_type}
+use Rattle.url.specs.Parser.{split_scheme}
+use Rattle.url.proofs.InputLemmas.{All_from_list_all, Passes, prefix_len_at}
+use Rattle.html_urls.specs.Hosts.{IsWebScheme}
+
+abbrev IsLetter : ℕ → Type 0
+IsLetter b = is_ascii_alphabetic b ≡ true
+
+upper_letter : (b : ℕ) → IsLetter (to_ascii_lowercase b) → IsLetter b
+upper_letter b letter = grind (arith, nat_tests)
+
+upper_letters : (xs : List ℕ) → All IsLetter (lowercase xs) → All IsLetter xs
+upper_letters [] all = All-nil IsLetter
+upper_letters (x ∷ xs) all =
+    All-cons IsLetter x xs (upper_letter x (All-head IsLetter (to_ascii_lowercase x) (lowercase xs) all)) (upper_letters xs (All-tail IsLetter (to_ascii_lowercase x) (lowercase xs) all))
+
+web_letters : (scheme : List ℕ) → IsWebScheme scheme → All IsLetter scheme
+web_letters scheme (inl http) = upper_letters scheme (subst (All IsLetter) (sym http) (All_from_list_all is_ascii_alphabetic (codes "http") refl))
+web_letters scheme (inr https) = upper_letters scheme (subst (All IsLetter) (sym https) (All_from_list_all is_ascii_alphabetic (codes "https") refl))
+
+web_some : (scheme : List ℕ) → IsWebScheme scheme → 0 < length scheme
+web_some scheme (inl http) = omega (arith, ap length http, length-map {B = ℕ} scheme to_ascii_lowercase)
+web_some scheme (inr https) = omega (arith, ap length https, length-map {B = ℕ} scheme to_ascii_lowercase)
+
+letter_in_scheme : (b : ℕ) → IsLetter b → Passes is_scheme_byte b
+letter_in_scheme b letter = grind (arith, nat_tests)
+
+web_length : (scheme rest : List ℕ) → 0 < length scheme → All IsLetter scheme → scheme_len (scheme ++ 58 ∷ rest) ≡ length scheme
+unfolding scheme_len
+web_length [] rest some letters = absurd (omega arith)
+web_length (b ∷ scheme) rest some letters =
+    cond-true _ _ _ (All-head IsLetter b scheme letters)
+    ∙ prefix_len_at is_scheme_byte (b ∷ scheme) (58 ∷ rest) (All-weaker IsLetter (Passes is_scheme_byte) letter_in_scheme (b ∷ scheme) letters) refl
+
+pub split_web : (scheme rest : List ℕ) → IsWebScheme scheme → split_scheme (scheme ++ 58 ∷ rest) ≡ Some (scheme, rest)
+unfolding split_scheme
+split_web scheme rest web =
+    let some = web_some scheme web in
+    let len = web_length scheme rest some (web_letters scheme web) in
+    let colon = get_or_at scheme 58 rest 0 _ refl in
+    let found : (nat_lt 0 (length scheme) && get_or (scheme ++ 58 ∷ rest) (length scheme) 0 == 58) ≡ true = grind (arith, nat_tests) in
+    let after = ap (drop (length scheme + 1)) (sym (append_assoc scheme (58 ∷ []) rest)) ∙ drop_at (scheme ++ 58 ∷ []) rest _ (length-append scheme (58 ∷ [])) in
+    rw (len, found) (λ i. Some (take_at scheme (58 ∷ rest) _ refl i, after i))
+
+pub web_type : (scheme : List ℕ) → IsWebScheme scheme → scheme_type (lowercase scheme) ≡ SpecialNotFile
+unfolding scheme_type default_port
+web_type scheme (inl http) = ap scheme_type http
+web_type scheme (inr https) = ap scheme_type https
