@@ -11,3 +11,4 @@ pub mod Places
 pub mod SlotFaults
 pub mod Shapes
 pub mod Slots
+pub mod TextFaults

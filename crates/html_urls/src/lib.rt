@@ -6,6 +6,7 @@
 //! URL is asked [`is_link`] first.
 #![tactic(auto)]
 
+pub mod append;
 pub mod component;
 pub mod forms;
 pub mod laws;
@@ -17,6 +18,7 @@ pub mod place;
 pub mod segment;
 pub mod slots;
 
+pub use crate::append::append_url;
 pub use crate::component::{COMPONENT, Component, is_unreserved, put_component};
 pub use crate::forms::{
     append_component, append_component_to_vec, encode_component, encode_component_to_string,
@@ -25,7 +27,7 @@ pub use crate::forms::{
 pub use crate::length::component_length;
 pub use crate::link::is_link;
 pub use crate::open_part::{OpenPart, after_markup, after_text, may_be_dots, open_of, slot_at};
-pub use crate::parts::{UrlFault, UrlPart, UrlSlot};
+pub use crate::parts::{UrlFault, UrlPart, UrlSlot, UrlTextFault};
 pub use crate::place::UrlPlace;
 pub use crate::segment::may_be_segment;
 pub use crate::slots::{is_plain, may_fill, slots_of};

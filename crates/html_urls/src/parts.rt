@@ -48,3 +48,16 @@ impl From<AllocError> for UrlFault {
         UrlFault::Memory
     }
 }
+
+/// Why a URL of parts and texts is not appended.
+#[derive(Clone, Copy, Debug, PartialEq, Eq)]
+pub enum UrlTextFault {
+    /// The parts have no slots that texts may fill, for this reason.
+    Parts(UrlFault),
+    /// There are more texts than slots, or fewer.
+    WrongCount,
+    /// The text of this number, from 0 on, may not fill its slot.
+    WrongText(usize),
+    /// A growth was refused.
+    Memory,
+}

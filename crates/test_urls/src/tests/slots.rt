@@ -3,8 +3,8 @@
 use crate::tests::hostile::ROWS;
 use html_urls::UrlPart::{Markup, Slot};
 use html_urls::{
-    OpenPart, UrlFault, UrlPart, UrlPlace, UrlSlot, after_markup, after_text, append_component,
-    is_plain, may_be_dots, may_fill, open_of, slot_at, slots_of,
+    OpenPart, UrlFault, UrlPart, UrlPlace, UrlSlot, UrlTextFault, after_markup, after_text,
+    append_component, append_url, is_plain, may_be_dots, may_fill, open_of, slot_at, slots_of,
 };
 use percent_encoding::percent_decode_str;
 use std::alloc::Global;
@@ -43,10 +43,11 @@ const IN_FRAGMENT: UrlSlot = UrlSlot {
 };
 
 // A front, and the fault of a slot behind it.
-const FRONTS: [(&str, UrlFault); 28] = [
+const FRONTS: [(&str, UrlFault); 29] = [
     ("", UrlFault::NotFixed(1)),
     ("//", UrlFault::NotFixed(1)),
-    ("//x/", UrlFault::NotFixed(1)),
+    ("//x", UrlFault::NotFixed(1)),
+    ("///x/", UrlFault::NotFixed(1)),
     ("items", UrlFault::NotFixed(1)),
     ("..", UrlFault::NotFixed(1)),
     ("a:b/", UrlFault::NotFixed(1)),
@@ -178,6 +179,17 @@ fn each_slot_is_told_with_its_place(rt: HostRuntime) -> Result<(), Fail> {
             &[BEGINS, IN_SEGMENT]
         )
     );
+    for front in &[
+        "//x/",
+        "//u@x:80/",
+        "HTTPS://a.example/",
+        "hTTp://a.example/b/",
+    ] {
+        assert!(rt;
+            are_slots(rt.alloc(), &[Markup(front), Slot], &[BEGINS]),
+            "{front}"
+        );
+    }
     assert!(rt; are_slots(rt.alloc(), &[Markup("a?b/"), Slot], &[IN_QUERY]));
     assert!(rt; are_slots(rt.alloc(), &[Markup("a/b:c/"), Slot], &[BEGINS]));
     assert!(rt;
@@ -229,6 +241,30 @@ fn slots_are_told_part_by_part(rt: HostRuntime) -> Result<(), Fail> {
     assert!(rt; after_markup(OpenPart::NamedSegment, b"/../b").is_none());
     assert!(rt; after_markup(OpenPart::NamedSegment, b"/%2") == Some(OpenPart::DotSegment));
     assert!(rt; may_be_dots(OpenPart::DotSegment) && !may_be_dots(OpenPart::NamedSegment));
+    Ok(())
+}
+
+#[test]
+fn a_url_is_appended(rt: HostRuntime) -> Result<(), Fail> {
+    let parts = [Markup("/items/"), Slot, Markup("?q="), Slot];
+    let mut page = String::from_str(rt.alloc(), "<")?;
+    assert!(rt; append_url(&mut page, &parts, &["1/../2", "a&b"]).is_ok());
+    assert!(rt; page.as_str() == "</items/1%2F..%2F2?q=a%26b");
+    let refused = append_url(&mut page, &parts, &["..", "a"]);
+    assert!(rt; refused == Err(UrlTextFault::WrongText(0)));
+    let refused = append_url(&mut page, &parts, &["a"]);
+    assert!(rt; refused == Err(UrlTextFault::WrongCount));
+    let refused = append_url(&mut page, &[Slot], &["a"]);
+    assert!(rt; refused == Err(UrlTextFault::Parts(UrlFault::NotFixed(0))));
+    assert!(rt; append_url(&mut page, &[Markup("#"), Slot, Markup("b")], &[""]).is_ok());
+    assert!(rt; page.as_str() == "</items/1%2F..%2F2?q=a%26b#b");
+    for count in 1..4 {
+        let heap = Refusing::new(rt.alloc(), count);
+        let mut page = String::new(&heap);
+        let refused = append_url(&mut page, &parts, &["a", "b"]);
+        assert!(rt; refused == Err(UrlTextFault::Memory), "{count}");
+        assert!(rt; page.as_str() == "", "{count}");
+    }
     Ok(())
 }
 

@@ -1,0 +1,33 @@
+use Rattle.std.proofs.Common.{◌≡◌, ℕ, ◌+◌, true, false, List, [], ◌∷◌, length, Option, Some, None, IsOkAnd, map, refl, sym, ap, ◌∙◌, subst, ⊎_elim, arith}
+use Rattle.std.specs.Option.{option_map}
+use Rattle.std.proofs.lemmas.Bool.{cases_Bool}
+use Rattle.std.proofs.lemmas.List.{length-map}
+use Rattle.html_urls.specs.declared.parts.UrlSlot.{UrlSlot}
+use Rattle.html_urls.specs.declared.parts.UrlTextFault.{UrlTextFault}
+use Rattle.html_urls.specs.declared.parts.UrlTextFault.TheVariants.{WrongText}
+use Rattle.html_urls.specs.Slots.{FillSlots, Told, given, may_fill, slots_of, texts_of}
+use Rattle.html_urls.specs.TextFaults.{first_refused}
+use Rattle.html_urls.proofs.append.check.Goals as goal
+
+some_none : (fault : UrlTextFault) → Some fault ≡ None → ⊥
+some_none fault is = cc
+
+all_fill : (number : ℕ) (slots : List UrlSlot) (texts : List (List ℕ)) → length slots ≡ length texts → first_refused number slots texts ≡ None → FillSlots slots texts
+all_fill number [] [] same none = tt
+all_fill number [] (text ∷ texts) same none = absurd (omega arith)
+all_fill number (slot ∷ slots) [] same none = absurd (omega arith)
+all_fill number (slot ∷ slots) (text ∷ texts) same none =
+    ⊎_elim
+    (λ (may : may_fill slot text ≡ true). (may, all_fill (number + 1) slots texts (omega arith) (rw may at none)))
+    (λ (refused : may_fill slot text ≡ false). absurd (some_none (WrongText number) (rw refused at none)))
+    (cases_Bool (may_fill slot text))
+
+pub returns-clause-fills : goal.returns-clause-fills
+returns-clause-fills g c =
+    let texts : List (List ℕ) = texts_of c.args.texts.now in
+    let slots : List UrlSlot = c.in-Ok.slots.items in
+    let refused : None ≡ first_refused 0 c.deref.result.now texts = c.in-None.ensures in
+    let none : first_refused 0 slots texts ≡ None = ap (λ s. first_refused 0 s texts) (sym c.deref.ensures.value) ∙ sym refused in
+    let count : length texts ≡ length c.args.texts.now = length-map {B = List ℕ} c.args.texts.now (λ text. text.now) in
+    let same : length slots ≡ length texts = omega arith in
+    subst (λ (told : Told). IsOkAnd told (λ slots. FillSlots slots texts)) (sym c.in-Ok.ensures) (all_fill 0 slots texts same none)
