@@ -1,7 +1,7 @@
 -- Where nothing is held of an attribute: in a reference or an escape, and where its bytes do not tell what it means.
 use Rattle.std.proofs.Common.{ℕ, ◌≡◌, List, refl}
 use Rattle.html_tokenizer.specs.declared.states.Kind.{Kind}
-use Rattle.html_tokenizer.specs.declared.states.Kind.TheVariants.{Ordinary, Forbidden, Link, Url, ScriptType, Encoding, Pragma, PageType, Unread, Raw}
+use Rattle.html_tokenizer.specs.declared.states.Kind.TheVariants.{Ordinary, Forbidden, Link, Url, FixedUrl, ScriptType, Encoding, Pragma, PageType, Unread, Raw}
 use Rattle.html_tokenizer.specs.declared.states.Phase.{Phase}
 use Rattle.html_tokenizer.specs.declared.states.Phase.TheVariants as phase
 use Rattle.html_tokenizer.specs.Tokenizer.Attributes.{reference_read}
@@ -15,6 +15,7 @@ reference_read_held Ordinary before word = refl
 reference_read_held Forbidden before word = refl
 reference_read_held Link before word = refl
 reference_read_held Url before word = refl
+reference_read_held FixedUrl before word = refl
 reference_read_held ScriptType before word = refl
 reference_read_held Encoding before word = refl
 reference_read_held Pragma before word = refl
@@ -27,6 +28,7 @@ settled_held Ordinary before word settled = refl
 settled_held Forbidden before word settled = refl
 settled_held Link before word settled = refl
 settled_held Url before word settled = refl
+settled_held FixedUrl before word settled = refl
 settled_held other before word settled = absurd settled
 
 pub ordinary_holds : (p : Phase) → HoldsLetters p state.Ordinary

@@ -7,13 +7,15 @@ use Rattle.hesc_specs.specs.Text.Ascii.{ampersand, double_quote, equals_sign, gr
 use Rattle.html_tokenizer.specs.declared.slot_place.SlotPlace.{SlotPlace}
 use Rattle.html_tokenizer.specs.declared.slot_place.SlotPlace.TheVariants.{DoubleQuoted, SingleQuoted}
 use Rattle.html_tokenizer.specs.Tokenizer.Actions.{Action, ValueByte}
-use Rattle.html_tokenizer.specs.Tokenizer.States.{Attribute, Link, Tokenizer, Url}
+use Rattle.html_tokenizer.specs.Tokenizer.States.{Attribute, FixedUrl, Link, Tokenizer, Url}
 use Rattle.html_tokenizer.specs.Tokenizer.Tags.{is_space}
 use Rattle.html_tokenizer.specs.Tokenizer.Tokenization.{consume}
+use Rattle.html_tokenizer.specs.Tokenizer.Values.References.{goes_on}
 
 abbrev pub is_url : Attribute → Bool
 is_url Url = true
 is_url Link = true
+is_url FixedUrl = true
 is_url other = false
 
 -- the bytes that actions append to the value of an attribute
@@ -61,19 +63,20 @@ after_last is_mark (b ∷ bytes) =
     if list_any is_mark bytes then after_last is_mark bytes
     else (if is_mark b then Some bytes else None)
 
--- the bytes that markup adds to a URL, where these letters and digits stand after a `&`: it is a `&` itself before `amp;`,
--- and before a name and `=`; what else a `&` may begin is not taken
-abbrev pub url_text_from : Option (List ℕ) → List ℕ → Option (List ℕ)
-url_text_from None [] = Some []
-url_text_from (Some word) [] = None
-url_text_from None (b ∷ bytes) =
-    if b == ampersand then url_text_from (Some []) bytes
-    else option_map (λ text. b ∷ text) (url_text_from None bytes)
-url_text_from (Some word) (b ∷ bytes) =
-    if is_ascii_alphanumeric b then url_text_from (Some (word ++ b ∷ [])) bytes
-    else (if b == semicolon && bytes_eq word (codes "amp") then option_map (λ text. ampersand ∷ text) (url_text_from None bytes)
-    else (if b == equals_sign then option_map (λ text. ampersand ∷ word ++ b ∷ text) (url_text_from None bytes)
-    else None))
+-- the bytes that markup adds to a URL, where these letters and digits stand after a `&`: it is a `&` itself before `amp;`, and where no
+-- reference begins; what else a `;` ends or a `#` begins is not taken, and nor is what is open at the end, unless the value ends there
+abbrev pub url_text_from : Bool → Option (List ℕ) → List ℕ → Option (List ℕ)
+url_text_from is_ended None [] = Some []
+url_text_from is_ended (Some word) [] = if is_ended then Some (ampersand ∷ word) else None
+url_text_from is_ended None (b ∷ bytes) =
+    if b == ampersand then url_text_from is_ended (Some []) bytes
+    else option_map (λ text. b ∷ text) (url_text_from is_ended None bytes)
+url_text_from is_ended (Some word) (b ∷ bytes) =
+    if is_ascii_alphanumeric b then url_text_from is_ended (Some (word ++ b ∷ [])) bytes
+    else (if b == semicolon && bytes_eq word (codes "amp") then option_map (λ text. ampersand ∷ text) (url_text_from is_ended None bytes)
+    else (if b == semicolon || goes_on word b then None
+    else (if b == ampersand then option_map (λ text. ampersand ∷ word ++ text) (url_text_from is_ended (Some []) bytes)
+    else option_map (λ text. ampersand ∷ word ++ b ∷ text) (url_text_from is_ended None bytes))))
 
-abbrev pub url_text : List ℕ → Option (List ℕ)
-url_text markup = url_text_from None markup
+abbrev pub url_text : Bool → List ℕ → Option (List ℕ)
+url_text is_ended markup = url_text_from is_ended None markup

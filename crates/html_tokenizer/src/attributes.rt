@@ -2,7 +2,7 @@
 pub(crate) mod encodings;
 
 ghost use Rattle.std.specs.Prelude.{◌≡◌, ℕ, List, [], true};
-ghost use Rattle.html_tokenizer.specs.Tokenizer.Attributes.{attribute_of, content_after, content_after_pragma, followed, holds_language, holds_url, holds_urls, is_javascript, is_script_tag, is_switch, names_script_type, raw_value, reference_read, value_but_of, value_byte_read, value_of};
+ghost use Rattle.html_tokenizer.specs.Tokenizer.Attributes.{attribute_of, content_after, content_after_pragma, fixed, followed, holds_language, holds_url, holds_urls, is_javascript, is_script_tag, is_switch, names_script_type, raw_value, reference_read, value_but_of, value_byte_read, value_of};
 ghost use Rattle.html_tokenizer.specs.Tokenizer.Elements.{is_meta};
 ghost use Rattle.html_tokenizer.specs.Tokenizer.Phases.{attribute_in, moved, word_after};
 
@@ -190,7 +190,7 @@ pub(crate) fn content_after(content: Content, kind: Kind, word: &[u8]) -> Option
     ensures { result ≡ content_after content (attribute_in kind word.now) }
 {
     match kind {
-        Kind::Ordinary | Kind::Forbidden | Kind::Link | Kind::Url => Some(content),
+        Kind::Ordinary | Kind::Forbidden | Kind::Link | Kind::Url | Kind::FixedUrl => Some(content),
         _ => content_after_word(content, kind, word),
     }
 }
@@ -243,9 +243,20 @@ pub(crate) fn reference_read(kind: Kind) -> Kind
         ≡ reference_read (attribute_in kind word) }
 {
     match kind {
-        Kind::Ordinary | Kind::Link | Kind::Url => kind,
+        Kind::Ordinary | Kind::Link | Kind::Url | Kind::FixedUrl => kind,
         Kind::Encoding | Kind::Pragma | Kind::PageType | Kind::Unread => Kind::Unread,
         Kind::Raw => Kind::Raw,
         _ => Kind::Forbidden,
+    }
+}
+
+/// The same where the value takes no slot any more.
+pub(crate) fn fixed(kind: Kind) -> Kind
+    ensures { (word : List ℕ) → attribute_in result word ≡ fixed (attribute_in kind word) }
+{
+    match kind {
+        Kind::Ordinary => Kind::Forbidden,
+        Kind::Link | Kind::Url => Kind::FixedUrl,
+        _ => kind,
     }
 }

@@ -6,7 +6,7 @@ ghost use Rattle.html_tokenizer.specs.Tokenizer.Tokenization.{byte_in, value_byt
 ghost use Rattle.html_tokenizer.specs.declared.states.Kind.{Kind};
 ghost use Rattle.html_tokenizer.specs.declared.states.Phase.TheVariants as phase;
 
-use crate::attributes::reference_read;
+use crate::attributes::{fixed, reference_read};
 use crate::code::escapes::code_word_byte;
 use crate::code::strings::{
     ends_line, is_newline_or_nul, string_byte, string_less_byte, style_escape_byte,
@@ -78,7 +78,8 @@ fn within_byte(place: SlotPlace, content: Content, kind: Kind, word: &[u8], byte
         _ => {
             let kind = reference_read(kind);
             let again = value_byte(place, content, kind, word, byte);
-            reference_end(place, content, kind, word, byte, again)
+            let fixed = value_byte(place, content, fixed(kind), word, byte);
+            reference_end(place, content, kind, word, byte, again, fixed)
         }
     }
 }

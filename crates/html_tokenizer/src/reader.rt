@@ -298,8 +298,10 @@ impl<A: Allocator> Reader<A> {
                 | Phase::CodeEndTag(_),
                 Kind::Ordinary,
             )
-            | (Phase::Within(_), Kind::Ordinary | Kind::Forbidden | Kind::Link | Kind::Url) =>
-                self.read_held(bytes, done),
+            | (
+                Phase::Within(_),
+                Kind::Ordinary | Kind::Forbidden | Kind::Link | Kind::Url | Kind::FixedUrl,
+            ) => self.read_held(bytes, done),
             (
                 Phase::In(SlotPlace::Text | SlotPlace::DoubleQuoted | SlotPlace::SingleQuoted)
                 | Phase::TagOpen

@@ -143,6 +143,7 @@ pub(crate) enum Kind {
     Forbidden,
     Link,
     Url,
+    FixedUrl,
     ScriptType,
     Encoding,
     Pragma,

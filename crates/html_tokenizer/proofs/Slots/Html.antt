@@ -22,7 +22,7 @@ use Rattle.html_tokenizer.specs.Tokenizer.Attributes.{reference_read, value_byte
 use Rattle.html_tokenizer.specs.Tokenizer.States.{Attribute, State, In, Within, BeforeValue, Link, Ordinary, Url, at_value}
 use Rattle.html_tokenizer.specs.Tokenizer.Tokenization.{consume, value_byte}
 use Rattle.html_tokenizer.specs.Tokenizer.Transitions.{moves}
-use Rattle.html_tokenizer.specs.Tokenizer.Values.References.{goes_on, reference_byte}
+use Rattle.html_tokenizer.specs.Tokenizer.Values.References.{behind_word, goes_on, reference_byte}
 use Rattle.html_tokenizer.proofs.KnownReferences.{IsKnown, is_held, known}
 use Rattle.html_tokenizer.proofs.Passing.{Passes, passes_none, passes_both, passes_byte, passes_one}
 
@@ -45,7 +45,7 @@ pub record ReadsHtml (attribute : Attribute) (state : State) (p : SlotPlace) (co
   pub html : IsHtml class
   pub references : consume (at_value state content attribute) ampersand ≡ moves (at_value (Within p []) content attribute) []
   pub within : (word : List ℕ) (b : ℕ) → consume (at_value (Within p word) content attribute) b
-      ≡ reference_byte p content attribute word b (value_byte p content attribute b)
+      ≡ reference_byte p content attribute word b (value_byte p content (behind_word word attribute) b)
   pub others : (b : ℕ) → in_class class b ≡ false → consume (at_value state content attribute) b
       ≡ moves (at_value (In p) content attribute) (read_byte p b ∷ [])
 
@@ -74,7 +74,7 @@ pub passes_character : {attribute : Attribute} {state : State} {p : SlotPlace} {
 passes_character {attribute} {p = p} {content} reads body c is =
     let reference : IsKnown body c = known body c is in
     let ends : consume (at_value (Within p body) content attribute) semicolon ≡ moves (at_value (In p) content attribute) (map (read_byte p) (encode_utf8 c)) =
-    reads.within body semicolon ∙ reference.read p content attribute (value_byte p content attribute semicolon) in
+    reads.within body semicolon ∙ reference.read p content attribute (value_byte p content (behind_word body attribute) semicolon) in
     passes_byte reads.references
     (passes_both (passes_body reads [] body reference.held) (passes_one (map (read_byte p) (encode_utf8 c)) ends))
 
@@ -110,9 +110,9 @@ differs class b kept c replaced = ne_eqb b c (kept_is_other class b c kept repla
 module _ {attribute : Attribute} (remains : Remains attribute) where
   -- in a reference it is the same attribute
   read_within : (p : SlotPlace) (content : Content) (word : List ℕ) (b : ℕ) →
-      reference_byte p content (reference_read attribute) word b (value_byte p content (reference_read attribute) b)
-      ≡ reference_byte p content attribute word b (value_byte p content attribute b)
-  read_within p content word b = ap (λ a. reference_byte p content a word b (value_byte p content a b)) remains.references
+      reference_byte p content (reference_read attribute) word b (value_byte p content (behind_word word (reference_read attribute)) b)
+      ≡ reference_byte p content attribute word b (value_byte p content (behind_word word attribute) b)
+  read_within p content word b = ap (λ a. reference_byte p content a word b (value_byte p content (behind_word word a) b)) remains.references
 
   pub text_reads_in : (content : Content) → ReadsHtml attribute (In place.Text) place.Text content class.Text
   unfolding consume

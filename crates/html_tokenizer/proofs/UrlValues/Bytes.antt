@@ -1,14 +1,14 @@
 -- What a byte does where a URL is open.
-use Rattle.std.proofs.Common.{ℕ, ◌≡◌, Bool, true, false, [], ◌==◌, if◌then◌else◌, refl, sym, subst, ⊎_elim}
+use Rattle.std.proofs.Common.{ℕ, ◌≡◌, Bool, true, false, [], ◌==◌, refl, sym, subst, ⊎_elim}
 use Rattle.std.proofs.lemmas.Bool.{cases_Bool, eqb-true, false≢true}
 use Rattle.hesc_specs.specs.Text.Ascii.{double_quote, greater_than, single_quote}
 use Rattle.html_tokenizer.specs.declared.elements.Content.{Content}
 use Rattle.html_tokenizer.specs.declared.slot_place.SlotPlace.{SlotPlace}
 use Rattle.html_tokenizer.specs.declared.slot_place.SlotPlace.TheVariants.{DoubleQuoted, SingleQuoted, Unquoted}
-use Rattle.html_tokenizer.specs.Tokenizer.States.{Attribute, BeforeValue, In, State, Tokenizer, Within, at_value}
+use Rattle.html_tokenizer.specs.Tokenizer.States.{Attribute, BeforeValue, In, State, Tokenizer, Within}
 use Rattle.html_tokenizer.specs.Tokenizer.Tags.{is_space}
 use Rattle.html_tokenizer.specs.Tokenizer.Tokenization.{byte_in, consume}
-use Rattle.html_tokenizer.specs.Tokenizer.Transitions.{Transition, moves, refuses}
+use Rattle.html_tokenizer.specs.Tokenizer.Transitions.{Transition}
 use Rattle.html_tokenizer.specs.Tokenizer.Values.{before_value_byte, unquoted_byte}
 use Rattle.html_tokenizer.specs.UrlValues.{is_url}
 use Rattle.html_tokenizer.proofs.UrlValues.Places.{is_value_place}
@@ -73,42 +73,3 @@ pub stays_open : (t : Tokenizer) (b : ℕ) → is_url t.attribute ≡ true → m
     is_url (consume t b).next.attribute ≡ true → OpenUrl t.state b (consume t b)
 unfolding consume
 stays_open t b url may is = byte_in_open t.state t.content t.attribute b url may is
-
--- ---- the value is of the same attribute, in the same content
-
-abbrev Same : Content → Attribute → Transition → Type 0
-Same content attribute x = is_url x.next.attribute ≡ true → x.next ≡ at_value x.next.state content attribute
-
-either_same : {content : Content} {attribute : Attribute} (test : Bool) (x y : Transition) →
-    Same content attribute x → (test ≡ false → Same content attribute y) → Same content attribute (if test then x else y)
-either_same true x y first second = first
-either_same false x y first second = second refl
-
-begins_same : (content : Content) (attribute : Attribute) (b : ℕ) → is_url attribute ≡ true → Same content attribute (before_value_byte content attribute b)
-begins_same content attribute b url =
-    let blank_next : Transition = moves (at_value BeforeValue content attribute) [] in
-    let double_next : Transition = moves (at_value (In DoubleQuoted) content attribute) [] in
-    let single_next : Transition = moves (at_value (In SingleQuoted) content attribute) [] in
-    let unquoted_next : Transition = unquoted_byte content attribute b in
-    either_same (is_space b) blank_next
-    (if b == double_quote then double_next else (if b == single_quote then single_next else (if b == greater_than then refuses else unquoted_next)))
-    (λ is. refl)
-    (λ no_space. either_same (b == double_quote) double_next (if b == single_quote then single_next else (if b == greater_than then refuses else unquoted_next))
-    (λ is. refl)
-    (λ no_double. either_same (b == single_quote) single_next (if b == greater_than then refuses else unquoted_next)
-    (λ is. refl)
-    (λ no_single. either_same (b == greater_than) refuses unquoted_next
-    (λ is. absurd (false≢true is))
-    (λ no_greater. (unquoted_follows content attribute b url no_space no_greater).same))))
-
-byte_in_same : (s : State) (content : Content) (attribute : Attribute) (b : ℕ) → is_url attribute ≡ true → may_hold_url s ≡ true →
-    Same content attribute (byte_in s content attribute b)
-byte_in_same BeforeValue content attribute b url may = begins_same content attribute b url
-byte_in_same (In p) content attribute b url may = (value_follows p content attribute b may url).same
-byte_in_same (Within p word) content attribute b url may = (within_follows p content attribute word b may url).same
-byte_in_same other content attribute b url may = absurd (false≢true may)
-
-pub same_value : (t : Tokenizer) (b : ℕ) → is_url t.attribute ≡ true → may_hold_url t.state ≡ true →
-    is_url (consume t b).next.attribute ≡ true → (consume t b).next ≡ at_value (consume t b).next.state t.content t.attribute
-unfolding consume
-same_value t b url may is = byte_in_same t.state t.content t.attribute b url may is

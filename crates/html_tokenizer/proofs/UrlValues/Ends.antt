@@ -1,5 +1,5 @@
 -- Where the value of a URL ends.
-use Rattle.std.proofs.Common.{ℕ, ◌≡◌, true, false, List, [], ◌∷◌, ◌==◌, refl, ap, ⊎_elim, append-nil}
+use Rattle.std.proofs.Common.{ℕ, ◌≡◌, true, false, List, [], ◌∷◌, ◌++◌, ◌==◌, refl, ap, ⊎_elim}
 use Rattle.std.proofs.lemmas.Bool.{cases_Bool, false≢true}
 use Rattle.hesc_specs.specs.Text.Ascii.{greater_than}
 use Rattle.html_tokenizer.specs.declared.elements.Content.{Content}
@@ -13,45 +13,39 @@ use Rattle.html_tokenizer.proofs.UrlValues.Appending.{urls_from-anew}
 use Rattle.html_tokenizer.proofs.UrlValues.Attributes.{ends_settled}
 use Rattle.html_tokenizer.proofs.UrlValues.Places.{is_value_place}
 
--- the byte ends the value, and adds nothing to it
-pub record Ends (t : Tokenizer) (b : ℕ) : Type 0 where
+-- the byte ends the value, and what is held of a `&` before it is added to it
+pub record Ends (t : Tokenizer) (b : ℕ) (added : List ℕ) : Type 0 where
   pub no_url : is_url (consume t b).next.attribute ≡ false
-  pub nothing : value_bytes (consume t b).actions ≡ []
+  pub adds : value_bytes (consume t b).actions ≡ added
 
 pub ends_at : (p : SlotPlace) (content : Content) (attribute : Attribute) (b : ℕ) → is_value_place p ≡ true →
-    is_url attribute ≡ true → ends_value p b ≡ true → Ends (at_value (In p) content attribute) b
+    is_url attribute ≡ true → ends_value p b ≡ true → Ends (at_value (In p) content attribute) b []
 unfolding consume
 ends_at DoubleQuoted content attribute b place is ends = record {
   no_url = rw (ends, ends_settled content attribute is) refl;
-  nothing = rw (ends, ends_settled content attribute is) refl;
+  adds = rw (ends, ends_settled content attribute is) refl;
 }
 ends_at SingleQuoted content attribute b place is ends = record {
   no_url = rw (ends, ends_settled content attribute is) refl;
-  nothing = rw (ends, ends_settled content attribute is) refl;
+  adds = rw (ends, ends_settled content attribute is) refl;
 }
 ends_at Unquoted content attribute b place is ends =
     ⊎_elim
     (λ (space : is_space b ≡ true). record {
       no_url = rw (space, ends_settled content attribute is) refl;
-      nothing = rw (space, ends_settled content attribute is) refl;
+      adds = rw (space, ends_settled content attribute is) refl;
     })
     (λ (none : is_space b ≡ false).
     let greater : (b == greater_than) ≡ true = rw none at ends in
     record {
       no_url = rw (none, greater, ends_settled content attribute is) refl;
-      nothing = rw (none, greater, ends_settled content attribute is) refl;
+      adds = rw (none, greater, ends_settled content attribute is) refl;
     })
     (cases_Bool (is_space b))
 ends_at other content attribute b place is ends = absurd (false≢true place)
 
 -- so the URL is whole there
-pub ends_whole : (t : Tokenizer) (value other : List ℕ) (b : ℕ) (bytes : List ℕ) → is_url t.attribute ≡ true → Ends t b →
-    urls_from t value (b ∷ bytes) ≡ value ∷ urls_from (consume t b).next other bytes
-ends_whole t value other b bytes is ends =
-    rw (is, ends.no_url, ends.nothing, append-nil value) (ap (λ more. value ∷ more) (urls_from-anew (consume t b).next value other bytes ends.no_url))
-
-pub ends_url_at : (p : SlotPlace) (content : Content) (attribute : Attribute) (value other : List ℕ) (b : ℕ) (bytes : List ℕ) →
-    is_value_place p ≡ true → is_url attribute ≡ true → ends_value p b ≡ true →
-    urls_from (at_value (In p) content attribute) value (b ∷ bytes) ≡ value ∷ urls_from (consume (at_value (In p) content attribute) b).next other bytes
-ends_url_at p content attribute value other b bytes place is ends =
-    ends_whole (at_value (In p) content attribute) value other b bytes is (ends_at p content attribute b place is ends)
+pub ends_whole : (t : Tokenizer) (value other added : List ℕ) (b : ℕ) (bytes : List ℕ) → is_url t.attribute ≡ true → Ends t b added →
+    urls_from t value (b ∷ bytes) ≡ (value ++ added) ∷ urls_from (consume t b).next other bytes
+ends_whole t value other added b bytes is ends =
+    rw (is, ends.no_url, ends.adds) (ap (λ more. (value ++ added) ∷ more) (urls_from-anew (consume t b).next (value ++ added) other bytes ends.no_url))

@@ -16,9 +16,9 @@ use Rattle.html_tokenizer.specs.Tokenizer.Tags.{is_space, opened}
 use Rattle.html_tokenizer.specs.Tokenizer.Tokenization.{value_byte, within_byte}
 use Rattle.html_tokenizer.specs.Tokenizer.Transitions.{Transition, goes, keeps, moves, refuses}
 use Rattle.html_tokenizer.specs.Tokenizer.Values.{begins_character, character_read, ended, quoted_byte, unquoted_byte}
-use Rattle.html_tokenizer.specs.Tokenizer.Values.References.{ambiguous_end, begins_with_legacy, characters_read, flushes, goes_on, is_legacy, legacy_end, name_end, named_characters, number_end, reference_byte, reference_end, unnamed_end}
+use Rattle.html_tokenizer.specs.Tokenizer.Values.References.{ambiguous_end, begins_with_legacy, behind_word, characters_read, flushes, goes_on, is_legacy, legacy_end, name_end, named_characters, number_end, reference_byte, reference_end, unnamed_end}
 use Rattle.html_tokenizer.specs.UrlValues.{begins_value, ends_value, is_url}
-use Rattle.html_tokenizer.proofs.UrlValues.Attributes.{byte_settled, ends_settled, reference_settled}
+use Rattle.html_tokenizer.proofs.UrlValues.Attributes.{behind_url, ends_settled, reference_settled}
 use Rattle.html_tokenizer.proofs.UrlValues.Names.{content_unnamed, is_named}
 use Rattle.html_tokenizer.proofs.UrlValues.Places.{is_value_place}
 
@@ -34,10 +34,9 @@ pub record StaysAt (p : SlotPlace) (b : ℕ) (s : State) : Type 0 where
   pub no_mark : begins_value p b ≡ false
   pub no_end : ends_value p b ≡ false
 
--- so it is wherever a URL is open after the transition, and the value is of the same attribute; no name begins there
-pub record Follows (p : SlotPlace) (content : Content) (attribute : Attribute) (b : ℕ) (x : Transition) : Type 0 where
+-- so it is wherever a URL is open after the transition; no name begins there
+pub record Follows (p : SlotPlace) (b : ℕ) (x : Transition) : Type 0 where
   pub stays : is_url x.next.attribute ≡ true → StaysAt p b x.next.state
-  pub same : is_url x.next.attribute ≡ true → x.next ≡ at_value x.next.state content attribute
   pub unnamed : is_named x.next.state ≡ false
 
 pub same_place : (p : SlotPlace) → is_same p p ≡ true
@@ -50,42 +49,41 @@ same_place ScriptDouble = refl
 same_place StyleSingle = refl
 same_place StyleDouble = refl
 
-none_follows : {p : SlotPlace} {content : Content} {attribute : Attribute} {b : ℕ} (x : Transition) → is_url x.next.attribute ≡ false → is_named x.next.state ≡ false →
-    Follows p content attribute b x
-none_follows x none unnamed = record { stays = λ is. absurd (true≢false (sym is ∙ none)); same = λ is. absurd (true≢false (sym is ∙ none)); unnamed = unnamed }
+none_follows : {p : SlotPlace} {b : ℕ} (x : Transition) → is_url x.next.attribute ≡ false → is_named x.next.state ≡ false →
+    Follows p b x
+none_follows x none unnamed = record { stays = λ is. absurd (true≢false (sym is ∙ none)); unnamed = unnamed }
 
-either_follows : {p : SlotPlace} {content : Content} {attribute : Attribute} {b : ℕ} (test : Bool) (x y : Transition) →
-    (test ≡ true → Follows p content attribute b x) → (test ≡ false → Follows p content attribute b y) → Follows p content attribute b (if test then x else y)
+either_follows : {p : SlotPlace} {b : ℕ} (test : Bool) (x y : Transition) →
+    (test ≡ true → Follows p b x) → (test ≡ false → Follows p b y) → Follows p b (if test then x else y)
 either_follows true x y first second = first refl
 either_follows false x y first second = second refl
 
-flushes_follows : {p : SlotPlace} {content : Content} {attribute : Attribute} {b : ℕ} (q : SlotPlace) (word : List ℕ) (again : Transition) →
-    Follows p content attribute b again → Follows p content attribute b (flushes q word again)
-flushes_follows q word again later = record { stays = later.stays; same = later.same; unnamed = later.unnamed }
+flushes_follows : {p : SlotPlace} {b : ℕ} (q : SlotPlace) (word : List ℕ) (again : Transition) →
+    Follows p b again → Follows p b (flushes q word again)
+flushes_follows q word again later = record { stays = later.stays; unnamed = later.unnamed }
 
 -- ---- a byte in a value
 
 -- a byte of the value, and the `&` of a reference
 inner_follows : (p : SlotPlace) (content : Content) (attribute : Attribute) (b : ℕ) (kept : Transition) → is_url attribute ≡ true →
-    ((s : State) → in_value p s ≡ true → StaysAt p b s) → Follows p content attribute b kept →
-    Follows p content attribute b (if b == ampersand then begins_character p content attribute else kept)
+    ((s : State) → in_value p s ≡ true → StaysAt p b s) → Follows p b kept →
+    Follows p b (if b == ampersand then begins_character p content attribute else kept)
 inner_follows p content attribute b kept is inside later =
     either_follows (b == ampersand) (begins_character p content attribute) kept
-    (λ reference. record { stays = λ goes. inside (Within p []) (same_place p); same = λ goes. rw (reference_settled attribute is) refl; unnamed = refl })
+    (λ reference. record { stays = λ goes. inside (Within p []) (same_place p); unnamed = refl })
     (λ other. later)
 
 kept_follows : (p : SlotPlace) (content : Content) (attribute : Attribute) (b : ℕ) → is_url attribute ≡ true →
-    ((s : State) → in_value p s ≡ true → StaysAt p b s) → Follows p content attribute b (keeps p content attribute b)
-kept_follows p content attribute b is inside = record { stays = λ goes. inside (In p) (same_place p); same = λ goes. rw (byte_settled attribute b is) refl; unnamed = refl }
+    ((s : State) → in_value p s ≡ true → StaysAt p b s) → Follows p b (keeps p content attribute b)
+kept_follows p content attribute b is inside = record { stays = λ goes. inside (In p) (same_place p); unnamed = refl }
 
 -- without quotes, where the value begins or goes on
 pub unquoted_follows : (content : Content) (attribute : Attribute) (b : ℕ) → is_url attribute ≡ true → is_space b ≡ false → (b == greater_than) ≡ false →
-    Follows Unquoted content attribute b (unquoted_byte content attribute b)
+    Follows Unquoted b (unquoted_byte content attribute b)
 unquoted_follows content attribute b is no_space no_greater =
     either_follows (b == ampersand) (begins_character Unquoted content attribute) (if is_unquoted_error b then refuses else keeps Unquoted content attribute b)
     (λ reference. record {
       stays = λ goes. record { inside = refl; no_mark = rw (eqb-true b ampersand reference) refl; no_end = rw (no_space, no_greater) refl };
-      same = λ goes. rw (reference_settled attribute is) refl;
       unnamed = refl;
     })
     (λ other. either_follows (is_unquoted_error b) refuses (keeps Unquoted content attribute b)
@@ -98,11 +96,11 @@ unquoted_follows content attribute b is no_space no_greater =
 -- where the value ends, no URL is open
 ended_follows : {p : SlotPlace} {b : ℕ} (content : Content) (attribute : Attribute) (next : Content → Transition) → is_url attribute ≡ true →
     is_url (next content).next.attribute ≡ false → is_named (next content).next.state ≡ false →
-    Follows p content attribute b (ended (content_after content attribute) next)
+    Follows p b (ended (content_after content attribute) next)
 ended_follows content attribute next is none unnamed = rw (ends_settled content attribute is) (none_follows (next content) none unnamed)
 
 quoted_follows : (mark : ℕ) (p : SlotPlace) (content : Content) (attribute : Attribute) (b : ℕ) → is_url attribute ≡ true →
-    ((b == mark) ≡ false → (s : State) → in_value p s ≡ true → StaysAt p b s) → Follows p content attribute b (quoted_byte mark p content attribute b)
+    ((b == mark) ≡ false → (s : State) → in_value p s ≡ true → StaysAt p b s) → Follows p b (quoted_byte mark p content attribute b)
 quoted_follows mark p content attribute b is inside =
     let closed : Content → Transition = λ inner. goes AfterValue inner [] in
     let kept : Transition = keeps p content attribute b in
@@ -111,7 +109,7 @@ quoted_follows mark p content attribute b is inside =
     (λ other. inner_follows p content attribute b kept is (inside other) (kept_follows p content attribute b is (inside other)))
 
 pub value_follows : (p : SlotPlace) (content : Content) (attribute : Attribute) (b : ℕ) → is_value_place p ≡ true → is_url attribute ≡ true →
-    Follows p content attribute b (value_byte p content attribute b)
+    Follows p b (value_byte p content attribute b)
 value_follows DoubleQuoted content attribute b place is =
     quoted_follows double_quote DoubleQuoted content attribute b is (λ other s inside. record { inside = inside; no_mark = other; no_end = other })
 value_follows SingleQuoted content attribute b place is =
@@ -137,42 +135,40 @@ reference_stays Unquoted b s place inside is = record { inside = inside; no_mark
 reference_stays other b s place inside is = absurd (false≢true place)
 
 module _ (p : SlotPlace) (content : Content) (attribute : Attribute) (place : is_value_place p ≡ true) (b : ℕ) where
-  character_follows : (c : Option ℕ) → (b == semicolon) ≡ true → Follows p content attribute b (character_read p content attribute c)
+  character_follows : (c : Option ℕ) → (b == semicolon) ≡ true → Follows p b (character_read p content attribute c)
   character_follows None ends = none_follows refuses refl refl
   character_follows (Some c) ends = record {
     stays = λ goes. reference_stays p b (In p) place (same_place p) (rw (eqb-true b semicolon ends) refl);
-    same = λ goes. refl;
     unnamed = refl;
   }
 
-  characters_follow : (found : Option (List ℕ)) (otherwise : Transition) → (b == semicolon) ≡ true → Follows p content attribute b otherwise →
-      Follows p content attribute b (characters_read p content attribute found otherwise)
+  characters_follow : (found : Option (List ℕ)) (otherwise : Transition) → (b == semicolon) ≡ true → Follows p b otherwise →
+      Follows p b (characters_read p content attribute found otherwise)
   characters_follow None otherwise ends later = later
   characters_follow (Some found) otherwise ends later = record {
     stays = λ goes. reference_stays p b (In p) place (same_place p) (rw (eqb-true b semicolon ends) refl);
-    same = λ goes. refl;
     unnamed = refl;
   }
 
-  legacy_follows : (q : SlotPlace) (word : List ℕ) (again : Transition) → Follows p content attribute b again → Follows p content attribute b (legacy_end q word b again)
+  legacy_follows : (q : SlotPlace) (word : List ℕ) (again : Transition) → Follows p b again → Follows p b (legacy_end q word b again)
   legacy_follows Text word again later = none_follows refuses refl refl
   legacy_follows other word again later =
       either_follows (is_legacy word && not (b == equals_sign)) refuses (flushes other word again) (λ is. none_follows refuses refl refl) (λ none. flushes_follows other word again later)
 
-  unnamed_follows : (word : List ℕ) (again : Transition) → Follows p content attribute b again → Follows p content attribute b (unnamed_end p word b again)
+  unnamed_follows : (word : List ℕ) (again : Transition) → Follows p b again → Follows p b (unnamed_end p word b again)
   unnamed_follows word again later =
       either_follows (begins_with_legacy word) (legacy_end p word b again) (ambiguous_end p word b again)
       (λ begins. legacy_follows p word again later)
       (λ none. either_follows (b == semicolon) refuses (flushes p word again) (λ ends. none_follows refuses refl refl) (λ other. flushes_follows p word again later))
 
-  name_follows : (word : List ℕ) (again : Transition) → Follows p content attribute b again → Follows p content attribute b (name_end p content attribute word b again)
+  name_follows : (word : List ℕ) (again : Transition) → Follows p b again → Follows p b (name_end p content attribute word b again)
   name_follows word again later =
       let unnamed = unnamed_follows word again later in
       either_follows (b == semicolon) (characters_read p content attribute (named_characters word) (unnamed_end p word b again)) (unnamed_end p word b again)
       (λ ends. characters_follow (named_characters word) (unnamed_end p word b again) ends unnamed)
       (λ other. unnamed)
 
-  end_follows : (word : List ℕ) (again : Transition) → Follows p content attribute b again → Follows p content attribute b (reference_end p content attribute word b again)
+  end_follows : (word : List ℕ) (again : Transition) → Follows p b again → Follows p b (reference_end p content attribute word b again)
   end_follows [] again later = flushes_follows p [] again later
   end_follows (first ∷ word) again later =
       either_follows (first == number_sign) (number_end p content attribute (first ∷ word) b) (name_end p content attribute (first ∷ word) b again)
@@ -181,18 +177,18 @@ module _ (p : SlotPlace) (content : Content) (attribute : Attribute) (place : is
       (λ other. none_follows refuses refl refl))
       (λ name. name_follows (first ∷ word) again later)
 
-  reference_follows : (word : List ℕ) (again : Transition) → Follows p content attribute b again → Follows p content attribute b (reference_byte p content attribute word b again)
+  reference_follows : (word : List ℕ) (again : Transition) → Follows p b again → Follows p b (reference_byte p content attribute word b again)
   reference_follows word again later =
       either_follows (goes_on word b) (moves (at_value (Within p (word ++ b ∷ [])) content attribute) []) (reference_end p content attribute word b again)
-      (λ held. record { stays = λ goes. reference_stays p b (Within p (word ++ b ∷ [])) place (same_place p) (grind arith); same = λ goes. refl; unnamed = refl })
+      (λ held. record { stays = λ goes. reference_stays p b (Within p (word ++ b ∷ [])) place (same_place p) (grind arith); unnamed = refl })
       (λ ends. end_follows word again later)
 
 pub within_follows : (p : SlotPlace) (content : Content) (attribute : Attribute) (word : List ℕ) (b : ℕ) → is_value_place p ≡ true → is_url attribute ≡ true →
-    Follows p content attribute b (within_byte p content (reference_read attribute) word b)
+    Follows p b (within_byte p content (reference_read attribute) word b)
 within_follows DoubleQuoted content attribute word b place is =
-    rw (reference_settled attribute is) (reference_follows DoubleQuoted content attribute place b word _ (value_follows DoubleQuoted content attribute b place is))
+    rw (reference_settled attribute is) (reference_follows DoubleQuoted content attribute place b word _ (value_follows DoubleQuoted content (behind_word word attribute) b place (behind_url word attribute ∙ is)))
 within_follows SingleQuoted content attribute word b place is =
-    rw (reference_settled attribute is) (reference_follows SingleQuoted content attribute place b word _ (value_follows SingleQuoted content attribute b place is))
+    rw (reference_settled attribute is) (reference_follows SingleQuoted content attribute place b word _ (value_follows SingleQuoted content (behind_word word attribute) b place (behind_url word attribute ∙ is)))
 within_follows Unquoted content attribute word b place is =
-    rw (reference_settled attribute is) (reference_follows Unquoted content attribute place b word _ (value_follows Unquoted content attribute b place is))
+    rw (reference_settled attribute is) (reference_follows Unquoted content attribute place b word _ (value_follows Unquoted content (behind_word word attribute) b place (behind_url word attribute ∙ is)))
 within_follows other content attribute word b place is = absurd (false≢true place)

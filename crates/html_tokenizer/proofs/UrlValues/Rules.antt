@@ -1,11 +1,11 @@
 -- What a byte does in the value of a URL, and where letters and digits after a `&` end.
-use Rattle.std.proofs.Common.{ℕ, ◌≡◌, Bool, true, false, List, [], ◌∷◌, ◌++◌, ◌==◌, Some, if◌then◌else◌, codes, refl, ap, ⊎_elim, arith}
+use Rattle.std.proofs.Common.{ℕ, ◌≡◌, Bool, true, false, List, [], ◌∷◌, ◌++◌, ◌==◌, Some, if◌then◌else◌, codes, not, ◌&&◌, refl, ap, ◌∙◌, subst, ⊎_elim, arith}
 use Rattle.std.specs.Char.{is_ascii_alphanumeric}
 use Rattle.std.specs.List.{list_all}
-use Rattle.std.proofs.lemmas.Bool.{and_parts, and_right, cases_Bool, false≢true, or_parts, true≢false}
+use Rattle.std.proofs.lemmas.Bool.{and_parts, cases_Bool, false≢true, or_parts, true≢false}
 use Rattle.std.proofs.lemmas.Bool.Decides.{nat_tests}
 use Rattle.std.proofs.lemmas.List.Folds.{list_all-append}
-use Rattle.hesc_specs.specs.Text.Ascii.{ampersand, equals_sign, greater_than, number_sign}
+use Rattle.hesc_specs.specs.Text.Ascii.{ampersand, equals_sign, greater_than, number_sign, semicolon}
 use Rattle.hesc_grammars.specs.Html.{is_unquoted_error}
 use Rattle.html_entities.proofs.References.{same_value}
 use Rattle.html_tokenizer.specs.declared.elements.Content.{Content}
@@ -16,8 +16,8 @@ use Rattle.html_tokenizer.specs.Tokenizer.Actions.{ValueByte, read_byte}
 use Rattle.html_tokenizer.specs.Tokenizer.States.{Attribute, In, Within, at_value}
 use Rattle.html_tokenizer.specs.Tokenizer.Tags.{is_space}
 use Rattle.html_tokenizer.specs.Tokenizer.Tokenization.{consume, value_byte}
-use Rattle.html_tokenizer.specs.Tokenizer.Transitions.{Transition, moves}
-use Rattle.html_tokenizer.specs.Tokenizer.Values.References.{begins_with_legacy, flushes, is_legacy, legacy_end, named_characters, reference_byte}
+use Rattle.html_tokenizer.specs.Tokenizer.Transitions.{Transition, moves, refuses}
+use Rattle.html_tokenizer.specs.Tokenizer.Values.References.{begins_with_legacy, behind_word, flushes, goes_on, is_legacy, legacy_end, named_characters, reference_byte, unnamed_end}
 use Rattle.html_tokenizer.specs.UrlValues.{ends_value, is_url}
 use Rattle.html_tokenizer.proofs.UrlValues.Attributes.{byte_settled, reference_settled}
 use Rattle.html_tokenizer.proofs.UrlValues.Places.{is_value_place}
@@ -35,29 +35,25 @@ pub amp_named : named_characters (codes "amp") ≡ Some (ampersand ∷ [])
 unfolding named_characters lib.Utf8.encode
 amp_named = same_value (codes "amp") (codes "&") refl
 
-same_both_ways : (test : Bool) (x : Transition) → (if test then x else x) ≡ x
-same_both_ways true x = refl
-same_both_ways false x = refl
-
 -- what a URL is read by at this place
 pub record ReadsUrl (p : SlotPlace) (content : Content) (attribute : Attribute) : Type 0 where
   pub references : consume (at_value (In p) content attribute) ampersand ≡ moves (at_value (Within p []) content attribute) []
   pub within : (word : List ℕ) (b : ℕ) →
-      consume (at_value (Within p word) content attribute) b ≡ reference_byte p content attribute word b (value_byte p content attribute b)
+      consume (at_value (Within p word) content attribute) b ≡ reference_byte p content attribute word b (value_byte p content (behind_word word attribute) b)
   pub here : (b : ℕ) → consume (at_value (In p) content attribute) b ≡ value_byte p content attribute b
   pub kept : (b : ℕ) → ends_value p b ≡ false → (b == ampersand) ≡ false → is_refused (value_byte p content attribute b).next.state ≡ false →
       value_byte p content attribute b ≡ moves (at_value (In p) content attribute) (ValueByte b ∷ [])
-  pub legacy : (word : List ℕ) (again : Transition) → legacy_end p word equals_sign again ≡ flushes p word again
+  pub legacy : (word : List ℕ) (b : ℕ) (again : Transition) → legacy_end p word b again ≡ (if is_legacy word && not (b == equals_sign) then refuses else flushes p word again)
   pub reads : read_byte p ≡ ValueByte
 
 double_reads : (content : Content) (attribute : Attribute) → is_url attribute ≡ true → ReadsUrl DoubleQuoted content attribute
 unfolding consume
 double_reads content attribute is = record {
   references = rw (reference_settled attribute is) refl;
-  within = λ word b. ap (λ x. reference_byte DoubleQuoted content x word b (value_byte DoubleQuoted content x b)) (reference_settled attribute is);
+  within = λ word b. ap (λ x. reference_byte DoubleQuoted content x word b (value_byte DoubleQuoted content (behind_word word x) b)) (reference_settled attribute is);
   here = λ b. refl;
   kept = λ b inner no_reference unrefused. rw (inner, no_reference, byte_settled attribute b is) refl;
-  legacy = λ word again. rw (and_right (is_legacy word) false refl) refl;
+  legacy = λ word b again. refl;
   reads = refl;
 }
 
@@ -65,10 +61,10 @@ single_reads : (content : Content) (attribute : Attribute) → is_url attribute 
 unfolding consume
 single_reads content attribute is = record {
   references = rw (reference_settled attribute is) refl;
-  within = λ word b. ap (λ x. reference_byte SingleQuoted content x word b (value_byte SingleQuoted content x b)) (reference_settled attribute is);
+  within = λ word b. ap (λ x. reference_byte SingleQuoted content x word b (value_byte SingleQuoted content (behind_word word x) b)) (reference_settled attribute is);
   here = λ b. refl;
   kept = λ b inner no_reference unrefused. rw (inner, no_reference, byte_settled attribute b is) refl;
-  legacy = λ word again. rw (and_right (is_legacy word) false refl) refl;
+  legacy = λ word b again. refl;
   reads = refl;
 }
 
@@ -86,21 +82,35 @@ unquoted_reads : (content : Content) (attribute : Attribute) → is_url attribut
 unfolding consume
 unquoted_reads content attribute is = record {
   references = rw (reference_settled attribute is) refl;
-  within = λ word b. ap (λ x. reference_byte Unquoted content x word b (value_byte Unquoted content x b)) (reference_settled attribute is);
+  within = λ word b. ap (λ x. reference_byte Unquoted content x word b (value_byte Unquoted content (behind_word word x) b)) (reference_settled attribute is);
   here = λ b. refl;
   kept = λ b inner no_reference unrefused. unquoted_kept content attribute b is inner no_reference unrefused;
-  legacy = λ word again. rw (and_right (is_legacy word) false refl) refl;
+  legacy = λ word b again. refl;
   reads = refl;
 }
 
--- letters and digits before `=` are no reference
-pub ends_at_equals : {p : SlotPlace} {content : Content} {attribute : Attribute} → ReadsUrl p content attribute →
-    (word : List ℕ) (again : Transition) → are_letters word ≡ true →
-    reference_byte p content attribute word equals_sign again ≡ flushes p word again
-ends_at_equals reads [] again letters = refl
-ends_at_equals {p} reads (first ∷ word) again letters =
-    let parts = and_parts (is_ascii_alphanumeric first) (are_letters word) letters in
-    rw (no_number_sign first parts.0, reads.legacy (first ∷ word) again) (same_both_ways (begins_with_legacy (first ∷ word)) (flushes p (first ∷ word) again))
+-- letters and digits, and a byte that goes on with no reference and ends none, stand for themselves
+module _ {p : SlotPlace} {content : Content} {attribute : Attribute} (reads : ReadsUrl p content attribute) where
+  named_flushed : (word : List ℕ) (b : ℕ) (again : Transition) → (b == semicolon) ≡ false → is_refused (unnamed_end p word b again).next.state ≡ false →
+      unnamed_end p word b again ≡ flushes p word again
+  named_flushed word b again no_end unrefused =
+      ⊎_elim
+      (λ (begins : begins_with_legacy word ≡ true).
+      ⊎_elim
+      (λ (error : (is_legacy word && not (b == equals_sign)) ≡ true). absurd (true≢false (rw (begins, reads.legacy word b again, error) at unrefused)))
+      (λ (none : (is_legacy word && not (b == equals_sign)) ≡ false). rw (begins, reads.legacy word b again, none) refl)
+      (cases_Bool (is_legacy word && not (b == equals_sign))))
+      (λ (other : begins_with_legacy word ≡ false). rw (other, no_end) refl)
+      (cases_Bool (begins_with_legacy word))
+
+  pub word_flushed : (word : List ℕ) (b : ℕ) (again : Transition) → are_letters word ≡ true → goes_on word b ≡ false → (b == semicolon) ≡ false →
+      is_refused (reference_byte p content attribute word b again).next.state ≡ false → reference_byte p content attribute word b again ≡ flushes p word again
+  word_flushed [] b again letters ends no_end unrefused = rw ends refl
+  word_flushed (first ∷ word) b again letters ends no_end unrefused =
+      let parts = and_parts (is_ascii_alphanumeric first) (are_letters word) letters in
+      let named : reference_byte p content attribute (first ∷ word) b again ≡ unnamed_end p (first ∷ word) b again =
+      rw (ends, no_number_sign first parts.0, no_end) refl in
+      named ∙ named_flushed (first ∷ word) b again no_end (subst (λ (x : Transition). is_refused x.next.state ≡ false) named unrefused)
 
 pub reads_url : (p : SlotPlace) (content : Content) (attribute : Attribute) → is_value_place p ≡ true → is_url attribute ≡ true → ReadsUrl p content attribute
 reads_url DoubleQuoted content attribute place is = double_reads content attribute is

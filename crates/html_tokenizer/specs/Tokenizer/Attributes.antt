@@ -8,7 +8,7 @@ use Rattle.html_tokenizer.specs.declared.elements.Content.{Content}
 use Rattle.html_tokenizer.specs.declared.elements.OpenElement.{OpenElement}
 use Rattle.html_tokenizer.specs.declared.elements.OpenElement.TheVariants.{Script, DataBlock, Meta, MetaContent, MetaPragma, MetaType, LinkTag, EmbedTag, SvgEmbedTag, MathEmbedTag, SelectEmbedTag, NoScript, NoScriptStyle, NoScriptFrame}
 use Rattle.html_tokenizer.specs.Tokenizer.Attributes.Encodings.{is_utf_8, names_no_other}
-use Rattle.html_tokenizer.specs.Tokenizer.States.{Tokenizer, Attribute, Ordinary, Forbidden, Link, Url, ScriptType, Encoding, Pragma, PageType, Unread, Raw, BeforeValue, at_value, refused}
+use Rattle.html_tokenizer.specs.Tokenizer.States.{Tokenizer, Attribute, Ordinary, Forbidden, Link, Url, FixedUrl, ScriptType, Encoding, Pragma, PageType, Unread, Raw, BeforeValue, at_value, refused}
 use Rattle.html_tokenizer.specs.Tokenizer.Elements.{with_element}
 
 -- event handlers, styles and pages
@@ -150,6 +150,7 @@ value_byte_read Ordinary b = Ordinary
 value_byte_read Forbidden b = Forbidden
 value_byte_read Link b = Link
 value_byte_read Url b = Url
+value_byte_read FixedUrl b = FixedUrl
 value_byte_read (ScriptType type) b = ScriptType (type ++ to_ascii_lowercase b ∷ [])
 value_byte_read (Encoding label) b = Encoding (label ++ to_ascii_lowercase b ∷ [])
 value_byte_read (Pragma name) b = Pragma (name ++ to_ascii_lowercase b ∷ [])
@@ -162,9 +163,17 @@ abbrev pub reference_read : Attribute → Attribute
 reference_read Ordinary = Ordinary
 reference_read Link = Link
 reference_read Url = Url
+reference_read FixedUrl = FixedUrl
 reference_read (Encoding label) = Unread
 reference_read (Pragma name) = Unread
 reference_read (PageType value) = Unread
 reference_read Unread = Unread
 reference_read Raw = Raw
 reference_read other = Forbidden
+
+-- the same where the value takes no slot any more
+abbrev pub fixed : Attribute → Attribute
+fixed Ordinary = Forbidden
+fixed Link = FixedUrl
+fixed Url = FixedUrl
+fixed other = other

@@ -1,5 +1,5 @@
 -- The states of the running tokenizer, as those of the definitions.
-use Rattle.std.specs.Prelude.{⊤, ℕ, ◌≡◌, ◌≤◌, List, [], ◌∷◌, ◌++◌, length, take}
+use Rattle.std.specs.Prelude.{⊤, ℕ, ◌≡◌, ◌≤◌, false, true, List, [], ◌∷◌, ◌++◌, length, take}
 use Rattle.html_tokenizer.specs.declared.slot_place.SlotPlace.TheVariants as place
 use Rattle.html_tokenizer.specs.declared.reader.Reader.{Reader}
 use Rattle.html_tokenizer.specs.declared.states.Kind.{Kind}
@@ -13,6 +13,8 @@ use Rattle.html_tokenizer.specs.Tokenizer.Attributes.{reference_read}
 use Rattle.html_tokenizer.specs.Tokenizer.States as state
 use Rattle.html_tokenizer.specs.Tokenizer.States.{State, Attribute, Tokenizer, at_value}
 use Rattle.html_tokenizer.specs.Tokenizer.Tokenization.{state_after}
+use Rattle.html_tokenizer.specs.Tokenizer.Transitions.{Transition}
+use Rattle.html_tokenizer.specs.Tokenizer.Values.References.{begins_with_legacy}
 
 abbrev pub state_of : Phase → List ℕ → State
 state_of (phase.In p) word = state.In p
@@ -59,6 +61,7 @@ attribute_in kind.Ordinary word = state.Ordinary
 attribute_in kind.Forbidden word = state.Forbidden
 attribute_in kind.Link word = state.Link
 attribute_in kind.Url word = state.Url
+attribute_in kind.FixedUrl word = state.FixedUrl
 attribute_in kind.ScriptType word = state.ScriptType word
 attribute_in kind.Encoding word = state.Encoding word
 attribute_in kind.Pragma word = state.Pragma word
@@ -76,6 +79,11 @@ word_after (Add b) word = word ++ b ∷ []
 abbrev pub moved : Move → List ℕ → Tokenizer
 moved m word =
     at_value (state_of m.phase (word_after m.word word)) m.content (attribute_in m.kind (word_after m.word word))
+
+-- the byte behind a word leads on by the first of the moves, and by the second where a name that needs no `;` begins the word
+pub record LeadsOn (again fixed : Move) (word : List ℕ) (t : Transition) : Type 0 where
+  pub other : begins_with_legacy word ≡ false → moved again word ≡ t.next
+  pub legacy : begins_with_legacy word ≡ true → moved fixed word ≡ t.next
 
 -- where the running tokenizer is
 abbrev pub tokenizer_of : {A : Type 0} → Reader A → Tokenizer

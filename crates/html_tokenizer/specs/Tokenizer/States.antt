@@ -82,9 +82,10 @@ pub data Attribute : Type 0 where
   Ordinary : Attribute
   -- code, a style, a page, or a list of URLs
   Forbidden : Attribute
-  -- a URL, of an element that only shows or follows it, and of another one
+  -- a URL, of an element that only shows or follows it, and of another one; one that takes no slot any more
   Link : Attribute
   Url : Attribute
+  FixedUrl : Attribute
   -- the type of a script, and its bytes so far
   ScriptType : List ℕ → Attribute
   -- of a `meta`: its `charset`, its `http-equiv`, its `content` where that is the type of the page, and their bytes so far

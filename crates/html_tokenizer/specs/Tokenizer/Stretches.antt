@@ -85,6 +85,7 @@ IsSettled kind.Ordinary = ⊤
 IsSettled kind.Forbidden = ⊤
 IsSettled kind.Link = ⊤
 IsSettled kind.Url = ⊤
+IsSettled kind.FixedUrl = ⊤
 IsSettled other = ⊥
 
 -- a byte as a name of a tag or an attribute holds it, if it is a letter, a digit or `-`

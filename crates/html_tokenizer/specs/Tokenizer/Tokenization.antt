@@ -10,7 +10,7 @@ use Rattle.html_tokenizer.specs.Tokenizer.Code.Strings.{script_string_byte, styl
 use Rattle.html_tokenizer.specs.Tokenizer.Comments.{declaration_byte, bogus_comment_byte, comment_start_byte, comment_start_dash_byte, comment_byte, comment_dash_byte, comment_end_byte}
 use Rattle.html_tokenizer.specs.Tokenizer.Doctypes.{before_doctype_byte, doctype_byte, after_doctype_byte, doctype_keyword_byte, before_public_byte, public_byte, after_public_byte, between_identifiers_byte, before_system_byte, system_byte, after_system_byte}
 use Rattle.html_tokenizer.specs.Tokenizer.Attributes.{reference_read}
-use Rattle.html_tokenizer.specs.Tokenizer.Values.References.{reference_byte}
+use Rattle.html_tokenizer.specs.Tokenizer.Values.References.{behind_word, reference_byte}
 use Rattle.html_tokenizer.specs.Tokenizer.States as state
 use Rattle.html_tokenizer.specs.Tokenizer.States.{State, Attribute, Tokenizer, at_value}
 use Rattle.html_tokenizer.specs.Tokenizer.Tags.{tag_open_byte, end_tag_open_byte, tag_name_byte, end_tag_name_byte, end_tag_byte, before_name_byte, attribute_name_byte, after_name_byte, after_value_byte, self_closing_byte}
@@ -39,7 +39,7 @@ within_byte StyleSingle content attribute word b =
 within_byte StyleDouble content attribute word b =
     style_escape_byte StyleDouble content attribute word b (value_byte StyleDouble content attribute b)
 within_byte other content attribute word b =
-    reference_byte other content attribute word b (value_byte other content attribute b)
+    reference_byte other content attribute word b (value_byte other content (behind_word word attribute) b)
 
 -- 13.2.5.11 RCDATA end tag name state; in a string 13.2.5.13 RAWTEXT end tag open state, 13.2.5.14 RAWTEXT end tag name
 -- state, 13.2.5.16 Script data end tag open state, 13.2.5.17 Script data end tag name state

@@ -152,9 +152,10 @@ pub(crate) fn stretch(phase: Phase, content: Content, kind: Kind, bytes: &[u8]) 
         ≡ at_value (state_of phase word) content (attribute_in kind word) }
 {
     match (phase, kind) {
-        (Phase::In(place), Kind::Ordinary | Kind::Forbidden | Kind::Link | Kind::Url) => {
-            value_stretch(place, bytes)
-        }
+        (
+            Phase::In(place),
+            Kind::Ordinary | Kind::Forbidden | Kind::Link | Kind::Url | Kind::FixedUrl,
+        ) => { value_stretch(place, bytes) }
         (Phase::InCode(code), Kind::Ordinary) => code_stretch(code, content.element, bytes),
         (Phase::Comment, Kind::Ordinary) => first_byte(b'-', bytes, 0),
         (Phase::BogusComment, Kind::Ordinary) => first_byte(b'>', bytes, 0),
@@ -173,15 +174,17 @@ pub(crate) fn text_stretch(phase: Phase, kind: Kind, bytes: &[u8]) -> usize
         ≡ at_value (state_of phase word) content (attribute_in kind word) }
 {
     match (phase, kind) {
-        (Phase::In(SlotPlace::Text), Kind::Ordinary | Kind::Forbidden | Kind::Link | Kind::Url) =>
-            first_near(b'<', b'&', bytes),
+        (
+            Phase::In(SlotPlace::Text),
+            Kind::Ordinary | Kind::Forbidden | Kind::Link | Kind::Url | Kind::FixedUrl,
+        ) => first_near(b'<', b'&', bytes),
         (
             Phase::In(SlotPlace::DoubleQuoted),
-            Kind::Ordinary | Kind::Forbidden | Kind::Link | Kind::Url,
+            Kind::Ordinary | Kind::Forbidden | Kind::Link | Kind::Url | Kind::FixedUrl,
         ) => first_near(b'"', b'&', bytes),
         (
             Phase::In(SlotPlace::SingleQuoted),
-            Kind::Ordinary | Kind::Forbidden | Kind::Link | Kind::Url,
+            Kind::Ordinary | Kind::Forbidden | Kind::Link | Kind::Url | Kind::FixedUrl,
         ) => first_near(b'\'', b'&', bytes),
         _ => 0,
     }

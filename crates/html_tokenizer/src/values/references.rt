@@ -4,7 +4,7 @@ ghost use Rattle.std.specs.Option.{is_some};
 ghost use Rattle.std.specs.Prelude.{◌≡◌, bytes_eq};
 ghost use Rattle.hesc_specs.specs.Text.Words.{begins};
 ghost use Rattle.html_tokenizer.specs.Tokenizer.Attributes.{reference_read};
-ghost use Rattle.html_tokenizer.specs.Tokenizer.Phases.{attribute_in, moved};
+ghost use Rattle.html_tokenizer.specs.Tokenizer.Phases.{LeadsOn, attribute_in, moved};
 ghost use Rattle.html_tokenizer.specs.Tokenizer.Transitions.{Transition};
 ghost use Rattle.html_tokenizer.specs.Tokenizer.Values.References.{begins_with_legacy, goes_on, is_legacy, named_characters, reference_end, unnamed_end};
 
@@ -63,19 +63,26 @@ fn is_legacy(word: &[u8]) -> bool
 }
 
 // After a word that is no name with its `;`: what the Standard calls an error is refused.
-fn unnamed_end(place: SlotPlace, word: &[u8], byte: u8, again: Move) -> Move
-    ensures { (t : Transition) → moved again word.now ≡ t.next
+fn unnamed_end(place: SlotPlace, word: &[u8], byte: u8, again: Move, fixed: Move) -> Move
+    ensures { (t : Transition) → LeadsOn again fixed word.now t
         → moved result word.now ≡ (unnamed_end place word.now byte t).next }
 {
-    let is_error = if begins_with_legacy(word) {
+    let begins = begins_with_legacy(word);
+    let is_error = if begins {
         place == SlotPlace::Text || (is_legacy(word) && byte != b'=')
     } else {
         byte == b';'
     };
-    if is_error { refuses() } else { again }
+    if is_error {
+        refuses()
+    } else if begins {
+        fixed
+    } else {
+        again
+    }
 }
 
-/// Where a reference ends, and the byte alone would lead on so.
+/// Where a reference ends, and the byte alone would lead on so, and so in a value that takes no slot any more.
 pub(crate) fn reference_end(
     place: SlotPlace,
     content: Content,
@@ -83,8 +90,9 @@ pub(crate) fn reference_end(
     word: &[u8],
     byte: u8,
     again: Move,
+    fixed: Move,
 ) -> Move
-    ensures { (t : Transition) → moved again word.now ≡ t.next
+    ensures { (t : Transition) → LeadsOn again fixed word.now t
         → moved result word.now
         ≡ (reference_end place content (reference_read (attribute_in kind word.now))
         word.now byte t).next }
@@ -93,7 +101,7 @@ pub(crate) fn reference_end(
         [] => return again,
         [b'#', ..] => byte == b';' && body_character(word).is_some(),
         _ if byte == b';' && is_named(word) => true,
-        _ => return unnamed_end(place, word, byte, again),
+        _ => return unnamed_end(place, word, byte, again, fixed),
     };
     if is_read {
         in_value(Phase::In(place), content, reference_read(kind), Word::New)

@@ -1,11 +1,11 @@
 -- No URL opens in text, in a string or in a value that is none.
-use Rattle.std.proofs.Common.{ℕ, ◌≡◌, false, List, [], ◌∷◌, Option, Some, None, refl, arith}
+use Rattle.std.proofs.Common.{ℕ, ◌≡◌, false, List, [], ◌∷◌, Option, Some, None, ◌∙◌, refl, arith}
 use Rattle.html_tokenizer.specs.declared.elements.Content.{Content}
 use Rattle.html_tokenizer.specs.declared.states.Code.TheVariants as code
 use Rattle.html_tokenizer.specs.declared.slot_place.SlotPlace.{SlotPlace}
 use Rattle.html_tokenizer.specs.Tokenizer.Attributes.{content_after, reference_read, value_byte_read}
 use Rattle.html_tokenizer.specs.Tokenizer.Code.{less_byte}
-use Rattle.html_tokenizer.specs.Tokenizer.States.{AfterValue, Attribute, BeforeName, Link, Raw, Url}
+use Rattle.html_tokenizer.specs.Tokenizer.States.{AfterValue, Attribute, BeforeName, FixedUrl, Link, Raw, Url}
 use Rattle.html_tokenizer.specs.Tokenizer.Transitions.{Transition, goes}
 use Rattle.html_tokenizer.specs.declared.slot_place.SlotPlace.TheVariants.{Text, DoubleQuoted, SingleQuoted, Unquoted, ScriptSingle, ScriptDouble, StyleSingle, StyleDouble}
 use Rattle.hesc_grammars.specs.References.{body_character}
@@ -13,20 +13,23 @@ use Rattle.html_tokenizer.specs.Tokenizer.Code.Strings.{escape_or_more, string_l
 use Rattle.html_tokenizer.specs.Tokenizer.Tags.{opened}
 use Rattle.html_tokenizer.specs.Tokenizer.Tokenization.{value_byte, within_byte}
 use Rattle.html_tokenizer.specs.Tokenizer.Values.{before_value_byte, character_read, ended}
-use Rattle.html_tokenizer.specs.Tokenizer.Values.References.{characters_read, named_characters, reference_byte, unnamed_end}
+use Rattle.html_tokenizer.specs.Tokenizer.Values.References.{behind_word, characters_read, named_characters, reference_byte, unnamed_end}
 use Rattle.html_tokenizer.specs.UrlValues.{is_url}
+use Rattle.html_tokenizer.proofs.UrlValues.Attributes.{behind_url}
 use Rattle.html_tokenizer.proofs.UrlValues.Opening.Code.{in_code_opens_none}
 use Rattle.html_tokenizer.proofs.UrlValues.Opening.Tags.{OpensNone, opened_opens_none}
 
 pub byte_opens_none : (attribute : Attribute) (b : ℕ) → is_url attribute ≡ false → is_url (value_byte_read attribute b) ≡ false
 byte_opens_none Url b is = is
 byte_opens_none Link b is = is
+byte_opens_none FixedUrl b is = is
 byte_opens_none Raw b is = grind arith
 byte_opens_none other b is = refl
 
 pub reference_opens_none : (attribute : Attribute) → is_url attribute ≡ false → is_url (reference_read attribute) ≡ false
 reference_opens_none Url is = is
 reference_opens_none Link is = is
+reference_opens_none FixedUrl is = is
 reference_opens_none other is = refl
 
 ended_opens_none : (content : Option Content) (next : Content → Transition) → ((inner : Content) → OpensNone (next inner)) →
@@ -94,7 +97,7 @@ within_opens_none ScriptSingle content attribute word b is = escape_opens_none S
 within_opens_none ScriptDouble content attribute word b is = escape_opens_none ScriptDouble content attribute word b _ is
 within_opens_none StyleSingle content attribute word b is = style_escape_opens_none StyleSingle content attribute word b _ is (value_opens_none StyleSingle content attribute b is)
 within_opens_none StyleDouble content attribute word b is = style_escape_opens_none StyleDouble content attribute word b _ is (value_opens_none StyleDouble content attribute b is)
-within_opens_none other content attribute word b is = reference_opens_none_after other content attribute word b _ is (value_opens_none other content attribute b is)
+within_opens_none other content attribute word b is = reference_opens_none_after other content attribute word b _ is (value_opens_none other content (behind_word word attribute) b (behind_url word attribute ∙ is))
 
 pub string_less_opens_none : (p : SlotPlace) (content : Content) (attribute : Attribute) (b : ℕ) → is_url attribute ≡ false →
     OpensNone (string_less_byte p content attribute (value_byte p content attribute b) b)

@@ -91,7 +91,7 @@ at_value_place p u tame stands = place_in p u.state (tame stands.url) stands.at
 
 -- they tell what the URL holds, from the last byte that begins a value at the place
 pub open_at_slot : (p : SlotPlace) (t : Tokenizer) (value bytes raw text : List ℕ) → IsTame t → IsFresh t value →
-    in_url p (standing (state_after t bytes)) ≡ true → after_last (begins_value p) bytes ≡ Some raw → url_text raw ≡ Some text →
+    in_url p (standing (state_after t bytes)) ≡ true → after_last (begins_value p) bytes ≡ Some raw → url_text false raw ≡ Some text →
     open_url t value bytes ≡ text
 open_at_slot p t value bytes raw text tame fresh stands last is =
     let here = stands_in_url p (state_after t bytes) stands in

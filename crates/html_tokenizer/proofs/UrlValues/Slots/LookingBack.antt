@@ -56,13 +56,13 @@ at_unrefused p Refused at = absurd (false≢true at)
 at_unrefused p other at = refl
 
 reads_quoted : (p : SlotPlace) (s : Tokenizer) (raw text : List ℕ) → is_value_place p ≡ true → is_url s.attribute ≡ true → s.state ≡ In p →
-    list_any (ends_value p) raw ≡ false → is_at p (state_after s raw).state ≡ true → url_text raw ≡ Some text → open_url s [] raw ≡ text
+    list_any (ends_value p) raw ≡ false → is_at p (state_after s raw).state ≡ true → url_text false raw ≡ Some text → open_url s [] raw ≡ text
 reads_quoted p s raw text place url start inner at is =
     let there : Tokenizer = at_value (In p) s.content s.attribute in
     let same : s ≡ there = ap (λ x. at_value x s.content s.attribute) start in
     let unrefused : is_refused (state_after there raw).state ≡ false =
     at_unrefused p (state_after there raw).state (subst (λ (x : Tokenizer). is_at p (state_after x raw).state ≡ true) same at) in
-    ap (λ x. open_url x [] raw) same ∙ (reads_on p s.content s.attribute raw text place url inner is unrefused).value []
+    ap (λ x. open_url x [] raw) same ∙ (reads_on p s.content s.attribute raw text place url inner is unrefused).stays.value []
 
 no_quote : (content : Content) (attribute : Attribute) (b : ℕ) → is_at Unquoted (consume (at_value BeforeValue content attribute) b).next.state ≡ true →
     ((b == double_quote) ≡ false) × ((b == single_quote) ≡ false)
@@ -85,7 +85,7 @@ no_quote content attribute b at = (
 reads_first : (content : Content) (attribute : Attribute) (raw text : List ℕ) → is_url attribute ≡ true →
     is_url (state_after (at_value BeforeValue content attribute) raw).attribute ≡ true →
     is_at Unquoted (state_after (at_value BeforeValue content attribute) raw).state ≡ true →
-    list_any (begins_value Unquoted) raw ≡ false → list_any (ends_value Unquoted) raw ≡ false → url_text raw ≡ Some text →
+    list_any (begins_value Unquoted) raw ≡ false → list_any (ends_value Unquoted) raw ≡ false → url_text false raw ≡ Some text →
     open_url (at_value BeforeValue content attribute) [] raw ≡ text
 reads_first content attribute [] text url there at none inner is = let same : [] ≡ text = cc in same
 reads_first content attribute (b ∷ raw) text url there at none inner is =
@@ -98,11 +98,11 @@ reads_first content attribute (b ∷ raw) text url there at none inner is =
     let first : consume start b ≡ consume other b = first_as_other content attribute b ends.0 quotes.0 quotes.1 ends.1 in
     let unrefused : is_refused (state_after other (b ∷ raw)).state ≡ false =
     at_unrefused Unquoted (state_after other (b ∷ raw)).state (subst (λ (x : Transition). is_at Unquoted (state_after x.next raw).state ≡ true) first at) in
-    (stays_from other start b first url url (reads_on Unquoted content attribute (b ∷ raw) text refl url inner is unrefused)).value []
+    (stays_from other start b first url url (reads_on Unquoted content attribute (b ∷ raw) text refl url inner is unrefused).stays).value []
 
 reads_unquoted : (s : Tokenizer) (raw text : List ℕ) → is_url s.attribute ≡ true → s.state ≡ BeforeValue →
     is_url (state_after s raw).attribute ≡ true → is_at Unquoted (state_after s raw).state ≡ true →
-    list_any (begins_value Unquoted) raw ≡ false → list_any (ends_value Unquoted) raw ≡ false → url_text raw ≡ Some text →
+    list_any (begins_value Unquoted) raw ≡ false → list_any (ends_value Unquoted) raw ≡ false → url_text false raw ≡ Some text →
     open_url s [] raw ≡ text
 reads_unquoted s raw text url start there at none inner is =
     let same : s ≡ at_value BeforeValue s.content s.attribute = ap (λ x. at_value x s.content s.attribute) start in
@@ -112,7 +112,7 @@ reads_unquoted s raw text url start there at none inner is =
 
 reads_from_start : (p : SlotPlace) (s : Tokenizer) (raw text : List ℕ) → is_value_place p ≡ true → is_url s.attribute ≡ true → s.state ≡ start_state p →
     is_url (state_after s raw).attribute ≡ true → is_at p (state_after s raw).state ≡ true →
-    list_any (begins_value p) raw ≡ false → list_any (ends_value p) raw ≡ false → url_text raw ≡ Some text →
+    list_any (begins_value p) raw ≡ false → list_any (ends_value p) raw ≡ false → url_text false raw ≡ Some text →
     open_url s [] raw ≡ text
 reads_from_start DoubleQuoted s raw text place url start there at none inner is = reads_quoted DoubleQuoted s raw text refl url start inner at is
 reads_from_start SingleQuoted s raw text place url start there at none inner is = reads_quoted SingleQuoted s raw text refl url start inner at is
@@ -123,7 +123,7 @@ reads_from_start other s raw text place url start there at none inner is = absur
 
 pub looks_back : (p : SlotPlace) (t : Tokenizer) (value bytes raw text : List ℕ) → is_value_place p ≡ true → IsTame t → IsFresh t value →
     is_url (state_after t bytes).attribute ≡ true → is_at p (state_after t bytes).state ≡ true →
-    after_last (begins_value p) bytes ≡ Some raw → url_text raw ≡ Some text → open_url t value bytes ≡ text
+    after_last (begins_value p) bytes ≡ Some raw → url_text false raw ≡ Some text → open_url t value bytes ≡ text
 looks_back p t value bytes raw text place tame fresh url at last is =
     let found = last_mark (begins_value p) bytes raw last in
     let here : Tokenizer = state_after t found.front in

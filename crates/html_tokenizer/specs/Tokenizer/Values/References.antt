@@ -15,6 +15,7 @@ use Rattle.html_tokenizer.specs.declared.slot_place.SlotPlace.{SlotPlace}
 use Rattle.html_tokenizer.specs.declared.slot_place.SlotPlace.TheVariants.{Text}
 use Rattle.html_tokenizer.specs.declared.elements.Content.{Content}
 use Rattle.html_tokenizer.specs.Tokenizer.Actions.{read_byte}
+use Rattle.html_tokenizer.specs.Tokenizer.Attributes.{fixed}
 use Rattle.html_tokenizer.specs.Tokenizer.Values.LegacyNames.{legacy_names}
 use Rattle.html_tokenizer.specs.Tokenizer.States as state
 use Rattle.html_tokenizer.specs.Tokenizer.States.{Attribute, at_value}
@@ -36,6 +37,11 @@ is_legacy word = list_any (λ name. bytes_eq name word) legacy_names
 -- a reference may go on with the byte after the word: a letter or a digit, or a `#` right after the `&`
 abbrev pub goes_on : List ℕ → ℕ → Bool
 goes_on word b = is_ascii_alphanumeric b || (b == number_sign && length word == 0)
+
+-- behind a `&` and a word that stand for themselves though a name that needs no `;` begins the word, the value takes no slot: Chromium's
+-- parser of fragments (`innerHTML`) looks for a `;` behind the `&`, which may be one of the text, and reads the name by it
+abbrev pub behind_word : List ℕ → Attribute → Attribute
+behind_word word attribute = if begins_with_legacy word then fixed attribute else attribute
 
 -- flush code points consumed as a character reference, and reconsume the byte in the return state
 abbrev pub flushes : SlotPlace → List ℕ → Transition → Transition
