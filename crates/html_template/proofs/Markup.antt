@@ -1,12 +1,14 @@
 -- The markup of a URL: what stands after the last byte that passes a test, and what markup adds to the URL.
-use Rattle.std.proofs.Common.{ℕ, zero, suc, ◌≡◌, ◌<◌, ◌≤◌, ◌+◌, ◌-◌, ◌==◌, ◌&&◌, Bool, true, false, List, [], ◌∷◌, ◌++◌, Option, Some, None, length, take, drop, slice_index, bytes_eq, codes, refl, sym, ap, ◌∙◌, ⊎_elim, append_assoc, arith}
+use Rattle.std.proofs.Common.{ℕ, zero, suc, ◌≡◌, ◌≢◌, ◌<◌, ◌≤◌, ◌+◌, ◌-◌, ◌==◌, ◌&&◌, ◌||◌, Bool, true, false, List, [], ◌∷◌, ◌++◌, Option, Some, None, length, take, drop, slice_index, bytes_eq, codes, refl, sym, ap, ◌∙◌, ⊎_elim, append_assoc, append-nil, length-append, arith}
 use Rattle.std.proofs.Math.Seq.{drop-append-add, take-append-add}
-use Rattle.std.proofs.lemmas.Bool.{cases_Bool, eqb-true}
+use Rattle.std.proofs.lemmas.Bool.{cases_Bool, eq-eqb, eqb-true, ne_eqb}
+use Rattle.std.proofs.lemmas.Bool.Decides.{nat_tests}
 use Rattle.std.proofs.lemmas.List.{take_rest}
 use Rattle.std.specs.Char.{is_ascii_alphanumeric}
 use Rattle.std.specs.List.{list_any}
 use Rattle.std.specs.Option.{option_map}
-use Rattle.hesc_specs.specs.Text.Ascii.{ampersand, equals_sign, semicolon}
+use Rattle.hesc_specs.specs.Text.Ascii.{ampersand, number_sign, semicolon}
+use Rattle.html_tokenizer.specs.Tokenizer.Values.References.{goes_on}
 use Rattle.html_tokenizer.specs.UrlValues.{after_last, url_text, url_text_from}
 use Rattle.html_template.specs.OpenUrls.UrlTexts.{IsRead, Takes}
 
@@ -78,8 +80,8 @@ same_text None = refl
 same_text (Some text) = refl
 
 -- before the first byte
-pub nothing_read : (text markup : List ℕ) → text ≡ [] → IsRead None text markup markup
-nothing_read text markup none = rw none (same_text (url_text markup))
+pub nothing_read : (is_ended : Bool) (text markup : List ℕ) → text ≡ [] → IsRead is_ended None text markup markup
+nothing_read is_ended text markup none = rw none (same_text (url_text is_ended markup))
 
 map_twice : (front middle : List ℕ) (read : Option (List ℕ)) →
     option_map (λ more. front ++ more) (option_map (λ more. middle ++ more) read) ≡ option_map (λ more. (front ++ middle) ++ more) read
@@ -87,14 +89,14 @@ map_twice front middle None = refl
 map_twice front middle (Some text) = ap Some (sym (append_assoc front middle text))
 
 -- a byte that stands as it is
-pub byte_kept : (text rest markup : List ℕ) (b : ℕ) → IsRead None text (b ∷ rest) markup → (b == ampersand) ≡ false →
-    IsRead None (text ++ b ∷ []) rest markup
-byte_kept text rest markup b read other = (rw other at read) ∙ map_twice text (b ∷ []) (url_text_from None rest)
+byte_kept : (is_ended : Bool) (text rest markup : List ℕ) (b : ℕ) → IsRead is_ended None text (b ∷ rest) markup → (b == ampersand) ≡ false →
+    IsRead is_ended None (text ++ b ∷ []) rest markup
+byte_kept is_ended text rest markup b read other = (rw other at read) ∙ map_twice text (b ∷ []) (url_text_from is_ended None rest)
 
 -- a `&`
-pub ampersand_held : (text rest markup : List ℕ) (b : ℕ) → IsRead None text (b ∷ rest) markup → (b == ampersand) ≡ true →
-    IsRead (Some (length text)) (text ++ b ∷ []) rest markup
-ampersand_held text rest markup b read is = (
+ampersand_held : (is_ended : Bool) (text rest markup : List ℕ) (b : ℕ) → IsRead is_ended None text (b ∷ rest) markup → (b == ampersand) ≡ true →
+    IsRead is_ended (Some (length text)) (text ++ b ∷ []) rest markup
+ampersand_held is_ended text rest markup b read is = (
   [],
   record {
     front = text;
@@ -105,9 +107,9 @@ ampersand_held text rest markup b read is = (
 )
 
 -- a letter or digit behind it
-pub letter_held : (text rest markup : List ℕ) (b start : ℕ) → IsRead (Some start) text (b ∷ rest) markup → is_ascii_alphanumeric b ≡ true →
-    IsRead (Some start) (text ++ b ∷ []) rest markup
-letter_held text rest markup b start (word, held) letter = (
+letter_held : (is_ended : Bool) (text rest markup : List ℕ) (b start : ℕ) → IsRead is_ended (Some start) text (b ∷ rest) markup → is_ascii_alphanumeric b ≡ true →
+    IsRead is_ended (Some start) (text ++ b ∷ []) rest markup
+letter_held is_ended text rest markup b start (word, held) letter = (
   word ++ b ∷ [],
   record {
     front = held.front;
@@ -125,15 +127,6 @@ map_name front word b (Some text) =
     ap Some
     (sym (append_assoc (front ++ ampersand ∷ word) (b ∷ []) text ∙ append_assoc front (ampersand ∷ word) (b ∷ text)))
 
--- a `=` behind a name
-pub equals_read : (text rest markup : List ℕ) (b start : ℕ) → IsRead (Some start) text (b ∷ rest) markup → is_ascii_alphanumeric b ≡ false →
-    (b == equals_sign) ≡ true → IsRead None (text ++ b ∷ []) rest markup
-equals_read text rest markup b start (word, held) other is =
-    let same : b ≡ equals_sign = eqb-true b equals_sign is in
-    let no_end : (b == semicolon) ≡ false = rw same refl in
-    let read = rw (other, no_end, is) at held.read in
-    rw held.parts (read ∙ map_name held.front word b (url_text_from None rest))
-
 -- where the word stands in the text
 held_word : (front word text : List ℕ) (start : ℕ) → text ≡ front ++ ampersand ∷ word → start ≡ length front → drop (start + 1) text ≡ word
 held_word front word text start parts place = rw (parts, place) (drop-append-add front (ampersand ∷ word) 1)
@@ -142,46 +135,120 @@ held_front : (front word text : List ℕ) (start : ℕ) → text ≡ front ++ am
     take (start + 1) text ≡ front ++ ampersand ∷ []
 held_front front word text start parts place = rw (parts, place) (take-append-add front (ampersand ∷ word) 1)
 
+held_length : (front word text : List ℕ) (start : ℕ) → text ≡ front ++ ampersand ∷ word → start ≡ length front → length text ≡ start + 1 + length word
+held_length front word text start parts place = rw (parts, place) (omega (arith, length-append front (ampersand ∷ word)))
+
+-- a byte that goes on with no reference and ends none: the `&` and the word stand for themselves
+no_number : (word : List ℕ) (b : ℕ) → is_ascii_alphanumeric b ≡ false → b ≢ semicolon → (b ≡ number_sign → length word ≢ 0) → (b == semicolon || goes_on word b) ≡ false
+no_number word b letter no_end no_sign = grind (arith, nat_tests)
+
+no_amp : (word : List ℕ) (b : ℕ) → b ≢ semicolon → (b == semicolon && bytes_eq word (codes "amp")) ≡ false
+no_amp word b no_end = rw (ne_eqb b semicolon no_end) refl
+
+stands_read : (is_ended : Bool) (text rest markup : List ℕ) (b start : ℕ) → IsRead is_ended (Some start) text (b ∷ rest) markup → is_ascii_alphanumeric b ≡ false →
+    b ≢ semicolon → (b ≡ number_sign → start + 1 ≢ length text) → (b == ampersand) ≡ false → IsRead is_ended None (text ++ b ∷ []) rest markup
+stands_read is_ended text rest markup b start (word, held) letter no_end no_sign other =
+    let len = held_length held.front word text start held.parts held.place in
+    let stands = no_number word b letter no_end (λ sign none. no_sign sign (omega arith)) in
+    let read = rw (letter, no_amp word b no_end, (rw letter at stands), other) at held.read in
+    rw held.parts (read ∙ map_name held.front word b (url_text_from is_ended None rest))
+
+map_held : (front word : List ℕ) (read : Option (List ℕ)) →
+    option_map (λ more. front ++ more) (option_map (λ more. ampersand ∷ word ++ more) read) ≡ option_map (λ more. (front ++ ampersand ∷ word) ++ more) read
+map_held front word None = refl
+map_held front word (Some text) = ap Some (sym (append_assoc front (ampersand ∷ word) text))
+
+next_read : (is_ended : Bool) (text rest markup : List ℕ) (b start : ℕ) → IsRead is_ended (Some start) text (b ∷ rest) markup → (b == ampersand) ≡ true →
+    IsRead is_ended (Some (length text)) (text ++ b ∷ []) rest markup
+next_read is_ended text rest markup b start (word, held) is =
+    let same : b ≡ ampersand = eqb-true b ampersand is in
+    let read = rw same at held.read in (
+      [],
+      record {
+        front = text;
+        parts = ap (λ x. text ++ x ∷ []) same;
+        place = refl;
+        read = read ∙ map_held held.front word (url_text_from is_ended (Some []) rest) ∙ ap (λ x. option_map (λ more. x ++ more) (url_text_from is_ended (Some []) rest)) (sym held.parts);
+      },
+    )
+
 -- a `;` behind `&amp`
-pub amp_read : (text rest markup : List ℕ) (b start : ℕ) → IsRead (Some start) text (b ∷ rest) markup → is_ascii_alphanumeric b ≡ false →
-    (b == semicolon) ≡ true → bytes_eq (drop (start + 1) text) (codes "amp") ≡ true → IsRead None (take (start + 1) text) rest markup
-amp_read text rest markup b start (word, held) other is name =
+amp_read : (is_ended : Bool) (text rest markup : List ℕ) (b start : ℕ) → IsRead is_ended (Some start) text (b ∷ rest) markup → is_ascii_alphanumeric b ≡ false →
+    (b == semicolon) ≡ true → bytes_eq (drop (start + 1) text) (codes "amp") ≡ true → IsRead is_ended None (take (start + 1) text) rest markup
+amp_read is_ended text rest markup b start (word, held) other is name =
     let here : bytes_eq word (codes "amp") ≡ true = rw (held_word held.front word text start held.parts held.place) at name in
     let read = rw (other, is, here) at held.read in
-    rw (held_front held.front word text start held.parts held.place) (read ∙ map_twice held.front (ampersand ∷ []) (url_text_from None rest))
+    rw (held_front held.front word text start held.parts held.place) (read ∙ map_twice held.front (ampersand ∷ []) (url_text_from is_ended None rest))
 
--- any other byte behind a name
-pub other_read : (text rest markup : List ℕ) (b start : ℕ) → IsRead (Some start) text (b ∷ rest) markup → is_ascii_alphanumeric b ≡ false →
-    ((b == semicolon) && bytes_eq (drop (start + 1) text) (codes "amp")) ≡ false → (b == equals_sign) ≡ false → url_text markup ≡ None
-other_read text rest markup b start (word, held) other no_amp no_equals =
-    let none : (b == semicolon && bytes_eq word (codes "amp")) ≡ false = rw (held_word held.front word text start held.parts held.place) at no_amp in
-    rw (other, none, no_equals) at held.read
+-- another reference that it ends
+end_refused : (is_ended : Bool) (text rest markup : List ℕ) (b start : ℕ) → IsRead is_ended (Some start) text (b ∷ rest) markup → is_ascii_alphanumeric b ≡ false →
+    (b == semicolon) ≡ true → bytes_eq (drop (start + 1) text) (codes "amp") ≡ false → url_text is_ended markup ≡ None
+end_refused is_ended text rest markup b start (word, held) other is no_name =
+    let none : bytes_eq word (codes "amp") ≡ false = rw (held_word held.front word text start held.parts held.place) at no_name in
+    rw (other, is, none) at held.read
+
+-- a `#` behind the `&`, which begins a number
+number_read : (is_ended : Bool) (text rest markup : List ℕ) (b start : ℕ) → IsRead is_ended (Some start) text (b ∷ rest) markup → b ≡ number_sign → start + 1 ≡ length text →
+    url_text is_ended markup ≡ None
+number_read is_ended text rest markup b start (word, held) sign nothing =
+    let len = held_length held.front word text start held.parts held.place in
+    let none : (length word == 0) ≡ true = eq-eqb (length word) 0 (omega arith) in
+    rw (sign, none) at held.read
+
+-- ---- what the running code takes
 
 -- at a `;`
 pub ended_reference : (is_amp : Bool) (text new_text : List ℕ) (b start : ℕ) (new_start : Option ℕ) → is_ascii_alphanumeric b ≡ false →
     b ≡ semicolon → is_amp ≡ bytes_eq (drop (start + 1) text) (codes "amp") → (is_amp ≡ true → new_text ≡ take (start + 1) text) →
     (is_amp ≡ true → new_start ≡ None) → Takes is_amp (Some start) text b new_start new_text
-ended_reference true text new_text b start new_start other is amp taken none = λ rest markup read.
-    rw (taken refl, none refl) (amp_read text rest markup b start read other (rw is refl) (sym amp))
-ended_reference false text new_text b start new_start other is amp taken none = λ rest markup read.
-    other_read text rest markup b start read other (rw (is, sym amp) refl) (rw is refl)
+ended_reference true text new_text b start new_start other is amp taken none = λ is_ended rest markup read.
+    rw (taken refl, none refl) (amp_read is_ended text rest markup b start read other (rw is refl) (sym amp))
+ended_reference false text new_text b start new_start other is amp taken none = λ is_ended rest markup read.
+    end_refused is_ended text rest markup b start read other (rw is refl) (sym amp)
 
--- a byte that is no `&`
+-- a letter or digit behind a `&`
+pub letter_takes : (text : List ℕ) (b start : ℕ) → is_ascii_alphanumeric b ≡ true → Takes true (Some start) text b (Some start) (text ++ b ∷ [])
+letter_takes text b start letter = λ is_ended rest markup read. letter_held is_ended text rest markup b start read letter
+
+-- a number
+pub number_refused : (text new_text : List ℕ) (b start : ℕ) (new_start : Option ℕ) → b ≡ number_sign → start + 1 ≡ length text → Takes false (Some start) text b new_start new_text
+number_refused text new_text b start new_start sign nothing = λ is_ended rest markup read. number_read is_ended text rest markup b start read sign nothing
+
+-- a `&`
+pub ampersand_takes : (held : Option ℕ) (text : List ℕ) (b : ℕ) → b ≡ ampersand → Takes true held text b (Some (length text)) (text ++ b ∷ [])
+ampersand_takes None text b is = λ is_ended rest markup read. ampersand_held is_ended text rest markup b read (rw is refl)
+ampersand_takes (Some start) text b is = λ is_ended rest markup read. next_read is_ended text rest markup b start read (rw is refl)
+
+-- another byte
 pub kept_takes : (text : List ℕ) (b : ℕ) → (b == ampersand) ≡ false → Takes true None text b None (text ++ b ∷ [])
-kept_takes text b other = λ rest markup read. byte_kept text rest markup b read other
+kept_takes text b other = λ is_ended rest markup read. byte_kept is_ended text rest markup b read other
 
--- a `=`
-pub equals_takes : (text : List ℕ) (b start : ℕ) → is_ascii_alphanumeric b ≡ false → b ≡ equals_sign →
+pub stands_takes : (text : List ℕ) (b start : ℕ) → is_ascii_alphanumeric b ≡ false → b ≢ semicolon → (b ≡ number_sign → start + 1 ≢ length text) → (b == ampersand) ≡ false →
     Takes true (Some start) text b None (text ++ b ∷ [])
-equals_takes text b start other is = λ rest markup read. equals_read text rest markup b start read other (rw is refl)
+stands_takes text b start letter no_end no_sign other = λ is_ended rest markup read. stands_read is_ended text rest markup b start read letter no_end no_sign other
+
+-- at the end
+all_read : (is_ended : Bool) (text markup : List ℕ) → IsRead is_ended None text [] markup → Some text ≡ url_text is_ended markup
+all_read is_ended text markup read = ap Some (sym (append-nil text)) ∙ sym read
+
+held_read : (text markup : List ℕ) (start : ℕ) → IsRead true (Some start) text [] markup → Some text ≡ url_text true markup
+held_read text markup start (word, held) = ap Some held.parts ∙ sym held.read
+
+pub ended_text : (held : Option ℕ) (text markup : List ℕ) (is_ended : Bool) → is_ended ≡ true → IsRead is_ended held text [] markup → Some text ≡ url_text is_ended markup
+ended_text None text markup is_ended ended read = all_read is_ended text markup read
+ended_text (Some start) text markup true ended read = held_read text markup start read
+ended_text (Some start) text markup false ended read = cc
+
+pub open_text : (text markup : List ℕ) (start : ℕ) → IsRead false (Some start) text [] markup → url_text false markup ≡ None
+open_text text markup start (word, held) = held.read
 
 -- markup without a `&`
-pub read_as_it_is : (markup : List ℕ) → list_any (λ b. b == ampersand) markup ≡ false → url_text markup ≡ Some markup
-read_as_it_is [] none = refl
-read_as_it_is (b ∷ markup) none =
+pub read_as_it_is : (is_ended : Bool) (markup : List ℕ) → list_any (λ b. b == ampersand) markup ≡ false → url_text is_ended markup ≡ Some markup
+read_as_it_is is_ended [] none = refl
+read_as_it_is is_ended (b ∷ markup) none =
     ⊎_elim
     (λ (is : (b == ampersand) ≡ true). let clash : true ≡ false = rw is at none in absurd (cc))
     (λ (other : (b == ampersand) ≡ false).
     let later : list_any (λ b. b == ampersand) markup ≡ false = rw other at none in
-    rw (other, read_as_it_is markup later) refl)
+    rw (other, read_as_it_is is_ended markup later) refl)
     (cases_Bool (b == ampersand))

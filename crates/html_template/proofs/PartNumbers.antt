@@ -83,7 +83,7 @@ first_number : (n m : ℕ) (p : SlotPlace) (is_followed : Bool) (markup : Option
     first_slot m p is_followed markup ≡ Ok slot
 first_number n m p is_followed None slot told = absurd (cc)
 first_number n m p is_followed (Some []) slot told = whole_number n m p is_followed slot told
-first_number n m p is_followed (Some (b ∷ markup)) slot told = behind_number n m p (plain_text (b ∷ markup)) slot told
+first_number n m p is_followed (Some (b ∷ markup)) slot told = behind_number n m p (plain_text false (b ∷ markup)) slot told
 
 url_number : (n m : ℕ) (p : SlotPlace) (is_followed : Bool) (markup : List ℕ) (url : OpenUrl) (slot : PlacedSlot) →
     slot_behind n p is_followed markup url ≡ Ok slot → slot_behind m p is_followed markup url ≡ Ok slot

@@ -76,11 +76,11 @@ front_suits : (is_followed : Bool) (p : SlotPlace) (number : ℕ) (markup : Opti
     first_slot number p is_followed markup ≡ Ok slot → IsInUrl is_followed p slot
 front_suits is_followed p number None slot told = absurd (cc)
 front_suits is_followed p number (Some []) slot told = whole_suits is_followed p number slot told
-front_suits is_followed p number (Some (b ∷ markup)) slot told = text_suits is_followed p number (plain_text (b ∷ markup)) slot told
+front_suits is_followed p number (Some (b ∷ markup)) slot told = text_suits is_followed p number (plain_text false (b ∷ markup)) slot told
 
 -- where the markup is not empty
 pub some_front : (number : ℕ) (p : SlotPlace) (is_followed : Bool) (markup : List ℕ) → 1 ≤ length markup →
-    first_slot number p is_followed (Some markup) ≡ behind_text number p (plain_text markup)
+    first_slot number p is_followed (Some markup) ≡ behind_text number p (plain_text false markup)
 some_front number p is_followed [] some = absurd (omega arith)
 some_front number p is_followed (b ∷ markup) some = refl
 

@@ -3,7 +3,7 @@
 -- what stands after the last of these bytes, and it ends before the next byte that ends it.
 pub mod PlainTexts
 pub mod UrlTexts
-use Rattle.std.specs.Prelude.{◌≡◌, ⊤, ℕ, ◌-◌, Bool, ◌&&◌, ◌||◌, ◌==◌, List, [], ◌∷◌, Option, Some, None, Result, Ok, Err, if◌then◌else◌, length, nat_lt, not, slice_index_or, take}
+use Rattle.std.specs.Prelude.{◌≡◌, ⊤, ℕ, ◌-◌, Bool, false, ◌&&◌, ◌||◌, ◌==◌, List, [], ◌∷◌, Option, Some, None, Result, Ok, Err, if◌then◌else◌, length, nat_lt, not, slice_index_or, take}
 use Rattle.std.specs.List.{position_or_len}
 use Rattle.std.specs.Option.{option_and_then}
 use Rattle.html_tokenizer.specs.declared.slot_place.SlotPlace.{SlotPlace}
@@ -21,12 +21,12 @@ use Rattle.html_template.specs.declared.open_url.PlacedSlot.{PlacedSlot}
 use Rattle.html_template.specs.declared.parts.SlotKind.TheVariants as kind
 use Rattle.html_template.specs.Slots.{is_quoted}
 
--- what markup adds to a URL, if it has no white space, no control, no `\` and no reference but `&amp;`
+-- what markup adds to a URL, which ends behind it or goes on, if it has no white space, no control, no `\` and no reference but `&amp;`
 abbrev pub if_plain : List ℕ → Option (List ℕ)
 if_plain text = if is_plain text then Some text else None
 
-abbrev pub plain_text : List ℕ → Option (List ℕ)
-plain_text markup = option_and_then if_plain (url_text markup)
+abbrev pub plain_text : Bool → List ℕ → Option (List ℕ)
+plain_text is_ended markup = option_and_then if_plain (url_text is_ended markup)
 
 -- a slot where this part of a URL is open
 abbrev pub at_open : ℕ → SlotPlace → OpenPart → Option UrlSlot → Result PlacedSlot TemplateFault
@@ -51,7 +51,7 @@ behind_text number p (Some text) = in_part number p (open_of text)
 abbrev pub first_slot : ℕ → SlotPlace → Bool → Option (List ℕ) → Result PlacedSlot TemplateFault
 first_slot number p is_followed None = Err (NotFixed number)
 first_slot number p is_followed (Some []) = whole_slot number p is_followed
-first_slot number p is_followed (Some (b ∷ markup)) = behind_text number p (plain_text (b ∷ markup))
+first_slot number p is_followed (Some (b ∷ markup)) = behind_text number p (plain_text false (b ∷ markup))
 
 -- a slot behind this markup
 abbrev pub slot_behind : ℕ → SlotPlace → Bool → List ℕ → OpenUrl → Result PlacedSlot TemplateFault
@@ -95,7 +95,7 @@ behind_link number p (b ∷ markup) = if ends_value p b then Ok Outside else Err
 
 -- what markup adds to the URL, which goes on behind it, if it is not ended: then no escape is open
 abbrev pub whole_text : Bool → List ℕ → Option (List ℕ)
-whole_text is_ended markup = if not is_ended && opens_escape markup then None else plain_text markup
+whole_text is_ended markup = if not is_ended && opens_escape markup then None else plain_text is_ended markup
 
 -- after markup
 abbrev pub url_markup : ℕ → OpenUrl → List ℕ → Result OpenUrl TemplateFault

@@ -91,7 +91,7 @@ fn first_slot<A: Allocator>(
     match markup {
         None => Err(TemplateFault::NotFixed(number)),
         Some([]) => whole_slot(number, place, is_followed),
-        Some(markup) => match plain_text(alloc, markup)? {
+        Some(markup) => match plain_text(alloc, markup, false)? {
             None => Err(TemplateFault::NotPlain(number.saturating_sub(1))),
             Some(text) => in_part(number, place, open_of(text.as_bytes())),
         },
@@ -176,14 +176,15 @@ pub(crate) fn url_markup<A: Allocator>(
         OpenUrl::Within(place, open_part) => (place, open_part),
     };
     let end = value_length(place, markup);
-    if end == markup.len() && opens_escape(markup) {
+    let is_ended = end < markup.len();
+    if !is_ended && opens_escape(markup) {
         return Err(TemplateFault::NotPlain(number));
     }
-    let Some(text) = plain_text(alloc, &markup[..end])? else {
+    let Some(text) = plain_text(alloc, &markup[..end], is_ended)? else {
         return Err(TemplateFault::NotPlain(number));
     };
     match after_markup(open_part, text.as_bytes()) {
         None => Err(TemplateFault::DotSegment(number)),
-        Some(open_part) => url_end(number, place, end < markup.len(), open_part),
+        Some(open_part) => url_end(number, place, is_ended, open_part),
     }
 }

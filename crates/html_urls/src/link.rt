@@ -17,9 +17,7 @@ pub fn is_link(text: &str) -> bool
 }
 
 /// The same of bytes.
-///
-/// Of `https://a.example/` and `?q=` it is `true`, and of `javascript:` it is `false`.
-pub fn is_link_bytes(text: &[u8]) -> bool
+pub(crate) fn is_link_bytes(text: &[u8]) -> bool
     ensures { result ≡ spec.is_link text.now }
 {
     let at = mark_at(text);
@@ -34,8 +32,8 @@ fn is_link_scheme(scheme: &[u8]) -> bool
         || scheme.eq_ignore_ascii_case(b"mailto")
 }
 
-// Where the first byte stands that may end a scheme or show that there is none.
-pub fn mark_at(bytes: &[u8]) -> usize
+/// Where the first byte stands that may end a scheme or show that there is none.
+pub(crate) fn mark_at(bytes: &[u8]) -> usize
     ensures value { result ≡ spec.mark_at bytes.now }
     ensures within { result ≤ length bytes.now }
 {

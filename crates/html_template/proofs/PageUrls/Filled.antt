@@ -6,6 +6,7 @@ use Rattle.html_template.specs.PageUrls.{whole_urls}
 use Rattle.html_template.specs.Templates.{Chunk, Fill, page}
 use Rattle.html_tokenizer.specs.Tokenizer.States.{Tokenizer}
 use Rattle.html_tokenizer.specs.UrlValues.{urls_from}
+use Rattle.html_urls.specs.Slots as part
 use Rattle.html_urls.specs.Slots.{FillSlots, Given, later_slots, url_of}
 use Rattle.html_urls.specs.declared.open_part.OpenPart.{OpenPart}
 use Rattle.html_urls.specs.declared.parts.UrlSlot.{UrlSlot}
@@ -61,6 +62,11 @@ pub record EndsBehind (t : Tokenizer) (text : List ℕ) (chunks : List Chunk) : 
   pub told : urls_behind t OneSlot chunks ≡ Whole ∷ later
   pub ends : (value : List ℕ) (texts : List (List ℕ)) → Fill chunks texts → AllByRecursion IsUtf8 texts →
       EndsFirst (urls_from t value (page chunks texts)) (whole_urls chunks texts) (value ++ text) later (url_texts chunks texts)
+
+-- the same behind these parts of it
+pub record EndsParts (t : Tokenizer) (text : List ℕ) (chunks : List Chunk) : Type 0 where
+  pub end : EndsBehind t text chunks
+  pub told : (before : List Given) → urls_behind t (Slotted before) chunks ≡ Parts (before ++ part.Markup text ∷ []) ∷ end.later
 
 -- where it goes on with these parts, behind a slot in it
 pub record GoesOn (part : OpenPart) (t : Tokenizer) (chunks : List Chunk) : Type 0 where

@@ -14,16 +14,17 @@ use Rattle.html_urls.specs.Slots.{is_plain}
 use Rattle.html_urls.specs.declared.open_part.OpenPart.{OpenPart}
 
 -- the markup adds this text to the URL
-pub record AddsText (markup text : List ℕ) : Type 0 where
-  pub read : url_text markup ≡ Some text
+pub record AddsText (is_ended : Bool) (markup text : List ℕ) : Type 0 where
+  pub read : url_text is_ended markup ≡ Some text
   pub plain : is_plain text ≡ true
 
 some_text : {first second : List ℕ} → Some first ≡ Some second → first ≡ second
 some_text same = cc
 
-plain_adds : (markup text : List ℕ) (read : Option (List ℕ)) → url_text markup ≡ read → option_and_then if_plain read ≡ Some text → AddsText markup text
-plain_adds markup text None is told = absurd (cc)
-plain_adds markup text (Some found) is told =
+plain_adds : (is_ended : Bool) (markup text : List ℕ) (read : Option (List ℕ)) → url_text is_ended markup ≡ read → option_and_then if_plain read ≡ Some text →
+    AddsText is_ended markup text
+plain_adds is_ended markup text None is told = absurd (cc)
+plain_adds is_ended markup text (Some found) is told =
     ⊎_elim
     (λ (plain : is_plain found ≡ true).
     let same : found ≡ text = some_text (rw plain at told) in
@@ -33,24 +34,24 @@ plain_adds markup text (Some found) is told =
     absurd (cc))
     (cases_Bool (is_plain found))
 
-pub adds_text : (markup text : List ℕ) → plain_text markup ≡ Some text → AddsText markup text
-adds_text markup text told = plain_adds markup text (url_text markup) refl told
+pub adds_text : (is_ended : Bool) (markup text : List ℕ) → plain_text is_ended markup ≡ Some text → AddsText is_ended markup text
+adds_text is_ended markup text told = plain_adds is_ended markup text (url_text is_ended markup) refl told
 
 -- the value goes on behind the markup, or ends in it
 pub record BehindSlot (number : ℕ) (p : SlotPlace) (part : OpenPart) (ended : Bool) (markup : List ℕ) (url : OpenUrl) : Type 0 where
   pub text : List ℕ
-  pub adds : AddsText markup text
+  pub adds : AddsText ended markup text
   pub after : OpenPart
   pub opened : after_markup part text ≡ Some after
   pub told : url_end number p ended after ≡ Ok url
 
 behind_after : (number : ℕ) (p : SlotPlace) (part : OpenPart) (ended : Bool) (markup text : List ℕ) (url : OpenUrl) (after : Option OpenPart) →
-    AddsText markup text → after_markup part text ≡ after → behind_part number p ended after ≡ Ok url → BehindSlot number p part ended markup url
+    AddsText ended markup text → after_markup part text ≡ after → behind_part number p ended after ≡ Ok url → BehindSlot number p part ended markup url
 behind_after number p part ended markup text url None adds opened told = absurd (cc)
 behind_after number p part ended markup text url (Some after) adds opened told =
     record { text = text; adds = adds; after = after; opened = opened; told = told }
 
-whole_is_plain : (ended : Bool) (markup text : List ℕ) → whole_text ended markup ≡ Some text → plain_text markup ≡ Some text
+whole_is_plain : (ended : Bool) (markup text : List ℕ) → whole_text ended markup ≡ Some text → plain_text ended markup ≡ Some text
 whole_is_plain ended markup text told =
     ⊎_elim
     (λ (opens : (not ended && opens_escape markup) ≡ true).
@@ -63,7 +64,7 @@ behind_read : (number : ℕ) (p : SlotPlace) (part : OpenPart) (ended : Bool) (m
     whole_text ended markup ≡ read → behind_slot number p part ended read ≡ Ok url → BehindSlot number p part ended markup url
 behind_read number p part ended markup url None is told = absurd (cc)
 behind_read number p part ended markup url (Some text) is told =
-    behind_after number p part ended markup text url (after_markup part text) (adds_text markup text (whole_is_plain ended markup text is)) refl told
+    behind_after number p part ended markup text url (after_markup part text) (adds_text ended markup text (whole_is_plain ended markup text is)) refl told
 
 pub behind_told : (number : ℕ) (p : SlotPlace) (part : OpenPart) (ended : Bool) (markup : List ℕ) (url : OpenUrl) →
     behind_slot number p part ended (whole_text ended markup) ≡ Ok url → BehindSlot number p part ended markup url

@@ -5,7 +5,7 @@ use Rattle.std.proofs.lemmas.Bool.Decides.{nat_tests}
 use Rattle.html_template.specs.declared.faults.TemplateFault.TheVariants.{AfterLink}
 use Rattle.html_template.specs.declared.open_url.OpenUrl.{OpenUrl}
 use Rattle.html_template.specs.declared.open_url.OpenUrl.TheVariants.{Outside, Within, Whole}
-use Rattle.html_template.specs.FilledUrls.{Fixed, Parts, Slotted, url_texts, urls_behind}
+use Rattle.html_template.specs.FilledUrls.{Fixed, Parts, url_texts}
 use Rattle.html_template.specs.OpenUrls.{url_markup, value_length}
 use Rattle.html_template.specs.PageUrls.{whole_urls}
 use Rattle.html_template.specs.Templates.{Chunk, Markup, page}
@@ -13,20 +13,22 @@ use Rattle.html_tokenizer.specs.declared.elements.Content.{Content}
 use Rattle.html_tokenizer.specs.declared.slot_place.SlotPlace.{SlotPlace}
 use Rattle.html_tokenizer.specs.Standing.{is_refused}
 use Rattle.html_tokenizer.specs.Tokenizer.States.{Attribute, In, Tokenizer, at_value}
-use Rattle.html_tokenizer.specs.Tokenizer.Tokenization.{state_after}
+use Rattle.html_tokenizer.specs.Tokenizer.Tokenization.{consume, state_after}
 use Rattle.html_tokenizer.specs.UrlValues.{ends_value, is_url, open_url, urls_from}
 use Rattle.html_tokenizer.proofs.Passing.{state_after-append}
 use Rattle.html_tokenizer.proofs.UrlValues.Appending.{urls_from-append}
+use Rattle.html_tokenizer.proofs.UrlValues.Ends.{ends_at}
 use Rattle.html_tokenizer.proofs.UrlValues.Places.{is_value_place}
-use Rattle.html_tokenizer.proofs.UrlValues.Reading.{reads_on}
+use Rattle.html_tokenizer.proofs.UrlValues.Reading.{reads_on, reads_to_end}
+use Rattle.html_tokenizer.proofs.UrlValues.Slots.AtSlots.{value_fresh, value_tame}
 use Rattle.html_tokenizer.proofs.UrlValues.Slots.Refusals.{not_refused}
 use Rattle.html_tokenizer.proofs.UrlValues.Slots.Tame.{IsTame}
 use Rattle.html_tokenizer.proofs.UrlValues.Staying.{StaysUrl, stays_none}
 use Rattle.html_urls.specs.OpenParts.{after_markup, may_be_dots}
 use Rattle.html_urls.specs.Slots as part
-use Rattle.html_urls.specs.Slots.{Given, is_plain}
+use Rattle.html_urls.specs.Slots.{is_plain}
 use Rattle.html_urls.specs.declared.open_part.OpenPart.{OpenPart}
-use Rattle.html_template.proofs.PageUrls.Filled.{EndsBehind, GoesOn, IsFilled, ends_more, fixed_before}
+use Rattle.html_template.proofs.PageUrls.Filled.{EndsBehind, EndsParts, GoesOn, IsFilled, ends_more, fixed_before}
 use Rattle.html_template.proofs.PageUrls.EndedUrls.{ends_in, parts_end}
 use Rattle.html_template.proofs.PageUrls.LaterMarkup.{as_told, behind_told, goes_on, is_ended, ok_url}
 use Rattle.html_template.proofs.PageUrls.Opening.{Goes, behind_bytes, fresh_here, goes_as, value_place}
@@ -58,9 +60,9 @@ module _ (p : SlotPlace) (content : Content) (attribute : Attribute) (place : is
 
   -- ---- in a part of it
 
-  goes_within : (open_part after : OpenPart) (raw text : List ℕ) (chunks : List Chunk) → is_plain text ≡ true → after_markup open_part text ≡ Some after →
-      StaysUrl here raw text here → GoesOn after here chunks → GoesOn open_part here (Markup raw ∷ chunks)
-  goes_within open_part after raw text chunks plain opened stays behind = record {
+  goes_within : (open_part after : OpenPart) (raw text : List ℕ) (there : Tokenizer) (chunks : List Chunk) → is_plain text ≡ true → after_markup open_part text ≡ Some after →
+      StaysUrl here raw text there → GoesOn after there chunks → GoesOn open_part here (Markup raw ∷ chunks)
+  goes_within open_part after raw text there chunks plain opened stays behind = record {
     parts = part.Markup text ∷ behind.parts;
     slots = behind.slots;
     fixed = λ number. rw (plain, opened) (behind.fixed (number + 1));
@@ -75,16 +77,15 @@ module _ (p : SlotPlace) (content : Content) (attribute : Attribute) (place : is
   }
 
   ends_within : (open_part after : OpenPart) (text : List ℕ) (chunks : List Chunk) → is_plain text ≡ true → after_markup open_part text ≡ Some after →
-      may_be_dots after ≡ false → (end : EndsBehind here text chunks) →
-      ((before : List Given) → urls_behind here (Slotted before) chunks ≡ Parts (before ++ part.Markup text ∷ []) ∷ end.later) → GoesOn open_part here chunks
-  ends_within open_part after text chunks plain opened none end told = record {
+      may_be_dots after ≡ false → EndsParts here text chunks → GoesOn open_part here chunks
+  ends_within open_part after text chunks plain opened none ends = record {
     parts = part.Markup text ∷ [];
     slots = [];
     fixed = λ number. rw (plain, opened, none) refl;
-    later = end.later;
-    told = told;
+    later = ends.end.later;
+    told = ends.told;
     fits = λ texts full. tt;
-    ends = λ value texts full utf8. rw (append-nil text) (end.ends value texts full utf8);
+    ends = λ value texts full utf8. rw (append-nil text) (ends.end.ends value texts full utf8);
   }
 
   module _ (number : ℕ) (open_part : OpenPart) (bytes : List ℕ) (opened : OpenUrl) (chunks : List Chunk)
@@ -95,11 +96,12 @@ module _ (p : SlotPlace) (content : Content) (attribute : Attribute) (place : is
         let end = whole.end in
         let all_of_it : nat_lt (value_length p bytes) (length bytes) ≡ false = grind (arith, nat_tests) in
         let behind = behind_told number p open_part false bytes opened (rw (all_of_it, whole.all) at told) in
-        let stays = reads_on p content attribute bytes behind.text place url whole.none behind.adds.read unrefused in
-        let there : Goes (Within p behind.after) here bytes chunks =
-        subst (λ (x : Tokenizer). Goes (Within p behind.after) x bytes chunks) stays.passes.after
+        let reads = reads_on p content attribute bytes behind.text place url whole.none behind.adds.read unrefused in
+        let there : Tokenizer = at_value (In p) content reads.attribute in
+        let later : Goes (Within p behind.after) there bytes chunks =
+        subst (λ (x : Tokenizer). Goes (Within p behind.after) x bytes chunks) reads.stays.passes.after
         (goes_as (Within p behind.after) (state_after here bytes) bytes chunks (goes_on number p behind.after opened behind.told) goes) in
-        goes_within open_part behind.after bytes behind.text chunks behind.adds.plain behind.opened stays (there (record { state_is = refl; attribute_is = url }))
+        goes_within open_part behind.after bytes behind.text there chunks behind.adds.plain behind.opened reads.stays (later (record { state_is = refl; attribute_is = reads.url }))
 
     cut_goes : IsCut (ends_value p) bytes → GoesOn open_part here (Markup bytes ∷ chunks)
     cut_goes cut =
@@ -110,17 +112,17 @@ module _ (p : SlotPlace) (content : Content) (attribute : Attribute) (place : is
         let end = is_ended number p behind.after opened behind.told in
         let all : is_refused (state_after here (raw ++ cut.first ∷ cut.rest)).state ≡ false =
         subst (λ (x : List ℕ). is_refused (state_after here x).state ≡ false) cut.parts unrefused in
-        let before : is_refused (state_after here raw).state ≡ false =
-        not_refused (state_after here raw) (cut.first ∷ cut.rest)
+        let still : is_refused (consume (state_after here raw) cut.first).next.state ≡ false =
+        not_refused (consume (state_after here raw) cut.first).next cut.rest
         (subst (λ (x : Tokenizer). is_refused x.state ≡ false) (state_after-append here raw (cut.first ∷ cut.rest)) all) in
-        let stays = reads_on p content attribute raw behind.text place url cut.none behind.adds.read before in
+        let reads = reads_to_end p content attribute raw behind.text cut.first place url cut.none cut.passes behind.adds.read still in
         let there : Goes Outside (state_after here (raw ++ cut.first ∷ cut.rest)) (raw ++ cut.first ∷ cut.rest) chunks =
         subst (λ (x : List ℕ). Goes Outside (state_after here x) x chunks) cut.parts
         (goes_as Outside (state_after here bytes) bytes chunks end.outside goes) in
         subst (λ (x : List ℕ). GoesOn open_part here (Markup x ∷ chunks)) (sym cut.parts)
         (ends_within open_part behind.after behind.text (Markup (raw ++ cut.first ∷ cut.rest) ∷ chunks) behind.adds.plain behind.opened end.no_dots
-        (ends_in p content attribute place url raw behind.text cut.first cut.rest chunks stays cut.passes there)
-        (parts_end p content attribute place url raw behind.text cut.first cut.rest chunks stays cut.passes there))
+        (subst (λ (x : List ℕ). EndsParts here x (Markup (raw ++ cut.first ∷ cut.rest) ∷ chunks)) (sym reads.whole)
+        (parts_end here reads.there (value_tame p content attribute place) (value_fresh p content attribute []) reads.url raw reads.first reads.added cut.first cut.rest chunks reads.stays reads.ends there)))
 
     within_goes : GoesOn open_part here (Markup bytes ∷ chunks)
     within_goes = ⊎_elim whole_goes cut_goes (whole_or_cut (ends_value p) bytes)
@@ -136,7 +138,7 @@ module _ (p : SlotPlace) (content : Content) (attribute : Attribute) (place : is
   link_goes number (b ∷ rest) opened chunks told goes =
       ⊎_elim
       (λ (ends : ends_value p b ≡ true).
-      ends_in p content attribute place url [] [] b rest chunks stays_none ends
+      ends_in here here (value_tame p content attribute place) (value_fresh p content attribute []) url [] [] [] b rest chunks stays_none (ends_at p content attribute b place url ends)
       (goes_as Outside (state_after here (b ∷ rest)) (b ∷ rest) chunks (ok_url (rw ends at told)) goes))
       (λ (goes_on : ends_value p b ≡ false).
       let clash : Err (AfterLink number) ≡ as_told opened = rw goes_on at told in

@@ -58,9 +58,9 @@ module _ (p : SlotPlace) (content : Content) (attribute : Attribute) (place : is
       let end = whole.end in
       let all_of_it : nat_lt (value_length p bytes) (length bytes) ≡ false = grind (arith, nat_tests) in
       let behind = behind_told number p part false bytes opened (rw (all_of_it, whole.all) at told) in
-      let stays = reads_on p content attribute bytes behind.text place url whole.none behind.adds.read unrefused in
+      let reads = reads_on p content attribute bytes behind.text place url whole.none behind.adds.read unrefused in
       subst (λ (x : OpenUrl). OpenStands x (state_after here bytes)) (goes_on number p behind.after opened behind.told)
-      (subst (StandsAt p) (sym stays.passes.after) (record { state_is = refl; attribute_is = url })))
+      (subst (StandsAt p) (sym reads.stays.passes.after) (record { state_is = refl; attribute_is = reads.url })))
       (λ (cut : IsCut (ends_value p) bytes).
       let within = cut.within in
       let ends : nat_lt (value_length p bytes) (length bytes) ≡ true = grind (arith, nat_tests) in

@@ -1,5 +1,5 @@
 -- What a slot in a URL was told to be.
-use Rattle.std.proofs.Common.{ℕ, ◌≡◌, Bool, true, List, [], ◌∷◌, Option, Some, None, Ok, refl}
+use Rattle.std.proofs.Common.{ℕ, ◌≡◌, Bool, true, false, List, [], ◌∷◌, Option, Some, None, Ok, refl}
 use Rattle.html_template.specs.declared.open_url.OpenUrl.TheVariants.{Within, Whole}
 use Rattle.html_template.specs.declared.open_url.PlacedSlot.{PlacedSlot}
 use Rattle.html_template.specs.declared.parts.SlotKind.TheVariants as kind
@@ -36,22 +36,22 @@ part_told number p part slot told = found_told number p part (slot_at part) slot
 -- the first slot of a URL, behind its markup
 pub record BehindFront (p : SlotPlace) (raw : List ℕ) (slot : PlacedSlot) : Type 0 where
   pub text : List ℕ
-  pub adds : AddsText raw text
+  pub adds : AddsText false raw text
   pub part : OpenPart
   pub opened : open_of text ≡ Some part
   pub placed : InPart p part slot
 
-opened_told : (number : ℕ) (p : SlotPlace) (raw text : List ℕ) (slot : PlacedSlot) (opened : Option OpenPart) → AddsText raw text → open_of text ≡ opened →
+opened_told : (number : ℕ) (p : SlotPlace) (raw text : List ℕ) (slot : PlacedSlot) (opened : Option OpenPart) → AddsText false raw text → open_of text ≡ opened →
     in_part number p opened ≡ Ok slot → BehindFront p raw slot
 opened_told number p raw text slot None adds is told = absurd (cc)
 opened_told number p raw text slot (Some part) adds is told =
     record { text = text; adds = adds; part = part; opened = is; placed = part_told number p part slot told }
 
-front_told : (number : ℕ) (p : SlotPlace) (raw : List ℕ) (slot : PlacedSlot) (read : Option (List ℕ)) → plain_text raw ≡ read →
+front_told : (number : ℕ) (p : SlotPlace) (raw : List ℕ) (slot : PlacedSlot) (read : Option (List ℕ)) → plain_text false raw ≡ read →
     behind_text number p read ≡ Ok slot → BehindFront p raw slot
 front_told number p raw slot None is told = absurd (cc)
 front_told number p raw slot (Some text) is told =
-    opened_told number p raw text slot (open_of text) (adds_text raw text is) refl told
+    opened_told number p raw text slot (open_of text) (adds_text false raw text is) refl told
 
 whole_told : (is_followed : Bool) (p : SlotPlace) (number : ℕ) (slot : PlacedSlot) → whole_slot number p is_followed ≡ Ok slot → link_slot p ≡ slot
 whole_told true place.DoubleQuoted number slot told = ok_slot told
@@ -68,7 +68,7 @@ last_told : (number : ℕ) (p : SlotPlace) (is_followed : Bool) (markup : List �
 last_told number p is_followed markup slot None is told = absurd (cc)
 last_told number p is_followed markup slot (Some []) is told = whole is (whole_told is_followed p number slot told)
 last_told number p is_followed markup slot (Some (b ∷ raw)) is told =
-    behind (b ∷ raw) is (front_told number p (b ∷ raw) slot (plain_text (b ∷ raw)) refl told)
+    behind (b ∷ raw) is (front_told number p (b ∷ raw) slot (plain_text false (b ∷ raw)) refl told)
 
 pub first_told : (number : ℕ) (p : SlotPlace) (is_followed : Bool) (markup : List ℕ) (slot : PlacedSlot) →
     first_slot number p is_followed (after_last (begins_value p) markup) ≡ Ok slot → IsFirst p markup slot

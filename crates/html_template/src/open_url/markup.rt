@@ -92,16 +92,18 @@ impl<A: Allocator> PlainText<'_, A> {
     }
 }
 
-/// What the markup adds to a URL, if it is plain.
+/// What the markup adds to a URL, which ends behind it or goes on, if it is plain.
 #[tactic(auto, using(crate::proofs::Markup::read_as_it_is))]
 pub(crate) fn plain_text<'m, A: Allocator>(
     alloc: A,
     markup: &'m [u8],
+    is_ended: bool,
 ) -> Result<Option<PlainText<'m, A>>, AllocError>
-    ensures { IfOk result (λ text. option_map bytes_of text ≡ open_urls.plain_text markup.now) }
+    ensures { IfOk result (λ text. option_map bytes_of text
+        ≡ open_urls.plain_text is_ended markup.now) }
 {
     let text = if markup.contains(&b'&') {
-        match read_text(alloc, markup)? {
+        match read_text(alloc, markup, is_ended)? {
             Some(text) => PlainText::Read(text),
             None => return Ok(None),
         }
@@ -116,10 +118,14 @@ pub(crate) fn plain_text<'m, A: Allocator>(
 }
 
 // Reads the references of the markup.
-#[tactic(auto, using(crate::proofs::Markup::nothing_read))]
-fn read_text<A: Allocator>(alloc: A, markup: &[u8]) -> Result<Option<Vec<u8, A>>, AllocError>
+#[tactic(auto, using(crate::proofs::Markup::nothing_read, crate::proofs::Markup::ended_text, crate::proofs::Markup::open_text))]
+fn read_text<A: Allocator>(
+    alloc: A,
+    markup: &[u8],
+    is_ended: bool,
+) -> Result<Option<Vec<u8, A>>, AllocError>
     ensures { IfOk result (λ text. option_map (λ bytes. bytes.items) text
-        ≡ spec.url_text markup.now) }
+        ≡ spec.url_text is_ended markup.now) }
 {
     let mut read = UrlText {
         text: Vec::with_capacity(alloc, markup.len())?,
@@ -132,7 +138,7 @@ fn read_text<A: Allocator>(alloc: A, markup: &[u8]) -> Result<Option<Vec<u8, A>>
         }
         rest = others;
     }
-    if read.ampersand.is_none() {
+    if is_ended || read.ampersand.is_none() {
         Ok(Some(read.text))
     } else {
         Ok(None)
@@ -148,22 +154,22 @@ struct UrlText<A: Allocator> {
 }
 
 impl<A: Allocator> UrlText<A> {
-    // Takes one byte more of the markup, unless it makes another reference than `&amp;`.
-    #[tactic(auto, using(crate::proofs::Markup::byte_kept, crate::proofs::Markup::ampersand_held, crate::proofs::Markup::letter_held, crate::proofs::Markup::equals_read, crate::proofs::Markup::ended_reference, crate::proofs::Markup::other_read))]
+    // Takes one byte more of the markup, unless it makes another reference than `&amp;`. A `&` that begins none stands for itself.
+    #[tactic(auto, using(crate::proofs::Markup::letter_takes, crate::proofs::Markup::ended_reference, crate::proofs::Markup::number_refused, crate::proofs::Markup::ampersand_takes, crate::proofs::Markup::kept_takes, crate::proofs::Markup::stands_takes))]
     fn take(&mut self, byte: u8) -> Result<bool, AllocError>
         ensures { IfOk result (λ is_taken. Takes is_taken self.old.ampersand self.old.text.items byte
             self.new.ampersand self.new.text.items) }
     {
         match self.ampersand {
-            None if byte == b'&' => {
+            _ if byte == b'&' => {
                 let start = self.text.len();
                 self.add(byte, Some(start))?;
             }
             None => self.add(byte, None)?,
             Some(start) if byte.is_ascii_alphanumeric() => self.add(byte, Some(start))?,
             Some(start) if byte == b';' => return Ok(self.end_reference(start)),
-            Some(_) if byte == b'=' => self.add(byte, None)?,
-            Some(_) => return Ok(false),
+            Some(start) if byte == b'#' && start + 1 == self.text.len() => return Ok(false),
+            Some(_) => self.add(byte, None)?,
         }
         Ok(true)
     }

@@ -1,12 +1,14 @@
 //! Which slots a URL takes, and the fault of each other. What is expected comes from the URL Standard and
 //! the HTML Standard, never from the code.
 use crate::markup::otherwise::{Row, hold};
-use html_template::TemplateFault::{AfterLink, DotSegment, Forbidden, NoPlace, NotFixed, NotPlain};
+use html_template::TemplateFault::{
+    AfterLink, DotSegment, Forbidden, Malformed, NoPlace, NotFixed, NotPlain,
+};
 use html_template::{Part, Template, TemplateFault};
 use std::alloc::Global;
 use std::test::Fail;
 
-static PLAIN: [Row; 40] = [
+static PLAIN: [Row; 53] = [
     ("<a href=\"/a b/", "\">", Some(NotPlain(0))),
     ("<a href=\" /a/", "\">", Some(NotPlain(0))),
     ("<a href=\"\n/a/", "\">", Some(NotPlain(0))),
@@ -29,7 +31,7 @@ static PLAIN: [Row; 40] = [
     ),
     ("<a href=\"/a?b&#38;c=", "\">", Some(NotPlain(0))),
     ("<a href=\"/a?b&AMP;c=", "\">", Some(NotPlain(0))),
-    ("<a href=\"/a&b/", "\">", Some(NotPlain(0))),
+    ("<a href=\"/a&b/", "\">", None),
     ("<a href=\"/a?b& c=", "\">", Some(NotPlain(0))),
     ("<a href=\"/a?b&", "\">", Some(NoPlace(1))),
     ("<a href=\"/a?b&c", "\">", Some(NoPlace(1))),
@@ -37,13 +39,26 @@ static PLAIN: [Row; 40] = [
     ("<a href=\"/a?b&amp;c=", "\">", None),
     ("<a href=\"/a?b&amp;", "=c\">", None),
     ("<a href=\"/a?b&amp;amp;c=", "\">", None),
-    ("<a href='/a?b=1&c=2&copy=", "&d=3'>", None),
+    ("<a href='/a?b=1&c=2&copy=", "&d=3'>", Some(Forbidden(1))),
+    ("<a href='/a?b=1&c=2&d=", "&copy=3'>", None),
+    ("<a href=\"/a?b_c&d-e&f.g&h[i]&j%20k&l=", "&m_n=\">", None),
+    ("<a href=\"/a?&b=", "&&c&\">", None),
+    ("<a href=\"/a?b&c#d&e", "\">", Some(NoPlace(1))),
+    ("<a href='/a?b=", "&c'>", None),
+    ("<a href=/a/", "?b&c>", None),
+    ("<a href=/a/", "&b title=c>", None),
+    ("<a href=\"/a?b=", "&#35;\">", Some(NotPlain(2))),
+    ("<a href=\"/a?b=", "&c#d\">", None),
+    ("<a href=\"/a?b=", "&mdash;\">", Some(NotPlain(2))),
+    ("<a href=\"/a?b=", "&c;\">", Some(Malformed(2))),
+    ("<a href=\"/a?b&amp;c&d/", "&amp;e&f\">", None),
+    ("<a href=\"/a?b=", "&\">", None),
     ("<a href=\"/\u{E9}\u{85}/", "\">", None),
     ("<a href=\"/a/", "/b c\">", Some(NotPlain(2))),
     ("<a href=\"/a/", "\n\">", Some(NotPlain(2))),
     ("<a href='/a?q=", "\\'>", Some(NotPlain(2))),
     ("<a href='/a#", "&#9;'>", Some(NotPlain(2))),
-    ("<a href=\"/a?q=", "&b\">", Some(NotPlain(2))),
+    ("<a href=\"/a?q=", "&b\\\">", Some(NotPlain(2))),
     ("<a href=\"/a?q=", "&copy;\">", Some(NotPlain(2))),
     ("<a href=\"/a?q=", "&amp;b\" title=\"c d \\ &#9;\">", None),
     ("<a href=/a/", " title='c d'>", None),
@@ -59,10 +74,9 @@ fn the_markup_of_a_url_is_plain(rt: HostRuntime) {
 }
 
 // What stands before the slot, where the scheme or the host is open or is another one.
-static OPEN: [&str; 35] = [
+static OPEN: [&str; 34] = [
     "//",
     "///",
-    "//a.example/",
     "https://",
     "https:///",
     "https:/",
@@ -73,7 +87,7 @@ static OPEN: [&str; 35] = [
     "https://a.example:",
     "https://a.example:80",
     "https://u@",
-    "HTTPS://a.example/",
+    "HTTPS://a.example",
     "a",
     "..",
     ".",
@@ -98,7 +112,7 @@ static OPEN: [&str; 35] = [
 ];
 
 // What stands before it where both are fixed.
-static FIXED: [&str; 20] = [
+static FIXED: [&str; 24] = [
     "/",
     "/a/",
     "/a.b",
@@ -109,6 +123,10 @@ static FIXED: [&str; 20] = [
     "../a.html/",
     "https://a.example/",
     "http://u:p@a.example:80/a/b",
+    "HTTPS://a.example/",
+    "hTTp://a.example/b",
+    "//a.example/",
+    "//u@a.example:80/b/",
     "https://a.example?q=",
     "https://a.example#",
     "//a.example?q=",
@@ -163,7 +181,7 @@ fn an_escape_is_not_cut(rt: HostRuntime) {
     assert!(rt; Template::new(rt.alloc(), &parts).err() == Some(NotPlain(2)));
 }
 
-static DOTS: [Row; 34] = [
+static DOTS: [Row; 35] = [
     ("<a href=\"/.", "\">", Some(DotSegment(1))),
     ("<a href='./a/..", "'>", Some(DotSegment(1))),
     ("<a href=/a/%", ">", Some(NotPlain(0))),
@@ -183,9 +201,10 @@ static DOTS: [Row; 34] = [
     ("<a href=\"/a/", "/%2e%2E/b\">", Some(DotSegment(2))),
     ("<a href=\"/a/", "/.%2e?b\">", Some(DotSegment(2))),
     ("<a href=\"/a/", "/.#b\">", Some(DotSegment(2))),
-    ("<a href=\"/a/", ".\">", Some(DotSegment(2))),
-    ("<a href=\"/a/", "./b\">", Some(DotSegment(2))),
-    ("<a href=\"/a/", "%2e/b\">", Some(DotSegment(2))),
+    ("<a href=\"/a/", ".\">", None),
+    ("<a href=\"/a/", "./b\">", None),
+    ("<a href=\"/a/", "%2e/b\">", None),
+    ("<a href=\"/a/", "./.\">", Some(DotSegment(2))),
     ("<a href=\"/a/", "/b/../c\">", Some(DotSegment(2))),
     ("<a href=\"/a/b", "/./c\">", Some(DotSegment(2))),
     ("<a href=\"/a/", ".html\">", None),

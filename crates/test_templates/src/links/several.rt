@@ -117,8 +117,13 @@ static FAULTS: [(&[Part], Option<TemplateFault>); 13] = [
         None,
     ),
     (
-        &[Part::Markup("<a href=\"/a/"), Part::Slot, Part::Slot],
-        Some(DotSegment(2)),
+        &[
+            Part::Markup("<a href=\"/a/"),
+            Part::Slot,
+            Part::Slot,
+            Part::Markup("\">"),
+        ],
+        None,
     ),
     (
         &[
