@@ -24,6 +24,12 @@ pub const MIXED: &str = "<&\"'/>\\\t\u{2028}</style></script>&lt;";
 /// What is asked for beside what is reserved, since no request is for fewer than eight bytes.
 pub const SMALL: usize = 16;
 
+/// How many small texts are appended to one output, and how often they may ask for memory together: at
+/// each growth its room doubles.
+pub const APPENDS: usize = 1000;
+
+pub const MOST_REQUESTS: u64 = 20;
+
 /// What a reader of forms asks for at most for an attribute beside its bytes: its place in the list,
 /// which doubles too, and the least room of its value.
 pub const FOR_EACH_ATTRIBUTE: usize = 512;

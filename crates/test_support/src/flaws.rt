@@ -23,6 +23,8 @@ pub enum Flaw {
     AsksTwice,
     /// Memory is asked for 64 times the text.
     AsksForMuch,
+    /// Room is made for this text alone, so that each append asks for memory.
+    GrowsExactly,
     /// Where memory is refused, the output is emptied.
     Empties,
     /// The whole output is answered.
@@ -91,6 +93,10 @@ pub fn plant_in_string<'o, A: Allocator>(
             output.reserve(text.len().saturating_mul(64))?;
             encode_text_to_string(text, output)
         }
+        Flaw::GrowsExactly => {
+            output.reserve_exact(length_of(text))?;
+            encode_text_to_string(text, output)
+        }
         Flaw::Empties => {
             if output.reserve(length_of(text)).is_err() {
                 output.clear();
@@ -120,6 +126,10 @@ pub fn plant_in_vec<'o, A: Allocator>(
         }
         Flaw::AsksForMuch => {
             output.reserve(text.len().saturating_mul(64))?;
+            encode_text_to_vec(text, output)
+        }
+        Flaw::GrowsExactly => {
+            output.reserve_exact(length_of(text))?;
             encode_text_to_vec(text, output)
         }
         Flaw::Empties => {

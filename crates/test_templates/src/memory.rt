@@ -1,7 +1,7 @@
 //! Memory that is refused: the answer is Memory and the output as it was. An append asks once where
-//! there is no room, and not at all where there is. A named append asks for no more, but for a table
-//! where many names are bound in another order than that of their slots. A reader asks for what it holds
-//! alone.
+//! there is no room, and not at all where there is, and many small ones ask a few times. A named append
+//! asks for no more, but for a table where many names are bound in another order than that of their slots.
+//! A reader asks for what it holds alone, and what makes a template for its lists.
 use crate::named::{self, bindings, names};
 use crate::pages::{PLACES, parts};
 use html_template::{FillFault, Part, Template, TemplateFault};
@@ -12,7 +12,7 @@ use std::process::Abort;
 use std::slice;
 use std::test::Fail;
 use test_support::Refusing;
-use test_support::amounts::SMALL;
+use test_support::amounts::{APPENDS, MOST_REQUESTS, SMALL};
 use test_support::long::{Long, MILLION, long_text};
 
 #[test]
@@ -310,6 +310,100 @@ fn a_reader_asks_for_what_it_holds(rt: HostRuntime) -> Result<(), Fail> {
             bytewise.may_end() && heap.asked_bytes() <= most,
             "{long:?} byte by byte"
         );
+    }
+    Ok(())
+}
+
+static SMALL_TEXTS: [&str; 3] = ["", "abc", "a<b"];
+
+#[test]
+fn small_appends_ask_rarely(rt: HostRuntime) -> Result<(), Fail> {
+    let parts = [Part::Slot];
+    let Ok(template) = Template::new(rt.alloc(), &parts) else {
+        panic!(rt; "the parts are a template");
+    };
+    let heap = Refusing::new(rt.alloc(), 0);
+    let Ok(named) = NamedTemplate::parse(&heap, "<p title=\"{{a}}\">{{b}}</p>") else {
+        panic!(rt; "the source is a template");
+    };
+    for &text in &SMALL_TEXTS {
+        heap.refuse(0);
+        let mut output = String::new(&heap);
+        for _ in 0..APPENDS {
+            assert!(rt; template.append(&mut output, &[text]) == Ok(()));
+        }
+        assert!(rt; heap.asked(0) <= MOST_REQUESTS, "{text}");
+        heap.refuse(0);
+        let mut output = String::new(&heap);
+        for _ in 0..APPENDS {
+            let bindings = [("b", text), ("a", text)];
+            assert!(rt; named.append(&mut output, &bindings) == Ok(()));
+        }
+        assert!(rt; heap.asked(0) <= MOST_REQUESTS, "{text}");
+    }
+    Ok(())
+}
+
+// The bytes that a piece takes in a list that is made at once, and a part and a name in one that grows.
+const PIECE: usize = 40;
+
+const PART: usize = DOUBLED * 16;
+
+const NAME: usize = DOUBLED * 16;
+
+// What is kept of a slot beside its name, and of each name beside that, to find it by.
+const NUMBER: usize = 8;
+
+const FOUND: usize = 256;
+
+#[test]
+fn a_template_asks_for_its_pieces(rt: HostRuntime) -> Result<(), Fail> {
+    for &length in &[1, 1000, MILLION] {
+        let markup = long_text(rt.alloc(), ("<p>", "a", length, "</p>"))?;
+        for &count in &[1, 1000_usize] {
+            let mut parts = Vec::new(rt.alloc());
+            for _ in 0..count {
+                parts.push(Part::Markup(if count == 1 {
+                    markup.as_str()
+                } else {
+                    "<p>a</p>"
+                }))?;
+                parts.push(Part::Slot)?;
+            }
+            let heap = Refusing::new(rt.alloc(), 0);
+            assert!(rt; Template::new(&heap, &parts).is_ok());
+            let most = parts.len().saturating_mul(PIECE).saturating_add(2 * SMALL);
+            let asked = heap.asked_bytes();
+            assert!(rt; asked <= most as u64, "{asked} for {count} of {length}");
+        }
+    }
+    Ok(())
+}
+
+#[test]
+fn a_named_template_asks_for_its_lists(rt: HostRuntime) -> Result<(), Fail> {
+    for &length in &[1, MILLION] {
+        let markup = long_text(rt.alloc(), ("<p>", "a", length, "</p>"))?;
+        for &(count, times) in &NAMES_AND_TIMES {
+            let names = names(rt.alloc(), count)?;
+            let mut source = String::from_str(rt.alloc(), markup.as_str())?;
+            for _ in 0..times {
+                source.push_str(named::source(rt.alloc(), &names)?.as_str())?;
+            }
+            let heap = Refusing::new(rt.alloc(), 0);
+            assert!(rt; NamedTemplate::parse(&heap, source.as_str()).is_ok());
+            let slots = count.saturating_mul(times);
+            let parts = slots.saturating_mul(2).saturating_add(1);
+            let listed = parts.saturating_mul(PIECE + PART);
+            let named = slots.saturating_mul(NAME + NUMBER);
+            let found = count.saturating_mul(FOUND);
+            let most = listed.saturating_add(named).saturating_add(found);
+            let asked = heap.asked_bytes();
+            assert!(rt;
+                asked <= most as u64,
+                "{asked} for {count} names in {slots} slots, {most}"
+            );
+        }
     }
     Ok(())
 }

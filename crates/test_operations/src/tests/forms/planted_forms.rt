@@ -2,31 +2,33 @@
 use crate::tests::forms::calls::Call;
 use crate::tests::forms::{answers, writers};
 use crate::tests::memory::amounts::asks_little;
+use crate::tests::memory::appends::asks_rarely;
 use crate::tests::memory::refused_memory;
 use std::process::Abort;
 use std::test::Fail;
 use test_support::flaws::Flaw;
 
-// A flaw, and whether it is refused by what compares answers, refuses memory, lets writers fail, and
-// adds up what is asked for.
-type Refused = (Flaw, [bool; 4]);
+// A flaw, and whether it is refused by what compares answers, refuses memory, lets writers fail, adds up
+// what is asked for, and appends many small texts.
+type Refused = (Flaw, [bool; 5]);
 
-static REFUSED: [Refused; 15] = [
-    (Flaw::Sound, [false, false, false, false]),
-    (Flaw::OtherText, [true, true, true, false]),
-    (Flaw::Copies, [true, true, false, true]),
-    (Flaw::AsksTwice, [true, true, false, true]),
-    (Flaw::AsksForMuch, [true, true, false, true]),
-    (Flaw::Empties, [false, true, false, false]),
-    (Flaw::AnswersAll, [true, true, false, false]),
-    (Flaw::WritesTwice, [true, false, true, false]),
-    (Flaw::Flushes, [false, false, true, false]),
-    (Flaw::OffersNothing, [false, false, true, false]),
-    (Flaw::HidesFaults, [false, false, true, false]),
-    (Flaw::Repeats, [false, false, true, false]),
-    (Flaw::GoesOn, [false, false, true, false]),
-    (Flaw::OtherFirstFault, [false, false, true, false]),
-    (Flaw::OtherLaterFault, [false, false, true, false]),
+static REFUSED: [Refused; 16] = [
+    (Flaw::Sound, [false, false, false, false, false]),
+    (Flaw::OtherText, [true, true, true, false, false]),
+    (Flaw::Copies, [true, true, false, true, false]),
+    (Flaw::AsksTwice, [true, true, false, true, false]),
+    (Flaw::AsksForMuch, [true, true, false, true, false]),
+    (Flaw::Empties, [false, true, false, false, false]),
+    (Flaw::GrowsExactly, [false, false, false, false, true]),
+    (Flaw::AnswersAll, [true, true, false, false, false]),
+    (Flaw::WritesTwice, [true, false, true, false, false]),
+    (Flaw::Flushes, [false, false, true, false, false]),
+    (Flaw::OffersNothing, [false, false, true, false, false]),
+    (Flaw::HidesFaults, [false, false, true, false, false]),
+    (Flaw::Repeats, [false, false, true, false, false]),
+    (Flaw::GoesOn, [false, false, true, false, false]),
+    (Flaw::OtherFirstFault, [false, false, true, false, false]),
+    (Flaw::OtherLaterFault, [false, false, true, false, false]),
 ];
 
 #[test]
@@ -43,6 +45,7 @@ fn each_flaw_of_a_form_is_refused(rt: HostRuntime) -> Result<(), Fail> {
                     of,
                     "a text of letters alone, which stays as it is",
                 )?,
+            !asks_rarely(rt.alloc(), of, "a<b")?,
         ];
         assert!(rt; found == refused, "{flaw:?}");
     }

@@ -1,11 +1,14 @@
 //! What appends a text that it builds: it asks for memory once where there is no room, and not at all
-//! where there is; and what does not, which has to be refused.
-use hesc_places::{Attribute, FormFault, Place, PlaceFault, build_form, build_page, enclose};
+//! where there is, and a few times for many small texts; and what does not, which has to be refused.
+use hesc_places::{
+    Attribute, FormFault, Place, PlaceFault, Quoting, build_form, build_page, enclose,
+};
 use html_escape::Encoder;
 use std::alloc::{AllocError, Allocator, Global};
 use std::process::Abort;
 use std::test::Fail;
 use test_support::Refusing;
+use test_support::amounts::{APPENDS, MOST_REQUESTS};
 use test_support::flaws::{Flaw, plant_in_string};
 
 /// What is built.
@@ -76,6 +79,56 @@ fn survives_within(
         (Err(AllocError), "")
     };
     Ok(answer == wanted && heap.asked(number) == requests && output.strip_prefix("x") == Some(held))
+}
+
+// Whether many appends of it to one string ask for memory a few times.
+fn asks_rarely(alloc: Global, builder: Builder<'_>, added: &str) -> Result<bool, AllocError> {
+    let heap = Refusing::new(alloc, 0);
+    let mut output = String::new(&heap);
+    for _ in 0..APPENDS {
+        if !answers(builder, &mut output, added)? {
+            return Ok(false);
+        }
+    }
+    Ok(heap.asked(0) <= MOST_REQUESTS)
+}
+
+static SMALL_TEXTS: [(&str, &str); 3] = [("", ""), ("abc", "abc"), ("a<b", "a&lt;b")];
+
+#[test]
+fn small_appends_ask_rarely(rt: HostRuntime) -> Result<(), Fail> {
+    for &(text, made) in &SMALL_TEXTS {
+        let element = Builder::Enclosed(Encoder::Text, Place::Text, text);
+        let marks = format!(in rt.alloc(); ">{made}<")?;
+        assert!(rt; asks_rarely(rt.alloc(), element, marks.as_str())?, "{text}");
+        let value = Builder::Enclosed(Encoder::DoubleQuotedAttribute, Place::DoubleAttribute, text);
+        let marks = format!(in rt.alloc(); "\"{made}\"")?;
+        assert!(rt; asks_rarely(rt.alloc(), value, marks.as_str())?, "{text}");
+    }
+    Ok(())
+}
+
+#[test]
+fn small_pages_and_forms_ask_rarely(rt: HostRuntime) -> Result<(), Fail> {
+    let page = "<input value=a placeholder=\"b\"/><script>alert('c');</script>";
+    assert!(rt; asks_rarely(rt.alloc(), Builder::Page("a", "b", "c"), page)?);
+    let attributes = [Attribute {
+        name: "value",
+        quoting: Quoting::Unquoted,
+        value: "a b",
+    }];
+    let form = "<input value=a&#x20;b /><script>alert('x');</script>";
+    assert!(rt; asks_rarely(rt.alloc(), Builder::Form(&attributes, "x"), form)?);
+    Ok(())
+}
+
+#[test]
+fn an_exact_growth_is_refused(rt: HostRuntime) -> Result<(), Fail> {
+    let sound = Builder::Planted(Flaw::Sound, "a<b");
+    let exact = Builder::Planted(Flaw::GrowsExactly, "a<b");
+    assert!(rt; asks_rarely(rt.alloc(), sound, "a&lt;b")?);
+    assert!(rt; !asks_rarely(rt.alloc(), exact, "a&lt;b")?);
+    Ok(())
 }
 
 static FLAWS: [Flaw; 5] = [
