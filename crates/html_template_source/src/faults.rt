@@ -8,11 +8,11 @@ use std::alloc::AllocError;
 pub enum SourceFault {
     /// No `}}` follows the `{{` at this position.
     Unclosed(usize),
-    /// Between the `{{` at this position and the next `}}` stands no name: one or more ASCII
-    /// letters, digits and `_`.
+    /// Between the `{{` at this position and the next `}}` stands no name, one or more ASCII letters,
+    /// digits and `_`, and no `"{{"`.
     BadName(usize),
     /// The source is cut into parts, and they are no template. Markup and slots take turns, so that
-    /// part `2 * i` is the markup before slot `i`.
+    /// part `2 * i` is the markup before slot `i`; each `{{"{{"}}` makes one part more.
     NoTemplate(TemplateFault),
     /// A growth was refused.
     Memory,

@@ -8,7 +8,8 @@ use crate::named::NamedTemplate;
 use html_template::Part;
 use std::alloc::Allocator;
 
-/// A source has one list of parts, in which markup and slots take turns, and one list of names.
+/// A source has one list of parts, in which markup and slots take turns, and one list of names. Markup
+/// follows markup only at a `{{` of it.
 ///
 /// For instance those of `<p>{{name}}</p>` are `<p>`, a slot and `</p>`, and `name`.
 pub fn source_law(source: &str)

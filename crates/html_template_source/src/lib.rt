@@ -3,6 +3,8 @@
 //! ```text
 //! <p title="{{title}}">{{body}}</p>
 //! ```
+//!
+//! A `{{` that is markup is written `{{"{{"}}`, also in code and in comments.
 #![tactic(auto)]
 
 mod bound;

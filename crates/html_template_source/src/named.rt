@@ -48,8 +48,8 @@ pub struct NamedTemplate<'a, A: Allocator = Global> {
 impl<'a, A: Allocator + Copy> NamedTemplate<'a, A> {
     ghost use Rattle.html_template_source.specs.NamedTemplates.{chunks_of, names_of};
 
-    /// The template of a source, in which a slot is a name between `{{` and `}}`. A name may stand
-    /// more than once.
+    /// The template of a source, in which a slot is a name between `{{` and `}}`, and `{{"{{"}}` is a
+    /// `{{` of the markup. A name may stand more than once.
     ///
     /// Of `<p>{{name}}</p>` it has one slot, `name`; of `<p {{name}}>` the fault is
     /// `NoTemplate(NoPlace(1))`.

@@ -1,14 +1,16 @@
 //! A source, cut into parts.
 ghost use Rattle.std.specs.Prelude.{◌≡◌, ◌<◌, ◌++◌, ℕ, List, IfNone, IfOk, IfSome, OnOk, length, map, true};
-ghost use Rattle.html_template.specs.Templates.{Given, given, texts_of};
+ghost use Rattle.html_template.specs.Templates.{given, texts_of};
 ghost use Rattle.html_template_source.specs.SourceFaults.{AnswersSource};
 ghost use Rattle.html_template_source.specs.Sources.{
   IsSourceOf,
   Lacks,
+  LeadOn,
   TakeTurns,
   are_letters,
   is_name,
   opening,
+  quoted_opening,
   slot_text,
 };
 
@@ -16,7 +18,11 @@ use crate::faults::SourceFault;
 use html_template::Part;
 use std::alloc::{AllocError, Allocator, Global};
 
-/// A source, cut into markup and slots, which take turns, and the names of the slots.
+// What stands between `{{` and `}}` where `{{` is markup.
+const QUOTED_OPENING: &str = "\"{{\"";
+
+/// A source, cut into markup and slots, which take turns, and the names of the slots. Markup follows
+/// markup where a `{{` of it is written `{{"{{"}}`.
 #[derive(Drop)]
 pub struct Source<'a, A: Allocator = Global> {
     /// The parts, for [`Template::new`](html_template::Template::new).
@@ -27,7 +33,7 @@ pub struct Source<'a, A: Allocator = Global> {
 
 impl<'a, A: Allocator + Copy> Source<'a, A> {
     /// Cuts a source into parts. A slot is one or more ASCII letters, digits and `_` between `{{` and
-    /// the next `}}`; all else is markup.
+    /// the next `}}`, and `"{{"` between them is a `{{` of the markup; all else is markup.
     pub fn cut(alloc: A, source: &'a str) -> Result<Source<'a, A>, SourceFault>
         ensures parts { IfOk result (λ s.
             IsSourceOf (map given s.parts.items) (texts_of s.names.items) source.now) }
@@ -42,10 +48,13 @@ impl<'a, A: Allocator + Copy> Source<'a, A> {
             let Some((name, more)) = cut_at(following, "}}") else {
                 return Err(SourceFault::Unclosed(place));
             };
-            if !is_name(name) {
+            if is_name(name) {
+                add_slot(&mut parts, &mut names, markup, name)?;
+            } else if name == QUOTED_OPENING {
+                add_opening(&mut parts, rest, markup, following)?;
+            } else {
                 return Err(SourceFault::BadName(place));
             }
-            add_slot(&mut parts, &mut names, markup, name)?;
             rest = more;
         }
         let Ok(()) = parts.push(Part::Markup(rest)) else {
@@ -93,17 +102,34 @@ fn add_slot<'a, A: Allocator>(
 ) -> Result<(), AllocError>
     requires plain { Lacks opening markup.now }
     requires named { is_name name.now ≡ true }
-    ensures source { OnOk result ((front : List ℕ)
-        → IsSourceOf (map given parts.old.items) (texts_of names.old.items) front
-        → IsSourceOf (map given parts.new.items) (texts_of names.new.items)
+    ensures { OnOk result ((front : List ℕ)
+        → LeadOn (map given parts.old.items) (texts_of names.old.items) front
+        → LeadOn (map given parts.new.items) (texts_of names.new.items)
         (front ++ (markup.now ++ slot_text name.now))) }
-    ensures turns { OnOk result (((rest : List Given) → TakeTurns rest
-        → TakeTurns (map given parts.old.items ++ rest))
-        → (rest : List Given) → TakeTurns rest → TakeTurns (map given parts.new.items ++ rest)) }
 {
     parts.push(Part::Markup(markup))?;
     parts.push(Part::Slot)?;
     match names.push(name) {
+        Ok(()) => Ok(()),
+        Err(_) => Err(AllocError),
+    }
+}
+
+// Markup and the mark behind it, which is markup, too.
+fn add_opening<'a, A: Allocator>(
+    parts: &mut Vec<Part<'a>, A>,
+    text: &'a str,
+    markup: &str,
+    following: &str,
+) -> Result<(), AllocError>
+    requires whole { text.now ≡ markup.now ++ (opening ++ following.now) }
+    requires plain { Lacks opening markup.now }
+    ensures { OnOk result ((names : List (List ℕ)) (front : List ℕ)
+        → LeadOn (map given parts.old.items) names front
+        → LeadOn (map given parts.new.items) names
+        (front ++ (markup.now ++ slot_text quoted_opening))) }
+{
+    match parts.push(Part::Markup(&text[..markup.len() + 2])) {
         Ok(()) => Ok(()),
         Err(_) => Err(AllocError),
     }

@@ -3,7 +3,7 @@ use html_template::{FillFault, TemplateFault};
 use html_template_source::{BindFault, NamedTemplate, SourceFault};
 use std::test::Fail;
 
-static SOURCES: [(&str, Option<SourceFault>); 14] = [
+static SOURCES: [(&str, Option<SourceFault>); 27] = [
     ("", None),
     ("{ } }} <p title=\"{{a_1}}\">{{B}}{{a_1}}</p>", None),
     ("<p>{{a", Some(SourceFault::Unclosed(3))),
@@ -12,6 +12,22 @@ static SOURCES: [(&str, Option<SourceFault>); 14] = [
     ("<p>{{a b}}", Some(SourceFault::BadName(3))),
     ("{{{a}}", Some(SourceFault::BadName(0))),
     ("{{é}}", Some(SourceFault::BadName(0))),
+    ("{{\"{{\"}}", None),
+    ("{{\"{{\"}}{{\"{{\"}}{{a}}{{\"{{\"}}", None),
+    ("<script>f(\"{{a}}\", {{\"{{\"}} })</script>", None),
+    ("{{{\"{{\"}}", Some(SourceFault::BadName(0))),
+    ("a{{ \"{{\"}}", Some(SourceFault::BadName(1))),
+    ("a{{\"{{\" }}", Some(SourceFault::BadName(1))),
+    ("{{'{{'}}", Some(SourceFault::BadName(0))),
+    ("{{\"{\"}}", Some(SourceFault::BadName(0))),
+    ("{{\"}}\"}}", Some(SourceFault::BadName(0))),
+    ("{{\"{{\"}}{{", Some(SourceFault::Unclosed(8))),
+    ("{{\"{{\"}}{{a b}}", Some(SourceFault::BadName(8))),
+    ("{{\"{{\"}", Some(SourceFault::Unclosed(0))),
+    (
+        "{{\"{{\"}}{{a}}<xmp>",
+        Some(SourceFault::NoTemplate(TemplateFault::Malformed(3))),
+    ),
     (
         "<p {{a}}>",
         Some(SourceFault::NoTemplate(TemplateFault::NoPlace(1))),
@@ -43,6 +59,45 @@ fn sources(rt: HostRuntime) {
             Err(fault) => Some(fault),
         };
         assert!(rt; found == wanted, "{source}");
+    }
+}
+
+// A `{{` of the markup, in text, in a value, in the code of a script, in a string, in a comment and at
+// the end; and each page of `b` for `a`.
+static OPENINGS: [(&str, &str); 10] = [
+    ("{{\"{{\"}}", "{{"),
+    ("<p>{{\"{{\"}} {{a}} }}</p>", "<p>{{ b }}</p>"),
+    ("{{a}}{{\"{{\"}}{{a}}", "b{{b"),
+    ("{{\"{{\"}}{{\"{{\"}}{{a}}", "{{{{b"),
+    ("{{\"{{\"}}a}}{{a}}", "{{a}}b"),
+    ("<p title='{{\"{{\"}}{{a}}'>{{\"{{\"}}", "<p title='{{b'>{{"),
+    (
+        "<script>if (c) {{\"{{\"}}} f('{{a}}')}</script>",
+        "<script>if (c) {{} f('b')}</script>",
+    ),
+    (
+        "<script>f('{{\"{{\"}}', '{{a}}')</script>",
+        "<script>f('{{', 'b')</script>",
+    ),
+    ("<!-- {{\"{{\"}} a }} -->{{a}}", "<!-- {{ a }} -->b"),
+    ("<!-- é{{\"{{\"}}é -->{{a}}", "<!-- é{{é -->b"),
+];
+
+#[test]
+fn openings(rt: HostRuntime) {
+    for &(source, wanted) in &OPENINGS {
+        let Ok(template) = NamedTemplate::parse(rt.alloc(), source) else {
+            panic!(rt; "{source}");
+        };
+        let mut page = String::new(rt.alloc());
+        let all = [("a", "b")];
+        let bindings = if wanted == "{{" {
+            &all[..0]
+        } else {
+            all.as_slice()
+        };
+        assert!(rt; template.append(&mut page, bindings) == Ok(()), "{source}");
+        assert!(rt; page.as_str() == wanted, "{source}");
     }
 }
 
