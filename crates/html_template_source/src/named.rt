@@ -7,8 +7,8 @@ ghost use Rattle.hesc_specs.specs.Text.Beginning.{AppendsBeginning};
 ghost use Rattle.hesc_engine.specs.Forms.{Appended};
 ghost use Rattle.html_template.specs.declared.faults.WriteFault.TheVariants.{Texts};
 ghost use Rattle.html_template.specs.FilledUrls.{HasUrlsOf};
-ghost use Rattle.html_template.specs.PageUrls.{LeadsAsAny};
-ghost use Rattle.html_template.specs.Structure.{IsPageOf, IsReadAs};
+ghost use Rattle.html_template.specs.PageUrls.{LeadsAsAny, urls_of};
+ghost use Rattle.html_template.specs.Structure.{IsPageOf, IsReadAs, JoinsWritten};
 ghost use Rattle.html_template.specs.TemplateFaults.{placed};
 ghost use Rattle.html_template.specs.Templates.{Given, page, part_of, texts_of};
 ghost use Rattle.html_template_source.specs.Bindings.{
@@ -109,6 +109,11 @@ impl<'a, A: Allocator + Copy> NamedTemplate<'a, A> {
             → IsPageOf (parts ++ map part_of (chunks_of self.now))
             (before ++ map (text_of (bindings_of bindings.now)) (names_of self.now))
             (string_bytes output.new)) }
+        ensures joined_urls { OnOk result ((parts : List Given) (before : List (List ℕ))
+            → IsPageOf parts before (string_bytes output.old)
+            → urls_of (string_bytes output.new) ≡ urls_of (string_bytes output.old)
+            ++ urls_of (page (chunks_of self.now)
+            (map (text_of (bindings_of bindings.now)) (names_of self.now)))) }
     {
         let mut places = Places::InOrder;
         let texts = match self.bind(bindings, &mut places) {
@@ -151,6 +156,9 @@ impl<'a, A: Allocator + Copy> NamedTemplate<'a, A> {
             (map (text_of (bindings_of bindings.now)) (names_of self.now))) }
         ensures urls { OnOk result (LeadsAsAny (chunks_of self.now)
             (map (text_of (bindings_of bindings.now)) (names_of self.now))) }
+        ensures joins { OnOk result (JoinsWritten (map part_of (chunks_of self.now))
+            (map (text_of (bindings_of bindings.now)) (names_of self.now))
+            (W.contents output.old) (W.contents output.new)) }
     {
         let mut places = Places::InOrder;
         let texts = match self.bind(bindings, &mut places) {
