@@ -18,12 +18,13 @@ fn no_query_leaves_its_place(rt: HostRuntime) -> Result<(), Fail> {
         assert!(rt; false);
         return Ok(());
     };
-    let Ok(page) = search_page(rt.alloc(), &template, "'\"</title></script>") else {
+    let query = String::from_str(rt.alloc(), "'\"</title></script>")?;
+    let Ok(found) = search_page(rt.alloc(), &template, query) else {
         assert!(rt; false);
         return Ok(());
     };
     assert!(rt;
-        page.as_str()
+        found.page.as_str()
             == "<!DOCTYPE html><title>'\"&lt;/title&gt;&lt;/script&gt;</title><form action=/search><input name=q value=\"'&quot;&lt;/title&gt;&lt;/script&gt;\"></form><script>log('\\'\"\\x3C/title>\\x3C/script>');</script><p>Nothing was found for '\"&lt;/title&gt;&lt;/script&gt;.</p>"
     );
     Ok(())

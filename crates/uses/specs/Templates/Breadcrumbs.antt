@@ -2,10 +2,12 @@
 use Rattle.std.specs.Prelude.{ℕ, true, List, [], ◌∷◌, ◌++◌, codes}
 use Rattle.html_escape.specs.Encoders.{encoded}
 use Rattle.html_escape.specs.declared.encoder.Encoder.TheVariants as encoder
+use Rattle.html_template.specs.FilledUrls.{Parts, TemplateUrl}
 use Rattle.html_template.specs.Templates.{Chunk, Markup, Slot}
 use Rattle.html_template.specs.declared.parts.SlotKind.TheVariants.{Text, UrlPart}
 use Rattle.html_tokenizer.specs.declared.slot_place.SlotPlace.TheVariants as place
 use Rattle.html_urls.specs.Components.{component}
+use Rattle.html_urls.specs.Slots as url
 use Rattle.html_urls.specs.declared.place.UrlPlace.TheVariants.{Path}
 use Rattle.uses.specs.declared.templates.breadcrumbs.Crumb.{Crumb}
 
@@ -14,6 +16,10 @@ abbrev pub crumb_pieces : List Chunk
 crumb_pieces =
     Markup (codes "<a href=\"/") ∷ Slot place.DoubleQuoted (UrlPart (record { place = Path; begins_segment = true })) ∷
     Markup (codes "\">") ∷ Slot place.Text Text ∷ Markup (codes "</a> / ") ∷ []
+
+-- its URLs: one, of markup and the segment
+abbrev pub crumb_urls : List TemplateUrl
+crumb_urls = Parts (url.Markup (codes "/") ∷ url.Slot ∷ url.Markup [] ∷ []) ∷ []
 
 -- a crumb, byte by byte
 abbrev pub crumb_text : Crumb → List ℕ

@@ -21,10 +21,6 @@ item_texts query item = item.id.now ∷ query ∷ item.name.now ∷ []
 abbrev pub link_texts : List ℕ → List Found → List (List ℕ)
 link_texts query found = flat_map (item_texts query) found
 
--- a page before stays one with a row more for each
-pub record AddsLinks (query : List ℕ) (found : List Found) (old new : List ℕ) : Type 0 where
-  pub links_follow : (parts : List Given) (texts : List (List ℕ)) → IsPageOf parts texts old → IsPageOf (parts ++ links found) (texts ++ link_texts query found) new
-
 -- the page is that of one template of all rows, whose slots the texts fill
 abbrev pub IsLinkList : List ℕ → List Found → List ℕ → Type 0
 IsLinkList query found page = IsPageOf (links found) (link_texts query found) page

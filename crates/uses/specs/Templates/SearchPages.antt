@@ -1,7 +1,9 @@
 -- The page of a search.
-use Rattle.std.specs.Prelude.{◌≡◌, ℕ, List, [], ◌∷◌, codes, map}
-use Rattle.html_template.specs.Structure.{IsReadAs}
-use Rattle.html_template.specs.Templates.{Chunk, Given, GivenMarkup, GivenSlot, part_of}
+use Rattle.std.specs.Prelude.{◌≡◌, ℕ, List, [], ◌∷◌, codes}
+use Rattle.html_template.specs.Structure.{IsPageOf, structure}
+use Rattle.html_template.specs.Templates.{Given, GivenMarkup, GivenSlot}
+use Rattle.html_tokenizer.specs.Tokenizer.States.{data_state}
+use Rattle.html_tokenizer.specs.Tokenizer.Tokenization.{actions_of}
 
 -- its markup, with a slot in the title, in the value of the input, in a string of the script and in the text
 abbrev pub search_parts : List Given
@@ -15,8 +17,11 @@ search_parts =
 abbrev pub four : List ℕ → List (List ℕ)
 four query = query ∷ query ∷ query ∷ query ∷ []
 
--- whatever follows, the page is tokenized as its markup, with the query handed to each slot whole
-pub record IsSearchPage (query page : List ℕ) : Type 0 where
-  pub pieces : List Chunk
-  pub parts : map part_of pieces ≡ search_parts
-  pub read : IsReadAs pieces (four query) page
+-- the page is that of this template, with the query in each slot
+abbrev pub IsSearchPage : List ℕ → List ℕ → Type 0
+IsSearchPage query page = IsPageOf search_parts (four query) page
+
+-- it has the structure of the page of any other query
+abbrev pub HasOneStructure : List ℕ → Type 0
+HasOneStructure page =
+    (query other : List ℕ) → IsSearchPage query other → structure (actions_of data_state page) ≡ structure (actions_of data_state other)

@@ -1,10 +1,13 @@
 //! A caller of templates: the way to a page, as links. The contract says what is appended, byte by byte,
-//! and which path is a fault.
-ghost use Rattle.std.specs.Prelude.{◌≡◌, ◌↔◌, ◌++◌, [], IsErrOf, OnOk};
+//! which URL a browser finds in it, and which path is a fault.
+ghost use Rattle.std.specs.Prelude.{◌≡◌, ◌↔◌, ◌++◌, ◌∷◌, [], IsErrOf, OnOk, codes};
 ghost use Rattle.std.specs.String.{string_bytes};
+ghost use Rattle.html_template.specs.FilledUrls.{piece_urls};
+ghost use Rattle.html_template.specs.PageUrls.{urls_of};
 ghost use Rattle.html_template.specs.TemplatePieces.{pieces_of};
 ghost use Rattle.html_template.specs.declared.faults.FillFault.TheVariants.{EmptySegment};
-ghost use Rattle.uses.specs.Templates.Breadcrumbs.{crumb_pieces, crumb_text};
+ghost use Rattle.html_urls.specs.Components.{component};
+ghost use Rattle.uses.specs.Templates.Breadcrumbs.{crumb_pieces, crumb_text, crumb_urls};
 
 use html_template::{FillFault, Part, Template, TemplateFault};
 use std::alloc::Global;
@@ -21,6 +24,7 @@ pub struct Crumb<'c> {
 pub struct Breadcrumbs {
     crumb: Template<'static>,
     ghost told: { pieces_of crumb ≡ crumb_pieces },
+    ghost urls: { piece_urls (pieces_of crumb) ≡ crumb_urls },
 }
 
 impl Breadcrumbs {
@@ -42,6 +46,8 @@ impl Breadcrumbs {
     pub fn append(&self, page: &mut String, crumb: Crumb) -> Result<(), FillFault>
         ensures text { OnOk result
             (string_bytes page.new ≡ string_bytes page.old ++ crumb_text crumb.entry) }
+        ensures url { OnOk result (urls_of (crumb_text crumb.entry)
+            ≡ (codes "/" ++ component crumb.entry.path.now) ∷ []) }
         ensures empty { IsErrOf result (EmptySegment 0) ↔ (crumb.entry.path.now ≡ []) }
     {
         self.crumb.append(page, &[crumb.path, crumb.name])

@@ -1,10 +1,10 @@
 //! A caller of templates: a list of what a search found, where each link has the query in it. No id, query
 //! or name can change the list's structure, and the contract says so.
-ghost use Rattle.std.specs.Prelude.{◌≡◌, ◌∷◌, [], IfOk, OnOk, map};
+ghost use Rattle.std.specs.Prelude.{◌≡◌, IfOk, map};
 ghost use Rattle.std.specs.String.{string_bytes};
 ghost use Rattle.html_template.specs.TemplatePieces.{pieces_of};
 ghost use Rattle.html_template.specs.Templates.{part_of};
-ghost use Rattle.uses.specs.Templates.LinkLists.{AddsLinks, IsLinkList, link_parts};
+ghost use Rattle.uses.specs.Templates.LinkLists.{IsLinkList, link_parts};
 
 use html_template::{FillFault, Part, Template, TemplateFault, laws};
 use std::alloc::Global;
@@ -45,35 +45,9 @@ impl LinkList {
     {
         laws::pages_law();
         let mut page = String::new(alloc);
-        append_links(&mut page, &self.row, query, found)?;
+        for item in found {
+            self.row.append(&mut page, &[item.id, query, item.name])?;
+        }
         Ok(page)
     }
-}
-
-// Appends a row for each that was found.
-#[tactic(auto, using(crate::proofs::LinkRows::one_more, crate::proofs::LinkRows::none_yet))]
-fn append_links(
-    page: &mut String,
-    row: &Template,
-    query: &str,
-    found: &[Found],
-) -> Result<(), FillFault>
-    requires { map part_of (pieces_of row.now) ≡ link_parts }
-    ensures { OnOk result
-        (AddsLinks query.now found.now (string_bytes page.old) (string_bytes page.new)) }
-{
-    for item in found {
-        append_link(page, row, query, *item)?;
-    }
-    Ok(())
-}
-
-// Appends the row of one.
-fn append_link(page: &mut String, row: &Template, query: &str, item: Found) -> Result<(), FillFault>
-    requires { map part_of (pieces_of row.now) ≡ link_parts }
-    ensures { OnOk result
-        (AddsLinks query.now (item.entry ∷ []) (string_bytes page.old) (string_bytes page.new)) }
-{
-    row.append(page, &[item.id, query, item.name])?;
-    Ok(())
 }

@@ -4,9 +4,10 @@ ghost use Rattle.std.specs.Prelude.{◌≡◌, IfOk, map};
 ghost use Rattle.std.specs.String.{string_bytes};
 ghost use Rattle.html_template.specs.TemplatePieces.{pieces_of};
 ghost use Rattle.html_template.specs.Templates.{part_of};
-ghost use Rattle.uses.specs.Templates.SearchPages.{IsSearchPage, search_parts};
+ghost use Rattle.html_template.proofs.PagesAreProps.{IsPageOf-prop};
+ghost use Rattle.uses.specs.Templates.SearchPages.{HasOneStructure, IsSearchPage, four, search_parts};
 
-use html_template::{FillFault, Part, Template, TemplateFault};
+use html_template::{FillFault, Part, Template, TemplateFault, laws};
 use std::alloc::Global;
 
 /// The template, which is made once.
@@ -27,12 +28,28 @@ pub fn search_template(alloc: Global) -> Result<Template<'static>, TemplateFault
     Template::new(alloc, &parts)
 }
 
+/// A query and its page.
+#[derive(Drop)]
+pub struct SearchPage {
+    pub query: String,
+    pub page: String,
+    ghost made: { IsSearchPage (string_bytes query) (string_bytes page) } by { IsPageOf-prop search_parts (four (string_bytes query)) (string_bytes page) },
+}
+
 /// The page for this query.
-pub fn search_page(alloc: Global, template: &Template, query: &str) -> Result<String, FillFault>
+pub fn search_page(
+    alloc: Global,
+    template: &Template,
+    query: String,
+) -> Result<SearchPage, FillFault>
     requires { map part_of (pieces_of template.now) ≡ search_parts }
-    ensures { IfOk result (λ page. IsSearchPage query.now (string_bytes page)) }
+    ensures query { IfOk result (λ found. string_bytes found.query ≡ string_bytes query) }
+    ensures structure { IfOk result (λ found. HasOneStructure (string_bytes found.page)) }
 {
+    laws::pages_law();
+    laws::structure_law();
     let mut page = String::new(alloc);
-    template.append(&mut page, &[query, query, query, query])?;
-    Ok(page)
+    let text = query.as_str();
+    template.append(&mut page, &[text, text, text, text])?;
+    Ok(SearchPage { query, page })
 }
