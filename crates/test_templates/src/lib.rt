@@ -20,9 +20,9 @@ mod pages;
 #[cfg(test)]
 mod pairs;
 #[cfg(test)]
-mod readme;
-#[cfg(test)]
 mod sources;
+#[cfg(test)]
+mod tables;
 #[cfg(test)]
 mod templates;
 #[cfg(test)]

@@ -1,5 +1,5 @@
-//! The examples of the tables in the README of `html_template`, in their order: what is taken, what is
-//! refused, and what to write instead. A line end of a row stands there as `⏎`.
+//! The examples of the tables in the README of `html_template` and in `docs/TEMPLATES.md`, in their order:
+//! what is taken, what is refused, and what to write instead. A line end of a row stands there as `⏎`.
 use html_template::TemplateFault::{
     AfterLink, DotSegment, Forbidden, Malformed, NoPlace, NotFixed, NotPlain, Unfinished,
 };
