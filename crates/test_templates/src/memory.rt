@@ -347,7 +347,7 @@ fn small_appends_ask_rarely(rt: HostRuntime) -> Result<(), Fail> {
 // The bytes that a piece takes in a list that is made at once, and a part and a name in one that grows.
 const PIECE: usize = 40;
 
-const PART: usize = DOUBLED * 16;
+const PART: usize = DOUBLED * 24;
 
 const NAME: usize = DOUBLED * 16;
 
@@ -392,7 +392,8 @@ fn a_named_template_asks_for_its_lists(rt: HostRuntime) -> Result<(), Fail> {
             }
             let heap = Refusing::new(rt.alloc(), 0);
             assert!(rt; NamedTemplate::parse(&heap, source.as_str()).is_ok());
-            let slots = count.saturating_mul(times);
+            // A source has a slot of each name, and one more.
+            let slots = count.saturating_add(1).saturating_mul(times);
             let parts = slots.saturating_mul(2).saturating_add(1);
             let listed = parts.saturating_mul(PIECE + PART);
             let named = slots.saturating_mul(NAME + NUMBER);
