@@ -1,19 +1,48 @@
 -- The parts of two templates, one after the other, are a template's.
-use Rattle.std.proofs.Common.{ℕ, ◌≡◌, ◌+◌, true, List, [], ◌∷◌, ◌++◌, Ok, Err, refl, sym, ap, ◌∙◌, subst}
+use Rattle.std.proofs.Common.{ℕ, ◌≡◌, ◌+◌, true, false, List, [], ◌∷◌, ◌++◌, Ok, Err, refl, sym, ap, ◌∙◌, subst}
 use Rattle.html_template.specs.declared.open_url.OpenUrl.{OpenUrl}
 use Rattle.html_template.specs.declared.open_url.OpenUrl.TheVariants.{Outside}
 use Rattle.html_template.specs.declared.open_url.PlacedSlot.{PlacedSlot}
-use Rattle.html_template.specs.TemplateFaults.{Told, Walk, at_beginning, behind_markup, behind_slot, is_template, is_told, pieces_from, placed, template_of, told_chunks}
-use Rattle.html_template.specs.Templates.{Chunk, Given, GivenMarkup, GivenSlot, after_slot}
-use Rattle.html_tokenizer.specs.Standing.{standing}
+use Rattle.html_template.specs.TemplateFaults.{Told, Walk, at_beginning, behind_markup, behind_slot, is_template, is_told, pieces_from, placed, slot_at, template_of, told_chunks}
+use Rattle.html_template.specs.OpenUrls.{url_markup}
+use Rattle.html_template.specs.Templates.{Chunk, Given, GivenMarkup, GivenSlot, Markup, Slot, after_slot}
+use Rattle.html_tokenizer.specs.Standing.{is_refused, standing}
+use Rattle.html_tokenizer.specs.Tokenizer.Tokenization.{state_after}
 use Rattle.html_tokenizer.specs.Tokenizer.States.{Tokenizer, data_state}
 use Rattle.html_tokenizer.proofs.UrlValues.Slots.Tame.{IsTame, data_state_is_tame, tame_after}
 use Rattle.html_template.proofs.MayEnd.{ends_in_data}
-use Rattle.html_template.proofs.PartNumbers.{markup_before, markup_number, pieces_number, slot_before}
 use Rattle.html_template.proofs.PageUrls.OpenPlaces.{OpenStands, markup_stands, none_open, slot_stands}
 use Rattle.html_template.proofs.PageUrls.SlotSteps.{past_slot, tame_behind}
 use Rattle.html_template.proofs.Pieces.{at_end, at_markup, at_slot}
 use Rattle.html_template.proofs.Walks.{slot_suits}
+
+-- ---- the number of a part decides only what its fault tells
+
+-- markup before pieces that are told, and a slot
+markup_before : (number : ℕ) (walk : Walk) (bytes : List ℕ) (parts : List Given) (url : OpenUrl) (rest : List Chunk) →
+    is_refused (state_after walk.tokenizer bytes).state ≡ false → url_markup walk.url bytes ≡ Ok url →
+    pieces_from (number + 1) (behind_markup walk bytes url) parts ≡ Ok rest → pieces_from number walk (GivenMarkup bytes ∷ parts) ≡ Ok (Markup bytes ∷ rest)
+markup_before number walk bytes parts url rest read opened told = rw (read, opened, told) refl
+
+slot_before : (number : ℕ) (walk : Walk) (parts : List Given) (slot : PlacedSlot) (rest : List Chunk) →
+    slot_at walk.markup walk.url (standing walk.tokenizer) ≡ Ok slot → pieces_from (number + 1) (behind_slot walk slot) parts ≡ Ok rest →
+    pieces_from number walk (GivenSlot ∷ parts) ≡ Ok (Slot slot.place slot.kind ∷ rest)
+slot_before number walk parts slot rest placed told = rw (placed, told) refl
+
+pieces_number : (n m : ℕ) (walk : Walk) (parts : List Given) (chunks : List Chunk) → pieces_from n walk parts ≡ Ok chunks → pieces_from m walk parts ≡ Ok chunks
+pieces_number n m walk [] chunks told = told
+pieces_number n m walk (GivenMarkup bytes ∷ parts) chunks told =
+    let here = at_markup n walk bytes parts chunks told in
+    rw here.whole
+    (markup_before m walk bytes parts here.url here.rest here.read here.opened
+    (pieces_number (n + 1) (m + 1) (behind_markup walk bytes here.url) parts here.rest here.told))
+pieces_number n m walk (GivenSlot ∷ parts) chunks told =
+    let here = at_slot n walk parts chunks told in
+    rw here.whole
+    (slot_before m walk parts here.slot here.rest here.placed
+    (pieces_number (n + 1) (m + 1) (behind_slot walk here.slot) parts here.rest here.told))
+
+-- ---- two templates
 
 -- behind a template another one begins as at the front of a page
 abbrev behind_template : List ℕ → Walk
@@ -25,7 +54,7 @@ begins_anew number markup [] chunks told = told
 begins_anew number markup (GivenMarkup bytes ∷ parts) chunks told =
     let here = at_markup 0 at_beginning bytes parts chunks told in
     rw here.whole
-    (markup_before number (behind_template markup) bytes parts here.url here.rest here.read (markup_number 0 number Outside bytes here.url here.opened)
+    (markup_before number (behind_template markup) bytes parts here.url here.rest here.read here.opened
     (pieces_number 1 (number + 1) (behind_markup (behind_template markup) bytes here.url) parts here.rest here.told))
 begins_anew number markup (GivenSlot ∷ parts) chunks told =
     let here = at_slot 0 at_beginning parts chunks told in
@@ -53,13 +82,13 @@ joined_from number walk (GivenMarkup bytes ∷ first) second one two told tame s
     rw here.whole
     (markup_before number walk bytes (first ++ second) here.url (here.rest ++ two) here.read here.opened
     (joined_from (number + 1) (behind_markup walk bytes here.url) first second here.rest two here.told (tame_after walk.tokenizer bytes tame)
-    (markup_stands number walk.url walk.tokenizer bytes here.url tame here.read here.opened stands) next))
+    (markup_stands walk.url walk.tokenizer bytes here.url tame here.read here.opened stands) next))
 joined_from number walk (GivenSlot ∷ first) second one two told tame stands next =
     let here = at_slot number walk first one told in
-    let suited = (slot_suits number walk.markup walk.url (standing walk.tokenizer) here.slot here.placed).suited in
+    let suited = (slot_suits walk.markup walk.url (standing walk.tokenizer) here.slot here.placed).suited in
     let goes : after_slot here.slot.place here.slot.kind walk.tokenizer ≡ past_slot walk.tokenizer here.slot.place = rw suited refl in
-    let behind = told_behind_slot walk here.slot goes (tame_behind number walk.markup walk.url walk.tokenizer here.slot tame here.placed)
-    (slot_stands number walk.markup walk.url walk.tokenizer (standing walk.tokenizer) here.slot refl here.placed) in
+    let behind = told_behind_slot walk here.slot goes (tame_behind walk.markup walk.url walk.tokenizer here.slot tame here.placed)
+    (slot_stands walk.markup walk.url walk.tokenizer (standing walk.tokenizer) here.slot refl here.placed) in
     rw here.whole
     (slot_before number walk (first ++ second) here.slot (here.rest ++ two) here.placed
     (joined_from (number + 1) (behind_slot walk here.slot) first second here.rest two here.told behind.0 behind.1 next))

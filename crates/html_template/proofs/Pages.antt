@@ -10,7 +10,7 @@ use Rattle.html_template.specs.Structure.{IsPageOf, IsReadAs, structure}
 use Rattle.html_template.specs.TemplateFaults.{is_template, placed}
 use Rattle.html_template.specs.Templates.{Given, page, state_after_all}
 use Rattle.html_template.proofs.JoinedParts.{placed_told}
-use Rattle.html_template.proofs.PageUrls.Law.{has_urls, urls_alike}
+use Rattle.html_template.proofs.PageUrls.Law.{has_urls, leads_as_any}
 use Rattle.html_template.proofs.Pieces.{sound_told}
 use Rattle.html_template.proofs.Structure.{is_read_as, structure_of_page}
 use Rattle.html_template.proofs.TokenLaw.{skeleton_of_pages}
@@ -44,12 +44,6 @@ same_tokens parts texts others first second one two =
     ∙ skeleton_of_pages (placed parts) texts others (sound parts one.template) one.full one.utf8 two.full two.utf8
     ∙ ap (λ bytes. skeleton (tokens (actions_of data_state bytes))) two.whole
 
-pub same_urls : (parts : List Given) (texts others : List (List ℕ)) (first second : List ℕ) → IsPageOf parts texts first → IsPageOf parts others second →
-    AllAlike (whole_urls (placed parts) texts) (whole_urls (placed parts) others) (urls_of first) (urls_of second)
-same_urls parts texts others first second one two =
-    rw (← one.whole, ← two.whole)
-    (urls_alike parts (placed parts) texts others (placed_told parts one.template) one.full two.full one.utf8 two.utf8)
-
 -- ---- its URLs
 
 pub parts_have_urls : (parts : List Given) → is_template parts ≡ true → HasUrls (placed parts)
@@ -62,3 +56,11 @@ page_urls parts texts bytes is =
 
 pub urls_fill : (parts : List Given) (texts : List (List ℕ)) (bytes : List ℕ) → IsPageOf parts texts bytes → FillUrls (template_urls parts) (url_texts (placed parts) texts)
 urls_fill parts texts bytes is = (parts_have_urls parts is.template texts is.full is.utf8).full
+
+-- and those of two pages
+pub same_urls : (parts : List Given) (texts others : List (List ℕ)) (first second : List ℕ) → IsPageOf parts texts first → IsPageOf parts others second →
+    AllAlike (whole_urls (placed parts) texts) (whole_urls (placed parts) others) (urls_of first) (urls_of second)
+same_urls parts texts others first second one two =
+    let any = parts_have_urls parts one.template in
+    rw (← one.whole, ← two.whole)
+    (leads_as_any (placed parts) texts (record { here = any texts one.full one.utf8; any = any }) others two.full two.utf8)

@@ -4,14 +4,17 @@ use Rattle.std.specs.Prelude.{IfErr, OnOk}
 use Rattle.std.proofs.lemmas.Bool.{cases_Bool}
 use Rattle.std.proofs.lemmas.List.{map-append}
 use Rattle.html_template.specs.declared.faults.TemplateFault.{TemplateFault}
-use Rattle.html_template.specs.declared.faults.TemplateFault.TheVariants.{Malformed, NoPlace, Forbidden, NotPlain, NotFixed, DotSegment, AfterLink, Unfinished, Memory}
+use Rattle.html_template.specs.declared.faults.TemplateFault.TheVariants as fault
+use Rattle.html_template.specs.declared.faults.TemplateFault.TheVariants.{Unfinished, Memory}
+use Rattle.html_template.specs.declared.faults.PartFault.{PartFault}
+use Rattle.html_template.specs.declared.faults.PartFault.TheVariants.{Malformed}
 use Rattle.html_template.specs.declared.open_url.OpenUrl.{OpenUrl}
 use Rattle.html_template.specs.declared.open_url.PlacedSlot.{PlacedSlot}
 use Rattle.html_template.specs.declared.parts.Part.{Part}
 use Rattle.html_template.specs.declared.stored.Stored.{Stored}
 use Rattle.html_template.specs.declared.stored.StoredSlot.{StoredSlot}
 use Rattle.html_template.specs.OpenUrls.{url_markup}
-use Rattle.html_template.specs.TemplateFaults.{TakesMore, TakesPart, Told, Walk, at_beginning, behind_markup, behind_slot, pieces_from, put, put_all, slot_at, template_of, told_behind, told_of}
+use Rattle.html_template.specs.TemplateFaults.{TakesMore, TakesPart, Told, Walk, at_beginning, behind_markup, behind_slot, faulty_part, pieces_from, put, put_all, slot_at, template_of, told_behind, told_of}
 use Rattle.html_template.specs.Templates.{Chunk, Markup, Slot, Given, GivenMarkup, GivenSlot, after_slot, chunk_of, given, part_of, state_after_all}
 use Rattle.html_tokenizer.specs.Standing.{is_refused, may_end, standing}
 use Rattle.html_tokenizer.specs.Tokenizer.States.{Tokenizer, data_state}
@@ -80,13 +83,7 @@ fault_here pieces number walk part same fault is takes parts =
 pub fault_more : {T : Type 0} (chunk : T → Chunk) (pieces : List Stored) (number : ℕ) (old new : Walk) (part same : Given) (new_chunks : List Chunk)
     (fault : TemplateFault) → same ≡ part → TakesPart {T = T} chunk number old part new (Err fault) →
     TakesMore {T = Unit {0}} number (map chunk_of pieces) old same new_chunks new (Err fault)
-fault_more chunk pieces number old new part same new_chunks (Malformed n) is takes = fault_here pieces number old part same (Malformed n) is takes
-fault_more chunk pieces number old new part same new_chunks (NoPlace n) is takes = fault_here pieces number old part same (NoPlace n) is takes
-fault_more chunk pieces number old new part same new_chunks (Forbidden n) is takes = fault_here pieces number old part same (Forbidden n) is takes
-fault_more chunk pieces number old new part same new_chunks (NotPlain n) is takes = fault_here pieces number old part same (NotPlain n) is takes
-fault_more chunk pieces number old new part same new_chunks (NotFixed n) is takes = fault_here pieces number old part same (NotFixed n) is takes
-fault_more chunk pieces number old new part same new_chunks (DotSegment n) is takes = fault_here pieces number old part same (DotSegment n) is takes
-fault_more chunk pieces number old new part same new_chunks (AfterLink n) is takes = fault_here pieces number old part same (AfterLink n) is takes
+fault_more chunk pieces number old new part same new_chunks (fault.Part n why) is takes = fault_here pieces number old part same (fault.Part n why) is takes
 fault_more chunk pieces number old new part same new_chunks Unfinished is takes = fault_here pieces number old part same Unfinished is takes
 fault_more chunk pieces number old new part same new_chunks Memory is takes = tt
 
@@ -113,15 +110,15 @@ put_parts chunk (Ok rest) chunks same = record { rest = rest; is = refl; whole =
 put_parts chunk (Err fault) chunks same = absurd (cc)
 
 -- something was found, and then pieces were told
-pub record IsTold {T : Type 0} (found : Result T TemplateFault) (go_on : T → Told) (chunks : List Chunk) : Type 0 where
+pub record IsTold {T : Type 0} (found : Result T PartFault) (go_on : T → Told) (chunks : List Chunk) : Type 0 where
   pub value : T
   pub is : found ≡ Ok value
   pub told : go_on value ≡ Ok chunks
 
-told_parts : {T : Type 0} (found : Result T TemplateFault) (go_on : T → Told) (chunks : List Chunk) → told_of found go_on ≡ Ok chunks →
-    IsTold found go_on chunks
-told_parts (Ok value) go_on chunks same = record { value = value; is = refl; told = same }
-told_parts (Err fault) go_on chunks same = absurd (cc)
+told_parts : {T : Type 0} (part : PartFault → ℕ) (found : Result T PartFault) (go_on : T → Told) (chunks : List Chunk) →
+    told_of part found go_on ≡ Ok chunks → IsTold found go_on chunks
+told_parts part (Ok value) go_on chunks same = record { value = value; is = refl; told = same }
+told_parts part (Err why) go_on chunks same = absurd (cc)
 
 -- a template may end where no part is left
 pub record IsEnd (walk : Walk) (chunks : List Chunk) : Type 0 where
@@ -144,7 +141,7 @@ at_end number walk chunks told =
 pub record AtMarkup (number : ℕ) (walk : Walk) (bytes : List ℕ) (parts : List Given) (chunks : List Chunk) : Type 0 where
   pub read : is_refused (state_after walk.tokenizer bytes).state ≡ false
   pub url : OpenUrl
-  pub opened : url_markup number walk.url bytes ≡ Ok url
+  pub opened : url_markup walk.url bytes ≡ Ok url
   pub rest : List Chunk
   pub told : pieces_from (number + 1) (behind_markup walk bytes url) parts ≡ Ok rest
   pub whole : chunks ≡ Markup bytes ∷ rest
@@ -154,10 +151,10 @@ pub at_markup : (number : ℕ) (walk : Walk) (bytes : List ℕ) (parts : List Gi
 at_markup number walk bytes parts chunks told =
     ⊎_elim
     (λ (refused : is_refused (state_after walk.tokenizer bytes).state ≡ true).
-    let here : Err (Malformed number) ≡ Ok chunks = rw refused at told in
+    let here : Err (fault.Part number Malformed) ≡ Ok chunks = rw refused at told in
     absurd (cc))
     (λ (read : is_refused (state_after walk.tokenizer bytes).state ≡ false).
-    let found = told_parts (url_markup number walk.url bytes) (λ url. put (Markup bytes) (pieces_from (number + 1) (behind_markup walk bytes url) parts)) chunks (rw read at told) in
+    let found = told_parts (λ why. number) (url_markup walk.url bytes) (λ url. put (Markup bytes) (pieces_from (number + 1) (behind_markup walk bytes url) parts)) chunks (rw read at told) in
     let others = put_parts (Markup bytes) (pieces_from (number + 1) (behind_markup walk bytes found.value) parts) chunks found.told in
     record { read = read; url = found.value; opened = found.is; rest = others.rest; told = others.is; whole = others.whole })
     (cases_Bool (is_refused (state_after walk.tokenizer bytes).state))
@@ -165,7 +162,7 @@ at_markup number walk bytes parts chunks told =
 -- a slot, and the pieces behind it
 pub record AtSlot (number : ℕ) (walk : Walk) (parts : List Given) (chunks : List Chunk) : Type 0 where
   pub slot : PlacedSlot
-  pub placed : slot_at number walk.markup walk.url (standing walk.tokenizer) ≡ Ok slot
+  pub placed : slot_at walk.markup walk.url (standing walk.tokenizer) ≡ Ok slot
   pub rest : List Chunk
   pub told : pieces_from (number + 1) (behind_slot walk slot) parts ≡ Ok rest
   pub whole : chunks ≡ Slot slot.place slot.kind ∷ rest
@@ -173,7 +170,7 @@ pub record AtSlot (number : ℕ) (walk : Walk) (parts : List Given) (chunks : Li
 pub at_slot : (number : ℕ) (walk : Walk) (parts : List Given) (chunks : List Chunk) → pieces_from number walk (GivenSlot ∷ parts) ≡ Ok chunks →
     AtSlot number walk parts chunks
 at_slot number walk parts chunks told =
-    let found = told_parts (slot_at number walk.markup walk.url (standing walk.tokenizer)) (λ slot. put (Slot slot.place slot.kind) (pieces_from (number + 1) (behind_slot walk slot) parts)) chunks told in
+    let found = told_parts (faulty_part number) (slot_at walk.markup walk.url (standing walk.tokenizer)) (λ slot. put (Slot slot.place slot.kind) (pieces_from (number + 1) (behind_slot walk slot) parts)) chunks told in
     let slot : PlacedSlot = found.value in
     let others = put_parts (Slot slot.place slot.kind) (pieces_from (number + 1) (behind_slot walk slot) parts) chunks found.told in
     record { slot = slot; placed = found.is; rest = others.rest; told = others.is; whole = others.whole }

@@ -1,12 +1,12 @@
 -- The running walk at a slot.
 use Rattle.std.proofs.Common.{ℕ, ◌≡◌, ◌≤◌, ◌+◌, Bool, true, false, List, [], ◌∷◌, Option, Some, None, Result, Ok, length, arith, refl, sym, ap, subst, ◌∙◌, ◌-◌, Err, ⊎_elim}
 use Rattle.std.proofs.lemmas.Bool.{cases_Bool}
-use Rattle.html_template.specs.declared.faults.TemplateFault.TheVariants.{NotPlain}
-use Rattle.html_template.specs.declared.faults.TemplateFault.{TemplateFault}
+use Rattle.html_template.specs.declared.faults.PartFault.TheVariants.{NotPlain}
+use Rattle.html_template.specs.declared.faults.PartFault.{PartFault}
 use Rattle.html_template.specs.declared.open_url.OpenUrl.{OpenUrl}
 use Rattle.html_template.specs.declared.open_url.OpenUrl.TheVariants.{Outside, Within, Whole}
 use Rattle.html_template.specs.declared.open_url.PlacedSlot.{PlacedSlot}
-use Rattle.html_template.specs.OpenUrls.{at_open, behind_text, first_slot, in_part, opens_escape, plain_text, slot_behind, url_slot, whole_slot}
+use Rattle.html_template.specs.OpenUrls.{at_open, behind_text, first_slot, in_part, plain_text, url_slot, whole_slot}
 use Rattle.html_template.specs.Slots.{after_slot, suits}
 use Rattle.html_template.specs.TemplateFaults.{Walk, pieces_from, put, slot_at}
 use Rattle.html_template.specs.Templates.{Given, GivenSlot, Slot}
@@ -40,71 +40,55 @@ record IsInUrl (is_followed : Bool) (p : SlotPlace) (slot : PlacedSlot) : Type 0
   place : slot.place ≡ p
   suited : suits slot.kind p (url_standing is_followed p) ≡ true
 
-abbrev as_told : PlacedSlot → Result PlacedSlot TemplateFault
+abbrev as_told : PlacedSlot → Result PlacedSlot PartFault
 as_told slot = Ok slot
 
 pub ok_slot : {first second : PlacedSlot} → as_told first ≡ as_told second → first ≡ second
 ok_slot same = cc
 
-part_suits : (is_followed : Bool) (p : SlotPlace) (part : OpenPart) (number : ℕ) (found : Option UrlSlot) (slot : PlacedSlot) →
-    at_open number p part found ≡ Ok slot → IsInUrl is_followed p slot
-part_suits is_followed p part number None slot told = absurd (cc)
-part_suits true p part number (Some found) slot told =
+part_suits : (is_followed : Bool) (p : SlotPlace) (part : OpenPart) (found : Option UrlSlot) (slot : PlacedSlot) →
+    at_open p part found ≡ Ok slot → IsInUrl is_followed p slot
+part_suits is_followed p part None slot told = absurd (cc)
+part_suits true p part (Some found) slot told =
     subst (IsInUrl true p) (ok_slot told) (record { place = refl; suited = same_itself p })
-part_suits false p part number (Some found) slot told =
+part_suits false p part (Some found) slot told =
     subst (IsInUrl false p) (ok_slot told) (record { place = refl; suited = same_itself p })
 
-open_suits : (is_followed : Bool) (p : SlotPlace) (number : ℕ) (part : Option OpenPart) (slot : PlacedSlot) →
-    in_part number p part ≡ Ok slot → IsInUrl is_followed p slot
-open_suits is_followed p number None slot told = absurd (cc)
-open_suits is_followed p number (Some part) slot told = part_suits is_followed p part number (parts.slot_at part) slot told
+open_suits : (is_followed : Bool) (p : SlotPlace) (part : Option OpenPart) (slot : PlacedSlot) →
+    in_part p part ≡ Ok slot → IsInUrl is_followed p slot
+open_suits is_followed p None slot told = absurd (cc)
+open_suits is_followed p (Some part) slot told = part_suits is_followed p part (parts.slot_at part) slot told
 
-text_suits : (is_followed : Bool) (p : SlotPlace) (number : ℕ) (text : Option (List ℕ)) (slot : PlacedSlot) →
-    behind_text number p text ≡ Ok slot → IsInUrl is_followed p slot
-text_suits is_followed p number None slot told = absurd (cc)
-text_suits is_followed p number (Some text) slot told = open_suits is_followed p number (parts.open_of text) slot told
+text_suits : (is_followed : Bool) (p : SlotPlace) (text : Option (List ℕ)) (slot : PlacedSlot) →
+    behind_text p text ≡ Ok slot → IsInUrl is_followed p slot
+text_suits is_followed p None slot told = absurd (cc)
+text_suits is_followed p (Some text) slot told = open_suits is_followed p (parts.open_of text) slot told
 
-whole_suits : (is_followed : Bool) (p : SlotPlace) (number : ℕ) (slot : PlacedSlot) →
-    whole_slot number p is_followed ≡ Ok slot → IsInUrl is_followed p slot
-whole_suits true place.DoubleQuoted number slot told =
+whole_suits : (is_followed : Bool) (p : SlotPlace) (slot : PlacedSlot) →
+    whole_slot p is_followed ≡ Ok slot → IsInUrl is_followed p slot
+whole_suits true place.DoubleQuoted slot told =
     subst (IsInUrl true place.DoubleQuoted) (ok_slot told) (record { place = refl; suited = refl })
-whole_suits true place.SingleQuoted number slot told =
+whole_suits true place.SingleQuoted slot told =
     subst (IsInUrl true place.SingleQuoted) (ok_slot told) (record { place = refl; suited = refl })
-whole_suits is_followed p number slot told = absurd (cc)
+whole_suits is_followed p slot told = absurd (cc)
 
-front_suits : (is_followed : Bool) (p : SlotPlace) (number : ℕ) (markup : Option (List ℕ)) (slot : PlacedSlot) →
-    first_slot number p is_followed markup ≡ Ok slot → IsInUrl is_followed p slot
-front_suits is_followed p number None slot told = absurd (cc)
-front_suits is_followed p number (Some []) slot told = whole_suits is_followed p number slot told
-front_suits is_followed p number (Some (b ∷ markup)) slot told = text_suits is_followed p number (plain_text false (b ∷ markup)) slot told
+front_suits : (is_followed : Bool) (p : SlotPlace) (markup : Option (List ℕ)) (slot : PlacedSlot) →
+    first_slot p is_followed markup ≡ Ok slot → IsInUrl is_followed p slot
+front_suits is_followed p None slot told = absurd (cc)
+front_suits is_followed p (Some []) slot told = whole_suits is_followed p slot told
+front_suits is_followed p (Some (b ∷ markup)) slot told = text_suits is_followed p (plain_text false (b ∷ markup)) slot told
 
 -- where the markup is not empty
-pub some_front : (number : ℕ) (p : SlotPlace) (is_followed : Bool) (markup : List ℕ) → 1 ≤ length markup →
-    first_slot number p is_followed (Some markup) ≡ behind_text number p (plain_text false markup)
-some_front number p is_followed [] some = absurd (omega arith)
-some_front number p is_followed (b ∷ markup) some = refl
+pub some_front : (p : SlotPlace) (is_followed : Bool) (markup : List ℕ) → 1 ≤ length markup →
+    first_slot p is_followed (Some markup) ≡ behind_text p (plain_text false markup)
+some_front p is_followed [] some = absurd (omega arith)
+some_front p is_followed (b ∷ markup) some = refl
 
-behind_suits : (is_followed : Bool) (p : SlotPlace) (number : ℕ) (markup : List ℕ) (url : OpenUrl) (slot : PlacedSlot) →
-    slot_behind number p is_followed markup url ≡ Ok slot → IsInUrl is_followed p slot
-behind_suits is_followed p number markup Outside slot told = front_suits is_followed p number (after_last (begins_value p) markup) slot told
-behind_suits is_followed p number markup (Within q part) slot told = open_suits is_followed p number (Some part) slot told
-behind_suits is_followed p number markup (Whole q) slot told = absurd (cc)
-
--- the markup before a told slot opens no escape
-pub told_behind_markup : (number : ℕ) (p : SlotPlace) (is_followed : Bool) (markup : List ℕ) (url : OpenUrl) (slot : PlacedSlot) →
-    url_slot number p is_followed markup url ≡ Ok slot → slot_behind number p is_followed markup url ≡ Ok slot
-told_behind_markup number p is_followed markup url slot told =
-    ⊎_elim
-    (λ (opens : opens_escape markup ≡ true).
-    let clash : Err (NotPlain (number - 1)) ≡ Ok slot = rw opens at told in
-    absurd (cc))
-    (λ (none : opens_escape markup ≡ false). rw none at told)
-    (cases_Bool (opens_escape markup))
-
-url_suits : (is_followed : Bool) (p : SlotPlace) (number : ℕ) (markup : List ℕ) (url : OpenUrl) (slot : PlacedSlot) →
-    url_slot number p is_followed markup url ≡ Ok slot → IsInUrl is_followed p slot
-url_suits is_followed p number markup url slot told =
-    behind_suits is_followed p number markup url slot (told_behind_markup number p is_followed markup url slot told)
+url_suits : (is_followed : Bool) (p : SlotPlace) (markup : List ℕ) (url : OpenUrl) (slot : PlacedSlot) →
+    url_slot p is_followed markup url ≡ Ok slot → IsInUrl is_followed p slot
+url_suits is_followed p markup Outside slot told = front_suits is_followed p (after_last (begins_value p) markup) slot told
+url_suits is_followed p markup (Within q part) slot told = open_suits is_followed p (Some part) slot told
+url_suits is_followed p markup (Whole q) slot told = absurd (cc)
 
 -- a slot that is told suits where it stands
 pub record IsSuited (s : Standing) (slot : PlacedSlot) : Type 0 where
@@ -123,14 +107,14 @@ in_link_suited p slot is = record {
   stood = ap (λ q. is_same q p) is.place ∙ same_itself p;
 }
 
-pub slot_suits : (number : ℕ) (markup : List ℕ) (url : OpenUrl) (s : Standing) (slot : PlacedSlot) →
-    slot_at number markup url s ≡ Ok slot → IsSuited s slot
-slot_suits number markup url (Stands p) slot told =
+pub slot_suits : (markup : List ℕ) (url : OpenUrl) (s : Standing) (slot : PlacedSlot) →
+    slot_at markup url s ≡ Ok slot → IsSuited s slot
+slot_suits markup url (Stands p) slot told =
     subst (IsSuited (Stands p)) (ok_slot told) (record { suited = same_itself p; stood = same_itself p })
-slot_suits number markup url (InUrl p) slot told = in_url_suited p slot (url_suits false p number markup url slot told)
-slot_suits number markup url (InLink p) slot told = in_link_suited p slot (url_suits true p number markup url slot told)
-slot_suits number markup url Barred slot told = absurd (cc)
-slot_suits number markup url Nowhere slot told = absurd (cc)
+slot_suits markup url (InUrl p) slot told = in_url_suited p slot (url_suits false p markup url slot told)
+slot_suits markup url (InLink p) slot told = in_link_suited p slot (url_suits true p markup url slot told)
+slot_suits markup url Barred slot told = absurd (cc)
+slot_suits markup url Nowhere slot told = absurd (cc)
 
 pub same_place : (p q : SlotPlace) → is_same p q ≡ true → p ≡ q
 same_place place.Text place.Text is = refl
@@ -151,10 +135,10 @@ placed_at Barred p old new stood after = absurd (cc)
 placed_at Nowhere p old new stood after = absurd (cc)
 
 -- the tokenizer goes on behind it as the definition says
-pub same_after_slot : (number : ℕ) (markup : List ℕ) (url : OpenUrl) (s : Standing) (slot : PlacedSlot) (old new : Tokenizer) →
-    slot_at number markup url s ≡ Ok slot → s ≡ standing old → AfterStanding s old new → new ≡ after_slot slot.place slot.kind old
-same_after_slot number markup url s slot old new told same after =
-    let is = slot_suits number markup url s slot told in
+pub same_after_slot : (markup : List ℕ) (url : OpenUrl) (s : Standing) (slot : PlacedSlot) (old new : Tokenizer) →
+    slot_at markup url s ≡ Ok slot → s ≡ standing old → AfterStanding s old new → new ≡ after_slot slot.place slot.kind old
+same_after_slot markup url s slot old new told same after =
+    let is = slot_suits markup url s slot told in
     let suited : suits slot.kind slot.place (standing old) ≡ true = ap (suits slot.kind slot.place) (sym same) ∙ is.suited in
     let stood : stands slot.place (standing old) ≡ true = ap (stands slot.place) (sym same) ∙ is.stood in
     let there : after_slot slot.place slot.kind old ≡ at_value (In slot.place) old.content old.attribute = rw suited refl in
@@ -163,10 +147,10 @@ same_after_slot number markup url s slot old new told same after =
 
 -- so the pieces behind it are told
 pub taken_slot : (number : ℕ) (walk : Walk) (markup : List ℕ) (s : Standing) (slot : PlacedSlot) (new : Tokenizer) (parts : List Given) →
-    slot_at number markup walk.url s ≡ Ok slot → markup ≡ walk.markup → s ≡ standing walk.tokenizer → AfterStanding s walk.tokenizer new →
+    slot_at markup walk.url s ≡ Ok slot → markup ≡ walk.markup → s ≡ standing walk.tokenizer → AfterStanding s walk.tokenizer new →
     pieces_from number walk (GivenSlot ∷ parts)
     ≡ put (Slot slot.place slot.kind) (pieces_from (number + 1) (record { tokenizer = new; markup = []; url = slot.url }) parts)
 taken_slot number walk markup s slot new parts told same_markup same after =
-    let here : slot_at number walk.markup walk.url (standing walk.tokenizer) ≡ Ok slot = rw (same_markup, same) at told in
-    let there = same_after_slot number walk.markup walk.url s slot walk.tokenizer new (rw same_markup at told) same after in
+    let here : slot_at walk.markup walk.url (standing walk.tokenizer) ≡ Ok slot = rw (same_markup, same) at told in
+    let there = same_after_slot walk.markup walk.url s slot walk.tokenizer new (rw same_markup at told) same after in
     rw (here, there) refl

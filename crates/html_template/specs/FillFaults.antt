@@ -1,8 +1,12 @@
 -- What keeps texts from filling a template.
 use Rattle.std.specs.Prelude.{◌≡◌, ℕ, ◌+◌, ◌==◌, Bool, true, false, if◌then◌else◌, List, [], ◌∷◌, Option, Some, None, Result, Ok, Err, length}
 use Rattle.std.specs.Option.{option_or}
+use Rattle.html_template.specs.FirstFault.{first_from}
 use Rattle.html_template.specs.declared.faults.FillFault.{FillFault}
-use Rattle.html_template.specs.declared.faults.FillFault.TheVariants.{WrongCount, EmptyUnquoted, EmptySegment, DotSegment, NotALink, Memory}
+use Rattle.html_template.specs.declared.faults.FillFault.TheVariants as fill
+use Rattle.html_template.specs.declared.faults.FillFault.TheVariants.{WrongCount, Memory}
+use Rattle.html_template.specs.declared.faults.TextFault.{TextFault}
+use Rattle.html_template.specs.declared.faults.TextFault.TheVariants.{EmptyUnquoted, EmptySegment, DotSegment, NotALink}
 use Rattle.html_template.specs.declared.parts.SlotKind.{SlotKind}
 use Rattle.html_template.specs.declared.parts.SlotKind.TheVariants.{Text, UrlPart, Link}
 use Rattle.html_tokenizer.specs.declared.slot_place.SlotPlace.{SlotPlace}
@@ -12,32 +16,51 @@ use Rattle.html_urls.specs.Links.{is_link}
 use Rattle.html_urls.specs.Slots as urls
 use Rattle.html_urls.specs.declared.parts.UrlSlot.{UrlSlot}
 
+-- ---- a text in its slot
+
 -- an empty text where a value without quotes would be empty
-abbrev pub empty_fault : ℕ → SlotPlace → List ℕ → Option FillFault
-empty_fault number Unquoted [] = Some (EmptyUnquoted number)
-empty_fault number other text = None
+abbrev pub empty_fault : SlotPlace → List ℕ → Option TextFault
+empty_fault Unquoted [] = Some EmptyUnquoted
+empty_fault other text = None
 
 -- a text that no segment of a path may begin with
-abbrev pub segment_fault : ℕ → UrlSlot → List ℕ → Option FillFault
-segment_fault number slot text =
+abbrev pub segment_fault : UrlSlot → List ℕ → Option TextFault
+segment_fault slot text =
     if urls.may_fill slot text then None
-    else (if length text == 0 then Some (EmptySegment number)
-    else Some (DotSegment number))
+    else (if length text == 0 then Some EmptySegment
+    else Some DotSegment)
 
 -- the fault of a text in a slot
-abbrev pub text_fault : ℕ → SlotPlace → SlotKind → List ℕ → Option FillFault
-text_fault number p Text text = empty_fault number p text
-text_fault number p (UrlPart slot) text = segment_fault number slot text
-text_fault number p Link text = if is_link text then None else Some (NotALink number)
+abbrev pub text_fault : SlotPlace → SlotKind → List ℕ → Option TextFault
+text_fault p Text text = empty_fault p text
+text_fault p (UrlPart slot) text = segment_fault slot text
+text_fault p Link text = if is_link text then None else Some NotALink
 
--- the first fault of the texts from this number on, slot by slot
-abbrev pub fill_fault : ℕ → List Chunk → List (List ℕ) → Option FillFault
-fill_fault number [] [] = None
-fill_fault number [] (text ∷ texts) = Some WrongCount
-fill_fault number (Markup bytes ∷ chunks) texts = fill_fault number chunks texts
-fill_fault number (Slot p kind ∷ chunks) [] = Some WrongCount
-fill_fault number (Slot p kind ∷ chunks) (text ∷ texts) =
-    option_or (text_fault number p kind text) (fill_fault (number + 1) chunks texts)
+-- ---- all of them
+
+-- the fault of each text in its slot, as far as there are both
+abbrev pub text_faults : List Chunk → List (List ℕ) → List (Option TextFault)
+text_faults [] texts = []
+text_faults (Markup bytes ∷ chunks) texts = text_faults chunks texts
+text_faults (Slot p kind ∷ chunks) [] = []
+text_faults (Slot p kind ∷ chunks) (text ∷ texts) = text_fault p kind text ∷ text_faults chunks texts
+
+-- a slot is left without a text, or a text without a slot
+abbrev pub count_fault : List Chunk → List (List ℕ) → Option FillFault
+count_fault [] [] = None
+count_fault [] (text ∷ texts) = Some WrongCount
+count_fault (Markup bytes ∷ chunks) texts = count_fault chunks texts
+count_fault (Slot p kind ∷ chunks) [] = Some WrongCount
+count_fault (Slot p kind ∷ chunks) (text ∷ texts) = count_fault chunks texts
+
+-- the first fault of the texts, of which the first has this number, and then that of their count
+abbrev pub fill_from : ℕ → List Chunk → List (List ℕ) → Option FillFault
+fill_from number chunks texts = option_or (first_from fill.Text number (text_faults chunks texts)) (count_fault chunks texts)
+
+abbrev pub fill_fault : List Chunk → List (List ℕ) → Option FillFault
+fill_fault chunks texts = fill_from 0 chunks texts
+
+-- ---- before there are texts
 
 -- how many slots there are
 abbrev pub slot_count : List Chunk → ℕ
@@ -60,6 +83,8 @@ abbrev pub has_checked : List Chunk → Bool
 has_checked [] = false
 has_checked (Markup bytes ∷ chunks) = has_checked chunks
 has_checked (Slot p kind ∷ chunks) = if is_checked p kind then true else has_checked chunks
+
+-- ---- the answer
 
 -- the first fault is answered, and where there is none no other one but Memory
 abbrev pub AnswersFill : {T : Type 0} → Option FillFault → Result T FillFault → Type 0

@@ -4,7 +4,7 @@ use Rattle.std.specs.List.{AllByRecursion}
 use Rattle.std.specs.Str.{IsUtf8}
 use Rattle.html_template.specs.declared.parts.SlotKind.{SlotKind}
 use Rattle.html_template.specs.declared.parts.SlotKind.TheVariants as kind
-use Rattle.html_template.specs.PageUrls.{urls_of}
+use Rattle.html_template.specs.PageUrls.{urls_of, whole_urls}
 use Rattle.html_template.specs.TemplateFaults.{placed}
 use Rattle.html_template.specs.Templates as template
 use Rattle.html_template.specs.Templates.{Chunk, Fill, Markup, Slot, after_slot, page}
@@ -55,10 +55,19 @@ FillUrls (Parts parts ∷ urls) texts = FillUrl parts (take (slots_in parts) tex
 FillUrls (Whole ∷ urls) [] = ⊥
 FillUrls (Whole ∷ urls) (text ∷ texts) = (is_link text ≡ true) × FillUrls urls texts
 
--- the URLs of the page of these texts are these, filled by the texts of its slots in URLs
+-- of the texts those that are whole URLs
+abbrev pub whole_texts : List TemplateUrl → List (List ℕ) → List (List ℕ)
+whole_texts [] texts = []
+whole_texts (Fixed url ∷ urls) texts = whole_texts urls texts
+whole_texts (Parts parts ∷ urls) texts = whole_texts urls (drop (slots_in parts) texts)
+whole_texts (Whole ∷ urls) [] = whole_texts urls []
+whole_texts (Whole ∷ urls) (text ∷ texts) = text ∷ whole_texts urls texts
+
+-- the URLs of the page of these texts are these, filled by the texts of its slots in URLs; the whole ones are those of its links
 pub record AreFilled (urls : List TemplateUrl) (chunks : List Chunk) (texts : List (List ℕ)) : Type 0 where
   pub same : urls_of (page chunks texts) ≡ filled_urls urls (url_texts chunks texts)
   pub full : FillUrls urls (url_texts chunks texts)
+  pub whole : whole_urls chunks texts ≡ whole_texts urls (url_texts chunks texts)
 
 -- ---- the URLs of a template, as the tokenizer reads them
 

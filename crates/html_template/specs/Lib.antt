@@ -1,10 +1,10 @@
+pub mod FirstFault
 pub mod Encoders
 pub mod Slots
 pub mod Templates
 pub mod OpenUrls
 pub mod TemplateFaults
 pub mod FillFaults
-pub mod EachFault
 pub mod Structure
 pub mod TemplatePieces
 pub mod Walks

@@ -1,7 +1,9 @@
 -- The pieces of a template's parts, and what keeps parts from being a template.
-use Rattle.std.specs.Prelude.{◌≡◌, ⊤, ℕ, ◌+◌, Bool, if◌then◌else◌, List, [], ◌∷◌, Result, Ok, Err, true, false}
+use Rattle.std.specs.Prelude.{◌≡◌, ⊤, ℕ, ◌+◌, ◌-◌, Bool, if◌then◌else◌, List, [], ◌∷◌, Result, Ok, Err, true, false}
 use Rattle.html_template.specs.declared.faults.TemplateFault.{TemplateFault}
-use Rattle.html_template.specs.declared.faults.TemplateFault.TheVariants.{Malformed, NoPlace, Forbidden, Unfinished, Memory}
+use Rattle.html_template.specs.declared.faults.TemplateFault.TheVariants.{Part, Unfinished, Memory}
+use Rattle.html_template.specs.declared.faults.PartFault.{PartFault}
+use Rattle.html_template.specs.declared.faults.PartFault.TheVariants.{Malformed, NoPlace, Forbidden, NotPlain}
 use Rattle.html_template.specs.declared.open_url.OpenUrl.{OpenUrl}
 use Rattle.html_template.specs.declared.open_url.OpenUrl.TheVariants.{Outside}
 use Rattle.html_template.specs.declared.parts.SlotKind.TheVariants as kind
@@ -23,13 +25,18 @@ pub record Walk : Type 0 where
 abbrev pub at_beginning : Walk
 at_beginning = record { tokenizer = data_state; markup = []; url = Outside }
 
--- a slot that is this part, by where it stands
-abbrev pub slot_at : ℕ → List ℕ → OpenUrl → Standing → Result PlacedSlot TemplateFault
-slot_at number markup url (Stands p) = Ok (record { place = p; kind = kind.Text; url = Outside })
-slot_at number markup url (InUrl p) = url_slot number p false markup url
-slot_at number markup url (InLink p) = url_slot number p true markup url
-slot_at number markup url Barred = Err (Forbidden number)
-slot_at number markup url Nowhere = Err (NoPlace number)
+-- a slot behind this markup, by where it stands
+abbrev pub slot_at : List ℕ → OpenUrl → Standing → Result PlacedSlot PartFault
+slot_at markup url (Stands p) = Ok (record { place = p; kind = kind.Text; url = Outside })
+slot_at markup url (InUrl p) = url_slot p false markup url
+slot_at markup url (InLink p) = url_slot p true markup url
+slot_at markup url Barred = Err Forbidden
+slot_at markup url Nowhere = Err NoPlace
+
+-- the part that the fault of a slot is of: markup that is not plain is that before the slot
+abbrev pub faulty_part : ℕ → PartFault → ℕ
+faulty_part slot NotPlain = slot - 1
+faulty_part slot why = slot
 
 -- the pieces of a template, or the first fault
 abbrev pub Told : Type 0
@@ -40,10 +47,10 @@ abbrev pub put : Chunk → Told → Told
 put chunk (Ok chunks) = Ok (chunk ∷ chunks)
 put chunk (Err fault) = Err fault
 
--- goes on, unless there is a fault
-abbrev pub told_of : {T : Type 0} → Result T TemplateFault → (T → Told) → Told
-told_of (Ok found) go_on = go_on found
-told_of (Err fault) go_on = Err fault
+-- goes on, unless there is a fault, which is of this part
+abbrev pub told_of : {T : Type 0} → (PartFault → ℕ) → Result T PartFault → (T → Told) → Told
+told_of part (Ok found) go_on = go_on found
+told_of part (Err why) go_on = Err (Part (part why) why)
 
 abbrev pub behind_markup : Walk → List ℕ → OpenUrl → Walk
 behind_markup walk bytes url = record { tokenizer = state_after walk.tokenizer bytes; markup = bytes; url = url }
@@ -55,10 +62,10 @@ behind_slot walk slot = record { tokenizer = after_slot slot.place slot.kind wal
 abbrev pub pieces_from : ℕ → Walk → List Given → Told
 pieces_from number walk [] = if may_end walk.tokenizer then Ok [] else Err Unfinished
 pieces_from number walk (GivenMarkup bytes ∷ parts) =
-    if is_refused (state_after walk.tokenizer bytes).state then Err (Malformed number)
-    else told_of (url_markup number walk.url bytes) (λ url. put (Markup bytes) (pieces_from (number + 1) (behind_markup walk bytes url) parts))
+    if is_refused (state_after walk.tokenizer bytes).state then Err (Part number Malformed)
+    else told_of (λ why. number) (url_markup walk.url bytes) (λ url. put (Markup bytes) (pieces_from (number + 1) (behind_markup walk bytes url) parts))
 pieces_from number walk (GivenSlot ∷ parts) =
-    told_of (slot_at number walk.markup walk.url (standing walk.tokenizer))
+    told_of (faulty_part number) (slot_at walk.markup walk.url (standing walk.tokenizer))
     (λ slot. put (Slot slot.place slot.kind) (pieces_from (number + 1) (behind_slot walk slot) parts))
 
 -- the pieces of the parts
@@ -103,3 +110,11 @@ TakesMore number chunks walk part new_chunks new_walk (Ok done) =
 TakesMore number chunks walk part new_chunks new_walk (Err Memory) = ⊤
 TakesMore number chunks walk part new_chunks new_walk (Err other) =
     (parts : List Given) → told_behind chunks number walk (part ∷ parts) ≡ Err other
+
+-- ---- the answer
+
+-- what is told is answered; memory may run out before
+abbrev pub Answers : {T U : Type 0} → (T → U) → Result U TemplateFault → Result T TemplateFault → Type 0
+Answers meaning told (Ok found) = told ≡ Ok (meaning found)
+Answers meaning told (Err Memory) = ⊤
+Answers meaning told (Err other) = told ≡ Err other

@@ -2,26 +2,33 @@
 use std::alloc::AllocError;
 use std::io;
 
-/// Why parts are no template. Parts are counted from 0, and the first fault is answered.
+/// Why a part is refused.
+#[derive(Clone, Copy, Debug, PartialEq, Eq)]
+pub enum PartFault {
+    /// Markup that the grammar does not read.
+    Malformed,
+    /// A slot where no text may stand, as in a tag's name or a script's code.
+    NoPlace,
+    /// A slot whose text would be read in a second language, as in `onclick`.
+    Forbidden,
+    /// Markup of a URL that holds a slot, and in that URL it has white space, a control, a `\`, or a
+    /// reference other than `&amp;`; or it ends in a `%`, or in one and a hexadecimal digit, before a slot.
+    NotPlain,
+    /// A slot where the scheme or the host of a URL is still open, or in a URL with another scheme than
+    /// `http`, `https` and `mailto`; or the part before it is not the URL's beginning.
+    NotFixed,
+    /// A segment of a URL's path ends in the part, or a slot stands in one, that with some text may read
+    /// as `.` or `..`: it has no other bytes than those of dots.
+    DotSegment,
+    /// The part goes on with a URL that a slot began. Such a slot is the whole URL.
+    AfterLink,
+}
+
+/// Why parts are no template.
 #[derive(Clone, Copy, Debug, PartialEq, Eq)]
 pub enum TemplateFault {
-    /// This part has markup that the grammar does not read.
-    Malformed(usize),
-    /// This part is a slot where no text may stand, as in a tag's name or a script's code.
-    NoPlace(usize),
-    /// This part is a slot whose text would be read in a second language, as in `onclick`.
-    Forbidden(usize),
-    /// This part is markup of a URL that holds a slot, and in that URL it has white space, a control, a
-    /// `\`, or a reference other than `&amp;`; or it ends in a `%`, or in one and a byte, before a slot.
-    NotPlain(usize),
-    /// This part is a slot where the scheme or the host of a URL is still open, or in a URL with another
-    /// scheme than `http`, `https` and `mailto`; or the part before it is not the URL's beginning.
-    NotFixed(usize),
-    /// In this part a segment of a URL's path ends, or a slot stands in one, that with some text may
-    /// read as `.` or `..`: it has no other bytes than those of dots.
-    DotSegment(usize),
-    /// This part goes on with a URL that a slot began. Such a slot is the whole URL.
-    AfterLink(usize),
+    /// The first part that is refused, counted from 0, and why.
+    Part(usize, PartFault),
     /// The parts end within a tag, a reference, or an element whose content is read its own way.
     Unfinished,
     /// A growth was refused.
@@ -39,19 +46,26 @@ impl From<AllocError> for TemplateFault {
     }
 }
 
-/// Why texts do not fill a template. Texts are counted from 0.
+/// Why a text does not fill its slot.
+#[derive(Clone, Copy, Debug, PartialEq, Eq)]
+pub enum TextFault {
+    /// It is for a value without quotes, and empty.
+    EmptyUnquoted,
+    /// It is for a segment of a URL's path that begins with it, and empty.
+    EmptySegment,
+    /// It is for such a segment, and `.` or `..`, which no encoding keeps from having its meaning.
+    DotSegment,
+    /// It is for a whole URL, and its scheme is none of `http`, `https` and `mailto`.
+    NotALink,
+}
+
+/// Why texts do not fill a template.
 #[derive(Clone, Copy, Debug, PartialEq, Eq)]
 pub enum FillFault {
     /// There is not one text for each slot.
     WrongCount,
-    /// This text is for a value without quotes, and empty.
-    EmptyUnquoted(usize),
-    /// This text is for a segment of a URL's path that begins with it, and empty.
-    EmptySegment(usize),
-    /// This text is for such a segment, and `.` or `..`, which no encoding keeps from having its meaning.
-    DotSegment(usize),
-    /// This text is for a whole URL, and its scheme is none of `http`, `https` and `mailto`.
-    NotALink(usize),
+    /// The first text that does not fill its slot, counted from 0, and why.
+    Text(usize, TextFault),
     /// A growth was refused, or the length would pass the greatest `usize`.
     Memory,
 }

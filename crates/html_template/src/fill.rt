@@ -1,54 +1,49 @@
 //! Whether texts fill the slots of a template.
-ghost use Rattle.std.specs.Prelude.{◌≡◌, map, IfNone, OnOk, true};
+ghost use Rattle.std.specs.Prelude.{◌≡◌, map, OnOk};
 ghost use Rattle.std.specs.List.{AllByRecursion};
 ghost use Rattle.std.specs.Result.{result_err};
 ghost use Rattle.std.specs.Str.{IsUtf8};
 ghost use Rattle.html_template.specs.FillFaults.{empty_fault, fill_fault, has_checked, is_checked, segment_fault, slot_count, text_fault};
-ghost use Rattle.html_template.specs.Slots.{FitsPlace};
-ghost use Rattle.html_template.specs.Templates.{Fill, MayFill, chunk_of};
-ghost use Rattle.html_urls.specs.Slots as urls;
+ghost use Rattle.html_template.specs.Templates.{Fill, chunk_of};
 
-use crate::faults::FillFault;
+use crate::faults::{FillFault, TextFault};
 use crate::parts::SlotKind;
 use crate::stored::{Stored, StoredSlot};
 use crate::texts::Texts;
 use html_tokenizer::SlotPlace;
 use html_urls::{UrlSlot, is_link, may_fill};
 
-fn empty_fault(number: usize, place: SlotPlace, text: &str) -> Option<FillFault>
-    ensures fault { result ≡ empty_fault number place text.now }
-    ensures fits { IfNone result (FitsPlace place text.now) }
+fn empty_fault(place: SlotPlace, text: &str) -> Option<TextFault>
+    ensures { result ≡ empty_fault place text.now }
 {
     if place == SlotPlace::Unquoted && text.is_empty() {
-        Some(FillFault::EmptyUnquoted(number))
+        Some(TextFault::EmptyUnquoted)
     } else {
         None
     }
 }
 
-fn segment_fault(number: usize, slot: UrlSlot, text: &str) -> Option<FillFault>
-    ensures fault { result ≡ segment_fault number slot text.now }
-    ensures fits { IfNone result (urls.may_fill slot text.now ≡ true) }
+fn segment_fault(slot: UrlSlot, text: &str) -> Option<TextFault>
+    ensures { result ≡ segment_fault slot text.now }
 {
     if may_fill(slot, text) {
         None
     } else if text.is_empty() {
-        Some(FillFault::EmptySegment(number))
+        Some(TextFault::EmptySegment)
     } else {
-        Some(FillFault::DotSegment(number))
+        Some(TextFault::DotSegment)
     }
 }
 
-// The fault of the text of this number in the slot.
-fn text_fault(number: usize, slot: &StoredSlot, text: &str) -> Option<FillFault>
-    ensures fault { result ≡ text_fault number slot.now.place slot.now.kind text.now }
-    ensures fits { IfNone result (MayFill slot.now.place slot.now.kind text.now) }
+// The fault of the text in the slot.
+fn text_fault(slot: &StoredSlot, text: &str) -> Option<TextFault>
+    ensures { result ≡ text_fault slot.now.place slot.now.kind text.now }
 {
     match slot.kind {
-        SlotKind::Text => empty_fault(number, slot.place, text),
-        SlotKind::UrlPart(url_slot) => segment_fault(number, url_slot, text),
+        SlotKind::Text => empty_fault(slot.place, text),
+        SlotKind::UrlPart(url_slot) => segment_fault(url_slot, text),
         SlotKind::Link if is_link(text) => None,
-        SlotKind::Link => Some(FillFault::NotALink(number)),
+        SlotKind::Link => Some(TextFault::NotALink),
     }
 }
 
@@ -103,6 +98,7 @@ impl Summary {
 
 /// Whether the texts fill the slots of these pieces.
 #[inline(always)]
+#[tactic(auto, using(crate::proofs::FillFaults::ok_fills))]
 pub(crate) fn check<T: Texts>(
     pieces: &[Stored],
     summary: Summary,
@@ -110,10 +106,9 @@ pub(crate) fn check<T: Texts>(
 ) -> Result<(), FillFault>
     requires slots { summary.slots ≡ slot_count (map chunk_of pieces.now) }
     requires checked { summary.has_checked ≡ has_checked (map chunk_of pieces.now) }
+    ensures faults { result_err result ≡ fill_fault (map chunk_of pieces.now) (T.list texts.now) }
     ensures full { OnOk result (Fill (map chunk_of pieces.now) (T.list texts.now)) }
     ensures utf8 { OnOk result (AllByRecursion IsUtf8 (T.list texts.now)) }
-    ensures faults { result_err result
-        ≡ fill_fault 0 (map chunk_of pieces.now) (T.list texts.now) }
 {
     // For the proof alone that all are UTF-8: no code is left of a sum that no one reads.
     let _length = total_length(texts);
@@ -147,9 +142,7 @@ fn length_of(text: &str) -> usize
 
 // Whether the texts fill the slots, slot by slot.
 fn check_each<T: Texts>(pieces: &[Stored], texts: &T) -> Result<(), FillFault>
-    ensures full { OnOk result (Fill (map chunk_of pieces.now) (T.list texts.now)) }
-    ensures faults { result_err result
-        ≡ fill_fault 0 (map chunk_of pieces.now) (T.list texts.now) }
+    ensures { result_err result ≡ fill_fault (map chunk_of pieces.now) (T.list texts.now) }
 {
     let mut rest = pieces;
     let mut left = *texts;
@@ -161,8 +154,8 @@ fn check_each<T: Texts>(pieces: &[Stored], texts: &T) -> Result<(), FillFault>
         let Some((text, more)) = left.take_first() else {
             return Err(FillFault::WrongCount);
         };
-        if let Some(fault) = text_fault(texts.count() - left.count(), slot, text) {
-            return Err(fault);
+        if let Some(why) = text_fault(slot, text) {
+            return Err(FillFault::Text(texts.count() - left.count(), why));
         }
         left = more;
     }

@@ -1,14 +1,24 @@
 //! The laws of templates. They speak of pages as contracts do: `IsPageOf parts texts page` says that the
 //! page is that of a template of these parts, filled by these texts.
-ghost use Rattle.std.specs.Prelude.{◌≡◌, ◌++◌, ℕ, List, [], true};
+ghost use Rattle.std.specs.Prelude.{◌≡◌, ◌↔◌, ◌++◌, ℕ, IsErrOf, List, None, Result, Some, [], true};
+ghost use Rattle.html_template.specs.FirstFault.{AreNone, IsFirst};
 ghost use Rattle.html_tokenizer.specs.Tokenizer.States.{data_state};
 ghost use Rattle.html_tokenizer.specs.Tokenizer.Tokenization.{actions_of};
 ghost use Rattle.html_tokenizer.specs.Tokens.{skeleton, tokens};
-ghost use Rattle.html_template.specs.FilledUrls.{FillUrls, HasUrls, filled_urls, template_urls, url_texts};
-ghost use Rattle.html_template.specs.PageUrls.{AllAlike, urls_of, whole_urls};
+ghost use Rattle.html_template.specs.FillFaults.{AnswersFill, count_fault, fill_fault, text_fault, text_faults};
+ghost use Rattle.html_template.specs.FilledUrls.{FillUrls, HasUrls, HasUrlsOf, filled_urls, template_urls, url_texts};
+ghost use Rattle.html_template.specs.PageUrls.{AllAlike, LeadsAsAny, urls_of, whole_urls};
 ghost use Rattle.html_template.specs.Structure.{IsPageOf, IsReadAs, structure};
 ghost use Rattle.html_template.specs.TemplateFaults.{is_template, placed};
-ghost use Rattle.html_template.specs.Templates.{Given};
+ghost use Rattle.html_template.specs.Templates.{Chunk, Fill, Given, MayFill};
+ghost use Rattle.html_template.specs.Writing.{AnswersWriting};
+ghost use Rattle.html_template.specs.declared.faults.FillFault.{FillFault};
+ghost use Rattle.html_template.specs.declared.faults.FillFault.TheVariants.{Text, WrongCount};
+ghost use Rattle.html_template.specs.declared.faults.TextFault.{TextFault};
+ghost use Rattle.html_template.specs.declared.faults.WriteFault.{WriteFault};
+ghost use Rattle.html_template.specs.declared.faults.WriteFault.TheVariants.{Texts};
+ghost use Rattle.html_template.specs.declared.parts.SlotKind.{SlotKind};
+ghost use Rattle.html_tokenizer.specs.declared.slot_place.SlotPlace.{SlotPlace};
 
 pub use html_tokenizer::laws::agreement_law;
 
@@ -57,12 +67,16 @@ pub fn token_law()
 ///
 /// For instance `<a href="/?q=`, a slot and `&amp;p=1">` has for `a` and for `b&p=2` the URLs
 /// `/?q=a&p=1` and `/?q=b%26p%3D2&p=1`: both have two strings.
-#[tactic(auto, using(crate::proofs::Pages::same_urls))]
+///
+/// So it is of pieces by what `append` says of them, `HasUrlsOf`.
+#[tactic(auto, using(crate::proofs::Pages::same_urls, crate::proofs::PageUrls::Law::leads_as_any))]
 pub fn url_law()
-    ensures { (parts : List Given) (texts others : List (List ℕ)) (first second : List ℕ)
+    ensures pages { (parts : List Given) (texts others : List (List ℕ)) (first second : List ℕ)
         → IsPageOf parts texts first → IsPageOf parts others second
         → AllAlike (whole_urls (placed parts) texts) (whole_urls (placed parts) others)
         (urls_of first) (urls_of second) }
+    ensures pieces { (pieces : List Chunk) (texts : List (List ℕ)) → HasUrlsOf pieces texts
+        → LeadsAsAny pieces texts }
 {}
 
 /// The URLs of a page, as the tokenizer reads them, are those of its template, `template_urls parts`,
@@ -108,4 +122,31 @@ pub fn pages_law()
     ensures urls { (parts : List Given) (texts : List (List ℕ)) (front following : List ℕ)
         → IsPageOf parts texts front
         → urls_of (front ++ following) ≡ urls_of front ++ urls_of following }
+{}
+
+/// The fault of a text is answered exactly where it is the first: `text_faults` is the fault of each text in
+/// its slot, in order. `WrongCount` is answered where no text has one, and a slot or a text is left over.
+/// There is none exactly where the texts fill the template, and a text has none exactly where it may fill
+/// its slot.
+///
+/// For instance of `<p title=`, a slot and `>`, the empty text has the fault `Text(0, EmptyUnquoted)`.
+pub fn fill_faults_law()
+    ensures answered { (chunks : List Chunk) (texts : List (List ℕ)) (result : Result (Unit {0}) FillFault)
+        (number : ℕ) (why : TextFault) → AnswersFill (fill_fault chunks texts) result
+        → IsErrOf result (Text number why) ↔ IsFirst number why (text_faults chunks texts) }
+    ensures written { (chunks : List Chunk) (texts : List (List ℕ))
+        (result : Result (Unit {0}) (WriteFault FillFault)) (number : ℕ) (why : TextFault)
+        → AnswersWriting (fill_fault chunks texts) result
+        → IsErrOf result (Texts (Text number why)) ↔ IsFirst number why (text_faults chunks texts) }
+    ensures count { (chunks : List Chunk) (texts : List (List ℕ)) (result : Result (Unit {0}) FillFault)
+        → AnswersFill (fill_fault chunks texts) result → IsErrOf result WrongCount
+        ↔ (AreNone (text_faults chunks texts) × (count_fault chunks texts ≡ Some WrongCount)) }
+    ensures written_count { (chunks : List Chunk) (texts : List (List ℕ))
+        (result : Result (Unit {0}) (WriteFault FillFault))
+        → AnswersWriting (fill_fault chunks texts) result → IsErrOf result (Texts WrongCount)
+        ↔ (AreNone (text_faults chunks texts) × (count_fault chunks texts ≡ Some WrongCount)) }
+    ensures none { (chunks : List Chunk) (texts : List (List ℕ))
+        → (fill_fault chunks texts ≡ None) ↔ Fill chunks texts }
+    ensures fits { (place : SlotPlace) (kind : SlotKind) (text : List ℕ)
+        → (text_fault place kind text ≡ None) ↔ MayFill place kind text }
 {}

@@ -18,10 +18,11 @@ mod template;
 mod texts;
 mod walk;
 
-pub use crate::faults::{FillFault, TemplateFault, WriteFault};
-pub use crate::open_url::{OpenUrl, PlacedSlot};
+pub use crate::faults::{FillFault, PartFault, TemplateFault, TextFault, WriteFault};
+pub use crate::open_url::{OpenUrl, PlacedSlot, url_markup};
 pub use crate::parts::{Part, SlotKind};
 pub use crate::template::Template;
 pub use crate::texts::Texts;
+pub use crate::walk::placed;
 pub use html_tokenizer::{Code, Content, SlotPlace};
 pub use html_urls::{OpenPart, UrlPlace, UrlSlot};

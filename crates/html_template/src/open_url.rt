@@ -1,16 +1,16 @@
 //! URLs that hold slots: what is open of one, and what a slot and markup are in it.
 pub(crate) mod markup;
 
-ghost use Rattle.std.specs.Prelude.{◌≡◌, option_map};
-ghost use Rattle.html_template.specs.OpenUrls.{Answers, behind_link, first_slot, in_part, opens_escape, url_end, url_markup, url_slot, whole_slot};
+ghost use Rattle.std.specs.Prelude.{◌≡◌, IfOk, option_map};
+ghost use Rattle.html_template.specs.OpenUrls.{behind_link, first_slot, in_part, url_end, url_markup, url_slot, whole_slot};
 ghost use Rattle.html_template.specs.Slots.{is_quoted};
 
-use crate::faults::TemplateFault;
+use crate::faults::PartFault;
 use crate::open_url::markup::{after_last, ends_value, plain_text, value_length};
 use crate::parts::SlotKind;
 use html_tokenizer::SlotPlace;
 use html_urls::{OpenPart, after_markup, after_text, may_be_dots, open_of, slot_at};
-use std::alloc::Allocator;
+use std::alloc::{AllocError, Allocator};
 
 /// What is open of a URL that holds a slot.
 #[derive(Clone, Copy, Debug, PartialEq, Eq)]
@@ -38,18 +38,14 @@ fn is_quoted(place: SlotPlace) -> bool
 }
 
 // A slot where this part of a URL is open.
-fn in_part(
-    number: usize,
-    place: SlotPlace,
-    open_part: Option<OpenPart>,
-) -> Result<PlacedSlot, TemplateFault>
-    ensures { Answers (λ slot. slot) (in_part number place open_part) result }
+fn in_part(place: SlotPlace, open_part: Option<OpenPart>) -> Result<PlacedSlot, PartFault>
+    ensures { result ≡ in_part place open_part }
 {
     let Some(open_part) = open_part else {
-        return Err(TemplateFault::NotFixed(number));
+        return Err(PartFault::NotFixed);
     };
     let Some(slot) = slot_at(open_part) else {
-        return Err(TemplateFault::DotSegment(number));
+        return Err(PartFault::DotSegment);
     };
     Ok(PlacedSlot {
         place,
@@ -59,15 +55,11 @@ fn in_part(
 }
 
 // A slot that is a whole URL, if it stands in quotes and its element only shows or follows it.
-fn whole_slot(
-    number: usize,
-    place: SlotPlace,
-    is_followed: bool,
-) -> Result<PlacedSlot, TemplateFault>
-    ensures { Answers (λ slot. slot) (whole_slot number place is_followed) result }
+fn whole_slot(place: SlotPlace, is_followed: bool) -> Result<PlacedSlot, PartFault>
+    ensures { result ≡ whole_slot place is_followed }
 {
     if !is_followed || !is_quoted(place) {
-        return Err(TemplateFault::NotFixed(number));
+        return Err(PartFault::NotFixed);
     }
     Ok(PlacedSlot {
         place,
@@ -80,111 +72,87 @@ fn whole_slot(
 #[tactic(auto, using(crate::proofs::Walks::some_front))]
 fn first_slot<A: Allocator>(
     alloc: A,
-    number: usize,
     place: SlotPlace,
     is_followed: bool,
     markup: Option<&[u8]>,
-) -> Result<PlacedSlot, TemplateFault>
-    ensures { Answers (λ slot. slot)
-        (first_slot number place is_followed (option_map (λ bytes. bytes.now) markup.entry)) result }
+) -> Result<Result<PlacedSlot, PartFault>, AllocError>
+    ensures { IfOk result (λ slot. slot
+        ≡ first_slot place is_followed (option_map (λ bytes. bytes.now) markup.entry)) }
 {
     match markup {
-        None => Err(TemplateFault::NotFixed(number)),
-        Some([]) => whole_slot(number, place, is_followed),
+        None => Ok(Err(PartFault::NotFixed)),
+        Some([]) => Ok(whole_slot(place, is_followed)),
         Some(markup) => match plain_text(alloc, markup, false)? {
-            None => Err(TemplateFault::NotPlain(number.saturating_sub(1))),
-            Some(text) => in_part(number, place, open_of(text.as_bytes())),
+            None => Ok(Err(PartFault::NotPlain)),
+            Some(text) => Ok(in_part(place, open_of(text.as_bytes()))),
         },
     }
 }
 
-// Whether a text behind the markup would make an escape of its last bytes.
-fn opens_escape(markup: &[u8]) -> bool
-    ensures { result ≡ opens_escape markup.now }
-{
-    match markup {
-        [.., b'%'] | [.., b'%', _] => true,
-        _ => false,
-    }
-}
-
-/// A slot in a URL, where this is the part before it.
-pub(crate) fn url_slot<A: Allocator>(
+/// A slot in a URL, where this is the part before it. It is the markup before that is not plain.
+pub fn url_slot<A: Allocator>(
     alloc: A,
-    number: usize,
     place: SlotPlace,
     is_followed: bool,
     markup: &[u8],
     url: OpenUrl,
-) -> Result<PlacedSlot, TemplateFault>
-    ensures { Answers (λ slot. slot) (url_slot number place is_followed markup.now url) result }
+) -> Result<Result<PlacedSlot, PartFault>, AllocError>
+    ensures { IfOk result (λ slot. slot ≡ url_slot place is_followed markup.now url) }
 {
-    if opens_escape(markup) {
-        return Err(TemplateFault::NotPlain(number.saturating_sub(1)));
-    }
     match url {
         OpenUrl::Outside => {
             let front = after_last(place, markup);
-            first_slot(alloc, number, place, is_followed, front)
+            first_slot(alloc, place, is_followed, front)
         }
-        OpenUrl::Within(_, open_part) => in_part(number, place, Some(open_part)),
-        OpenUrl::Whole(_) => Err(TemplateFault::AfterLink(number)),
+        OpenUrl::Within(_, open_part) => Ok(in_part(place, Some(open_part))),
+        OpenUrl::Whole(_) => Ok(Err(PartFault::AfterLink)),
     }
 }
 
 // At the end of the value, or of the markup before.
-fn url_end(
-    number: usize,
-    place: SlotPlace,
-    is_ended: bool,
-    open_part: OpenPart,
-) -> Result<OpenUrl, TemplateFault>
-    ensures { Answers (λ url. url) (url_end number place is_ended open_part) result }
+fn url_end(place: SlotPlace, is_ended: bool, open_part: OpenPart) -> Result<OpenUrl, PartFault>
+    ensures { result ≡ url_end place is_ended open_part }
 {
     if !is_ended {
         Ok(OpenUrl::Within(place, open_part))
     } else if may_be_dots(open_part) {
-        Err(TemplateFault::DotSegment(number))
+        Err(PartFault::DotSegment)
     } else {
         Ok(OpenUrl::Outside)
     }
 }
 
 // Behind a slot that is a whole URL.
-fn behind_link(number: usize, place: SlotPlace, markup: &[u8]) -> Result<OpenUrl, TemplateFault>
-    ensures { Answers (λ url. url) (behind_link number place markup.now) result }
+fn behind_link(place: SlotPlace, markup: &[u8]) -> Result<OpenUrl, PartFault>
+    ensures { result ≡ behind_link place markup.now }
 {
     match markup {
         [] => Ok(OpenUrl::Whole(place)),
         [byte, ..] if ends_value(place, *byte) => Ok(OpenUrl::Outside),
-        _ => Err(TemplateFault::AfterLink(number)),
+        _ => Err(PartFault::AfterLink),
     }
 }
 
 /// What is open after markup.
-pub(crate) fn url_markup<A: Allocator>(
+pub fn url_markup<A: Allocator>(
     alloc: A,
-    number: usize,
     url: OpenUrl,
     markup: &[u8],
-) -> Result<OpenUrl, TemplateFault>
-    ensures { Answers (λ url. url) (url_markup number url markup.now) result }
+) -> Result<Result<OpenUrl, PartFault>, AllocError>
+    ensures { IfOk result (λ opened. opened ≡ url_markup url markup.now) }
 {
     let (place, open_part) = match url {
-        OpenUrl::Outside => return Ok(OpenUrl::Outside),
-        OpenUrl::Whole(place) => return behind_link(number, place, markup),
+        OpenUrl::Outside => return Ok(Ok(OpenUrl::Outside)),
+        OpenUrl::Whole(place) => return Ok(behind_link(place, markup)),
         OpenUrl::Within(place, open_part) => (place, open_part),
     };
     let end = value_length(place, markup);
     let is_ended = end < markup.len();
-    if !is_ended && opens_escape(markup) {
-        return Err(TemplateFault::NotPlain(number));
-    }
     let Some(text) = plain_text(alloc, &markup[..end], is_ended)? else {
-        return Err(TemplateFault::NotPlain(number));
+        return Ok(Err(PartFault::NotPlain));
     };
     match after_markup(open_part, text.as_bytes()) {
-        None => Err(TemplateFault::DotSegment(number)),
-        Some(open_part) => url_end(number, place, is_ended, open_part),
+        None => Ok(Err(PartFault::DotSegment)),
+        Some(open_part) => Ok(url_end(place, is_ended, open_part)),
     }
 }

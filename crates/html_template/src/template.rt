@@ -1,21 +1,18 @@
 //! Templates.
-ghost use Rattle.std.specs.Prelude.{◌≡◌, ◌≢◌, ◌++◌, ◌∷◌, [], ◌≤◌, ℕ, List, None, IfErr, IfOk, IsErrOf, IsOk, Ok, OnErr, OnOk, length, map};
+ghost use Rattle.std.specs.Prelude.{◌≡◌, ◌≢◌, ◌++◌, ◌∷◌, [], ◌≤◌, ℕ, List, None, IfErr, IfOk, IsOk, Ok, OnErr, OnOk, length, map};
 ghost use Rattle.std.specs.Io.KnownBytes.{Appends};
 ghost use Rattle.std.specs.String.{string_bytes};
 ghost use Rattle.hesc_specs.specs.Text.Beginning.{AppendsBeginning};
 ghost use Rattle.hesc_engine.specs.Forms.{Appended, string_room};
-ghost use Rattle.html_template.specs.EachFault.{AnswersEach};
 ghost use Rattle.html_template.specs.FillFaults.{AnswersFill, fill_fault, has_checked, slot_count};
 ghost use Rattle.html_tokenizer.specs.Tokenizer.States.{data_state};
 ghost use Rattle.html_template.specs.Structure.{IsPageOf, IsReadAs, JoinsWritten};
 ghost use Rattle.html_template.specs.Walks.{walk_of};
 ghost use Rattle.html_template.specs.Writing.{AnswersWriting};
 ghost use Rattle.html_template.specs.declared.faults.TemplateFault.TheVariants.{Memory};
-ghost use Rattle.html_template.specs.declared.faults.WriteFault.TheVariants.{Texts};
-ghost use Rattle.html_template.specs.OpenUrls.{Answers};
 ghost use Rattle.html_template.specs.FilledUrls.{HasUrlsOf};
-ghost use Rattle.html_template.specs.PageUrls.{LeadsAsAny, urls_of};
-ghost use Rattle.html_template.specs.TemplateFaults.{TakesMore, placed, template_of};
+ghost use Rattle.html_template.specs.PageUrls.{urls_of};
+ghost use Rattle.html_template.specs.TemplateFaults.{Answers, TakesMore, placed, template_of};
 ghost use Rattle.html_template.specs.Templates.{
   Fill,
   Given,
@@ -56,7 +53,7 @@ impl<'a, A: Allocator + Copy> Template<'a, A> {
     /// where each part alone has none.
     ///
     /// Of `<p title="`, a slot and `">` it stands in a value in double quotes; of `<p `, a slot and `>`
-    /// the fault is `NoPlace(1)`.
+    /// the fault is `Part(1, NoPlace)`.
     #[tactic(auto, using(crate::proofs::Pieces::unfinished, crate::proofs::Pieces::all_told, crate::proofs::Pieces::is_template))]
     pub fn new(alloc: A, parts: &[Part<'a>]) -> Result<Template<'a, A>, TemplateFault>
         ensures parts { IfOk result (λ template.
@@ -94,14 +91,12 @@ impl<'a, A: Allocator + Copy> Template<'a, A> {
         ensures appended { Appended (string_bytes output.old) (string_bytes output.new)
             (page (pieces_of self.now) (texts_of texts.now)) result }
         ensures full { OnOk result (Fill (pieces_of self.now) (texts_of texts.now)) }
-        ensures faults { AnswersFill (fill_fault 0 (pieces_of self.now) (texts_of texts.now)) result }
-        ensures each { AnswersEach (pieces_of self.now) (texts_of texts.now) (IsErrOf result) }
-        ensures fits { fill_fault 0 (pieces_of self.now) (texts_of texts.now) ≡ None
+        ensures faults { AnswersFill (fill_fault (pieces_of self.now) (texts_of texts.now)) result }
+        ensures fits { fill_fault (pieces_of self.now) (texts_of texts.now) ≡ None
             → length (page (pieces_of self.now) (texts_of texts.now)) ≤ string_room output.old
             → IsOk result }
         ensures read { OnOk result (IsReadAs (pieces_of self.now) (texts_of texts.now)
             (page (pieces_of self.now) (texts_of texts.now))) }
-        ensures urls { OnOk result (LeadsAsAny (pieces_of self.now) (texts_of texts.now)) }
         ensures filled { OnOk result (HasUrlsOf (pieces_of self.now) (texts_of texts.now)) }
         ensures joins { OnOk result ((parts : List Given) (before : List (List ℕ))
             → IsPageOf parts before (string_bytes output.old)
@@ -119,7 +114,7 @@ impl<'a, A: Allocator + Copy> Template<'a, A> {
     ///
     /// Of `<p title="`, a slot and `">`, the page of `a"` is `<p title="a&quot;">`.
     #[inline(always)]
-    #[tactic(auto, using(crate::proofs::Structure::is_read_as, crate::proofs::PageUrls::Law::leads_as_any, crate::proofs::PageUrls::Law::has_urls_of, crate::proofs::Joined::urls_after, crate::proofs::EachFault::Answers::each_filled))]
+    #[tactic(auto, using(crate::proofs::Structure::is_read_as, crate::proofs::PageUrls::Law::has_urls_of, crate::proofs::Joined::urls_after))]
     pub fn append_texts<T: Texts, B: Allocator>(
         &self,
         output: &mut String<B>,
@@ -128,14 +123,12 @@ impl<'a, A: Allocator + Copy> Template<'a, A> {
         ensures appended { Appended (string_bytes output.old) (string_bytes output.new)
             (page (pieces_of self.now) (T.list texts.now)) result }
         ensures full { OnOk result (Fill (pieces_of self.now) (T.list texts.now)) }
-        ensures faults { AnswersFill (fill_fault 0 (pieces_of self.now) (T.list texts.now)) result }
-        ensures each { AnswersEach (pieces_of self.now) (T.list texts.now) (IsErrOf result) }
-        ensures fits { fill_fault 0 (pieces_of self.now) (T.list texts.now) ≡ None
+        ensures faults { AnswersFill (fill_fault (pieces_of self.now) (T.list texts.now)) result }
+        ensures fits { fill_fault (pieces_of self.now) (T.list texts.now) ≡ None
             → length (page (pieces_of self.now) (T.list texts.now)) ≤ string_room output.old
             → IsOk result }
         ensures read { OnOk result (IsReadAs (pieces_of self.now) (T.list texts.now)
             (page (pieces_of self.now) (T.list texts.now))) }
-        ensures urls { OnOk result (LeadsAsAny (pieces_of self.now) (T.list texts.now)) }
         ensures filled { OnOk result (HasUrlsOf (pieces_of self.now) (T.list texts.now)) }
         ensures joins { OnOk result ((parts : List Given) (before : List (List ℕ))
             → IsPageOf parts before (string_bytes output.old)
@@ -167,19 +160,16 @@ impl<'a, A: Allocator + Copy> Template<'a, A> {
             (page (pieces_of self.now) (texts_of texts.now))) }
         ensures began { OnErr result (AppendsBeginning (W.contents output.old)
             (W.contents output.new) (page (pieces_of self.now) (texts_of texts.now))) }
-        ensures kept { fill_fault 0 (pieces_of self.now) (texts_of texts.now) ≢ None
+        ensures kept { fill_fault (pieces_of self.now) (texts_of texts.now) ≢ None
             → output.new ≡ output.old }
         ensures full { OnOk result (Fill (pieces_of self.now) (texts_of texts.now)) }
-        ensures faults { AnswersWriting (fill_fault 0 (pieces_of self.now) (texts_of texts.now))
+        ensures faults { AnswersWriting (fill_fault (pieces_of self.now) (texts_of texts.now))
             result }
-        ensures each { AnswersEach (pieces_of self.now) (texts_of texts.now)
-            (λ fault. IsErrOf result (Texts fault)) }
-        ensures empty { fill_fault 0 (pieces_of self.now) (texts_of texts.now) ≡ None
+        ensures empty { fill_fault (pieces_of self.now) (texts_of texts.now) ≡ None
             → page (pieces_of self.now) (texts_of texts.now) ≡ [] → IsOk result }
         ensures read { OnOk result (IsReadAs (pieces_of self.now) (texts_of texts.now)
             (page (pieces_of self.now) (texts_of texts.now))) }
         ensures filled { OnOk result (HasUrlsOf (pieces_of self.now) (texts_of texts.now)) }
-        ensures urls { OnOk result (LeadsAsAny (pieces_of self.now) (texts_of texts.now)) }
         ensures joins { OnOk result (JoinsWritten (map part_of (pieces_of self.now)) (texts_of texts.now)
             (W.contents output.old) (W.contents output.new)) }
     {
@@ -190,7 +180,7 @@ impl<'a, A: Allocator + Copy> Template<'a, A> {
     ///
     /// Of `<p title="`, a slot and `">` and the text `a"` it writes `<p title="a&quot;">`.
     #[inline(always)]
-    #[tactic(auto, using(crate::proofs::Structure::is_read_as, crate::proofs::PageUrls::Law::leads_as_any, crate::proofs::PageUrls::Law::has_urls_of, crate::proofs::Joined::written_after, crate::proofs::EachFault::Answers::each_written))]
+    #[tactic(auto, using(crate::proofs::Structure::is_read_as, crate::proofs::PageUrls::Law::has_urls_of, crate::proofs::Joined::written_after))]
     pub fn append_texts_to_writer<T: Texts, W: Write>(
         &self,
         output: &mut W,
@@ -200,19 +190,16 @@ impl<'a, A: Allocator + Copy> Template<'a, A> {
             (page (pieces_of self.now) (T.list texts.now))) }
         ensures began { OnErr result (AppendsBeginning (W.contents output.old)
             (W.contents output.new) (page (pieces_of self.now) (T.list texts.now))) }
-        ensures kept { fill_fault 0 (pieces_of self.now) (T.list texts.now) ≢ None
+        ensures kept { fill_fault (pieces_of self.now) (T.list texts.now) ≢ None
             → output.new ≡ output.old }
         ensures full { OnOk result (Fill (pieces_of self.now) (T.list texts.now)) }
-        ensures faults { AnswersWriting (fill_fault 0 (pieces_of self.now) (T.list texts.now))
+        ensures faults { AnswersWriting (fill_fault (pieces_of self.now) (T.list texts.now))
             result }
-        ensures each { AnswersEach (pieces_of self.now) (T.list texts.now)
-            (λ fault. IsErrOf result (Texts fault)) }
-        ensures empty { fill_fault 0 (pieces_of self.now) (T.list texts.now) ≡ None
+        ensures empty { fill_fault (pieces_of self.now) (T.list texts.now) ≡ None
             → page (pieces_of self.now) (T.list texts.now) ≡ [] → IsOk result }
         ensures read { OnOk result (IsReadAs (pieces_of self.now) (T.list texts.now)
             (page (pieces_of self.now) (T.list texts.now))) }
         ensures filled { OnOk result (HasUrlsOf (pieces_of self.now) (T.list texts.now)) }
-        ensures urls { OnOk result (LeadsAsAny (pieces_of self.now) (T.list texts.now)) }
         ensures joins { OnOk result (JoinsWritten (map part_of (pieces_of self.now)) (T.list texts.now)
             (W.contents output.old) (W.contents output.new)) }
     {

@@ -1,16 +1,15 @@
 //! What was read of the parts of a template.
-ghost use Rattle.std.specs.Prelude.{◌≡◌};
-ghost use Rattle.html_template.specs.OpenUrls.{Answers};
-ghost use Rattle.html_template.specs.TemplateFaults.{TakesPart, at_beginning, slot_at};
+ghost use Rattle.std.specs.Prelude.{◌≡◌, IfOk};
+ghost use Rattle.html_template.specs.TemplateFaults.{TakesPart, at_beginning, faulty_part, slot_at};
 ghost use Rattle.html_template.specs.Templates.{GivenMarkup, GivenSlot, Markup, Slot};
 ghost use Rattle.html_template.specs.Walks.{walk_of};
 ghost use Rattle.html_tokenizer.specs.Standing.{may_end};
 
-use crate::faults::TemplateFault;
+use crate::faults::{PartFault, TemplateFault};
 use crate::open_url::{OpenUrl, PlacedSlot, url_markup, url_slot};
 use crate::parts::SlotKind;
 use html_tokenizer::{Reader, Standing};
-use std::alloc::Allocator;
+use std::alloc::{AllocError, Allocator};
 
 /// The tokenizer, the last part, if it is markup, and what is open of a URL that holds a slot.
 #[derive(Drop)]
@@ -21,26 +20,35 @@ pub(crate) struct Walk<'a, A: Allocator> {
     url: OpenUrl,
 }
 
-// A slot that stands so, where this is the part before it.
-fn placed<A: Allocator>(
+/// A slot that stands so, behind this markup.
+pub fn placed<A: Allocator>(
     alloc: A,
-    number: usize,
     markup: &[u8],
     url: OpenUrl,
     standing: Standing,
-) -> Result<PlacedSlot, TemplateFault>
-    ensures { Answers (λ slot. slot) (slot_at number markup.now url standing) result }
+) -> Result<Result<PlacedSlot, PartFault>, AllocError>
+    ensures { IfOk result (λ slot. slot ≡ slot_at markup.now url standing) }
 {
     match standing {
-        Standing::Stands(place) => Ok(PlacedSlot {
+        Standing::Stands(place) => Ok(Ok(PlacedSlot {
             place,
             kind: SlotKind::Text,
             url: OpenUrl::Outside,
-        }),
-        Standing::InUrl(place) => url_slot(alloc, number, place, false, markup, url),
-        Standing::InLink(place) => url_slot(alloc, number, place, true, markup, url),
-        Standing::Barred => Err(TemplateFault::Forbidden(number)),
-        Standing::Nowhere => Err(TemplateFault::NoPlace(number)),
+        })),
+        Standing::InUrl(place) => url_slot(alloc, place, false, markup, url),
+        Standing::InLink(place) => url_slot(alloc, place, true, markup, url),
+        Standing::Barred => Ok(Err(PartFault::Forbidden)),
+        Standing::Nowhere => Ok(Err(PartFault::NoPlace)),
+    }
+}
+
+// The part that the fault of a slot is of: markup that is not plain is that before the slot.
+fn faulty_part(slot: usize, why: PartFault) -> usize
+    ensures { result ≡ faulty_part slot why }
+{
+    match why {
+        PartFault::NotPlain => slot.saturating_sub(1),
+        _ => slot,
     }
 }
 
@@ -65,9 +73,12 @@ impl<'a, A: Allocator + Copy> Walk<'a, A> {
     {
         self.reader.read(text.as_bytes())?;
         if self.reader.is_refused() {
-            return Err(TemplateFault::Malformed(number));
+            return Err(TemplateFault::Part(number, PartFault::Malformed));
         }
-        self.url = url_markup(self.alloc, number, self.url, text.as_bytes())?;
+        match url_markup(self.alloc, self.url, text.as_bytes())? {
+            Ok(url) => self.url = url,
+            Err(why) => return Err(TemplateFault::Part(number, why)),
+        }
         self.markup = text;
         Ok(())
     }
@@ -79,10 +90,14 @@ impl<'a, A: Allocator + Copy> Walk<'a, A> {
     {
         let standing = self.reader.slot();
         let markup = self.markup.as_bytes();
-        let slot = placed(self.alloc, number, markup, self.url, standing)?;
-        self.markup = "";
-        self.url = slot.url;
-        Ok(slot)
+        match placed(self.alloc, markup, self.url, standing)? {
+            Ok(slot) => {
+                self.markup = "";
+                self.url = slot.url;
+                Ok(slot)
+            }
+            Err(why) => Err(TemplateFault::Part(faulty_part(number, why), why)),
+        }
     }
 
     /// Whether the parts may end here.

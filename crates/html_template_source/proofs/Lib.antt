@@ -2,8 +2,7 @@ pub mod Cuts
 pub mod SourceParts
 pub mod Numbers
 pub mod Placed
-pub mod Flaws
 pub mod FirstFaults
 pub mod Ordered
-pub mod EachFault
 pub mod OneSource
+pub mod WhichFault

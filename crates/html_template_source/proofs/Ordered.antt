@@ -3,11 +3,11 @@ use Rattle.std.proofs.Common.{ℕ, zero, suc, ◌≡◌, ◌<◌, ◌+◌, true,
 use Rattle.std.proofs.lemmas.Bool.{cases_Bool}
 use Rattle.std.proofs.lemmas.List.{length-map}
 use Rattle.std.specs.Borrow.{Bor}
-use Rattle.std.specs.Option.{is_some, option_map, option_or, unwrap_or}
+use Rattle.std.specs.Option.{is_some, option_map, unwrap_or}
 use Rattle.std.specs.Prelude.{Option, Some, None}
 use Rattle.html_template.specs.Templates.{texts_of}
-use Rattle.html_template_source.specs.declared.faults.BindFault.{BindFault}
-use Rattle.html_template_source.specs.Bindings.{Binding, binding_fault, bound, is_among, missing_fault, text_of}
+use Rattle.html_template.specs.FirstFault.{first_fault, first_from}
+use Rattle.html_template_source.specs.Bindings.{Binding, binding_faults, binding_told, bound, early_fault, is_among, slot_faults, slot_told, text_of}
 use Rattle.html_template_source.specs.Names.{AreBelow, AreSingle, AreUsed, name_at, number_of}
 use Rattle.html_template_source.specs.Places.{ArePlaced, text_at, texts_by}
 use Rattle.html_template_source.proofs.FirstFaults.{bound_among, same_known}
@@ -20,11 +20,6 @@ texts_are places bindings names [] placed below = refl
 texts_are places bindings names (n ∷ numbers) placed below =
     ap (λ o. unwrap_or o [] ∷ texts_by places bindings numbers) (placed n (below 0 (omega arith)))
     ∙ ap (λ x. text_of bindings (name_at names n) ∷ x) (texts_are places bindings names numbers placed (below_later (length names) n numbers below))
-
-pub later_fault : (first second third : Option BindFault) → option_or first second ≡ None → option_or first (option_or second third) ≡ third
-later_fault None None third none = refl
-later_fault None (Some fault) third none = absurd (cc)
-later_fault (Some fault) second third none = absurd (cc)
 
 taken : (o : Option ℕ) (k : ℕ) → option_map suc o ≡ Some (suc k) → o ≡ Some k
 taken None k is = absurd (cc)
@@ -77,16 +72,16 @@ never_again (b ∷ bindings) name apart =
 
 -- no binding has a fault where each is known and stands once
 each_sound : (number : ℕ) (names : List (List ℕ)) (bindings : List Binding) → AreSingle (map (λ (b : Binding). b.name) bindings) →
-    ((k : ℕ) → k < length bindings → is_among (name_at (map (λ (b : Binding). b.name) bindings) k) names ≡ true) → binding_fault number names bindings ≡ None
+    ((k : ℕ) → k < length bindings → is_among (name_at (map (λ (b : Binding). b.name) bindings) k) names ≡ true) → first_from binding_told number (binding_faults names bindings) ≡ None
 each_sound number names [] single known = refl
 each_sound number names (b ∷ bindings) single known =
     let here : is_among b.name names ≡ true = known 0 (omega arith) in
-    let again : is_among b.name (map (λ (b : Binding). b.name) bindings) ≡ false =
-    never_again bindings b.name (λ k within. first_apart b.name (map (λ (b : Binding). b.name) bindings) k single (omega (arith, length-map bindings (λ (b : Binding). b.name)))) in
+    let again : is_some (bound bindings b.name) ≡ false =
+    bound_among bindings b.name ∙ never_again bindings b.name (λ k within. first_apart b.name (map (λ (b : Binding). b.name) bindings) k single (omega (arith, length-map bindings (λ (b : Binding). b.name)))) in
     rw (here, again) (each_sound (number + 1) names bindings (others_single b.name (map (λ (b : Binding). b.name) bindings) single) (λ k within. known (suc k) (omega arith)))
 
 each_bound : (number : ℕ) (names : List (List ℕ)) (bindings : List Binding) (numbers : List ℕ) → AreBelow (length names) numbers →
-    ((n : ℕ) → n < length names → is_some (bound bindings (name_at names n)) ≡ true) → missing_fault number bindings (map (name_at names) numbers) ≡ None
+    ((n : ℕ) → n < length names → is_some (bound bindings (name_at names n)) ≡ true) → first_from slot_told number (slot_faults bindings (map (name_at names) numbers)) ≡ None
 each_bound number names bindings [] below some = refl
 each_bound number names bindings (n ∷ numbers) below some =
     let here : is_some (bound bindings (name_at names n)) ≡ true = some n (below 0 (omega arith)) in
@@ -98,15 +93,15 @@ number_among names k single within = sym (has_number (name_at names k) names) �
 -- bindings in order have no fault
 pub sound_in_order : (bindings : List Binding) (names : List (List ℕ)) (numbers : List ℕ) → map (λ (b : Binding). b.name) bindings ≡ names → AreSingle names →
     AreUsed names numbers → AreBelow (length names) numbers →
-    option_or (binding_fault 0 (map (name_at names) numbers) bindings) (missing_fault 0 bindings (map (name_at names) numbers)) ≡ None
+    early_fault bindings (map (name_at names) numbers) ≡ None
 sound_in_order bindings names numbers order single used below =
     let P : List (List ℕ) → Type 0 = AreSingle in
     let once : AreSingle (map (λ (b : Binding). b.name) bindings) = subst P (sym order) single in
     let long : length bindings ≡ length names = sym (length-map bindings (λ (b : Binding). b.name)) ∙ ap length order in
-    let sound : binding_fault 0 (map (name_at names) numbers) bindings ≡ None =
-    sym (same_known 0 names (map (name_at names) numbers) bindings used)
+    let sound : first_fault binding_told (binding_faults (map (name_at names) numbers) bindings) ≡ None =
+    ap (first_fault binding_told) (sym (same_known names (map (name_at names) numbers) bindings used))
     ∙ each_sound 0 names bindings once (λ k within. ap (λ x. is_among (name_at x k) names) order ∙ number_among names k single (omega arith)) in
-    let whole : missing_fault 0 bindings (map (name_at names) numbers) ≡ None =
+    let whole : first_fault slot_told (slot_faults bindings (map (name_at names) numbers)) ≡ None =
     each_bound 0 names bindings numbers below (λ n within.
     bound_among bindings (name_at names n) ∙ ap (is_among (name_at names n)) order ∙ number_among names n single within) in
     rw (sound, whole) refl

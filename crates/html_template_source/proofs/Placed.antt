@@ -1,16 +1,18 @@
 -- Bindings that were placed, from the last one on.
-use Rattle.std.proofs.Common.{ℕ, zero, suc, ◌≡◌, ◌≢◌, ◌++◌, ◌<◌, ◌≤◌, ◌+◌, ◌-◌, Bool, true, false, List, [], ◌∷◌, length, inl, inr, refl, sym, ap, ◌∙◌, append_assoc, append-nil, bytes_eq, get_or, replicate, set, take, arith}
+use Rattle.std.proofs.Common.{ℕ, zero, suc, ◌≡◌, ◌≢◌, ◌++◌, ◌<◌, ◌≤◌, ◌+◌, ◌-◌, Bool, true, false, List, [], ◌∷◌, length, inl, inr, refl, sym, ap, ◌∙◌, append_assoc, append-nil, bytes_eq, get_or, map, replicate, set, take, arith}
 use Rattle.std.proofs.Math.Dec.{ltb}
 use Rattle.std.proofs.lemmas.Bool.{cases_Bool, cases_eq, cases_lt, le-ltb, lt-ltb, ltb-true}
 use Rattle.std.proofs.lemmas.List.{get_or-replicate, get_or-set_other, get_or-set_same, length-set, length-take}
 use Rattle.std.proofs.lemmas.Option.{slice_get-get_or, slice_get_past}
 use Rattle.std.specs.Borrow.{Bor}
-use Rattle.std.specs.Option.{is_some, option_and_then}
-use Rattle.std.specs.Prelude.{Option, Some, None, slice_get}
-use Rattle.html_template_source.specs.Bindings.{Binding, bindings_of, bound}
-use Rattle.html_template_source.specs.Names.{AreSingle, name_at, number_of}
-use Rattle.html_template_source.specs.Places.{AreListed, first_flawed, is_flawed, is_taken, is_within, places_after, text_at}
-use Rattle.html_template_source.proofs.Numbers.{equal_bytes, numbered, same_bytes}
+use Rattle.std.specs.Option.{is_some, option_and_then, option_map, option_or}
+use Rattle.html_template.specs.FirstFault.{first_from}
+use Rattle.html_template_source.specs.declared.faults.BindFault.{BindFault}
+use Rattle.std.specs.Prelude.{IfSome, Option, Some, None, slice_get}
+use Rattle.html_template_source.specs.Bindings.{Binding, BindingFault, IsDoubled, IsUnknown, binding_fault, binding_faults, binding_told, bindings_of, bound, is_among, slot_fault, slot_faults}
+use Rattle.html_template_source.specs.Names.{AreBelow, AreSingle, name_at, number_of}
+use Rattle.html_template_source.specs.Places.{AreListed, is_taken, places_after, placing_fault, text_at, unplaced}
+use Rattle.html_template_source.proofs.Numbers.{below_later, equal_bytes, has_number, numbered, same_bytes}
 
 -- all but the last, and the last
 pub front_and_last : {T : Type 0} (items : List T) (last : T) → 1 ≤ length items →
@@ -42,18 +44,6 @@ text_after : (front later : List (Bor (List ℕ) × Bor (List ℕ))) (b : Bor (L
 text_after [] later b = refl
 text_after (f ∷ front) later b = text_after front later b
 
-pub within_both : (start end n : ℕ) → is_within start end n ≡ true → (start ≤ n) × (n < end)
-within_both start end n is = elim (cases_lt n start) [
-  | inl below ↦ let h : false ≡ true = rw (lt-ltb n start below) at is in absurd (cc)
-  | inr above ↦
-      let h : ltb n end ≡ true = rw (le-ltb n start above) at is in
-      (above, ltb-true n end h)
-]
-
-not_within : (start end n : ℕ) → is_within start end n ≡ false → start ≤ n → n < end → ⊥
-not_within start end n is low high =
-    let h : true ≡ false = rw (le-ltb n start low, lt-ltb n end high) at is in cc
-
 -- the name of another number is another name
 other_name : (names : List (List ℕ)) (name : List ℕ) (number : Option ℕ) (k : ℕ) → AreSingle names → k < length names →
     number ≡ number_of name names → number ≢ Some k → bytes_eq name (name_at names k) ≡ false
@@ -62,148 +52,132 @@ other_name names name number k single within is apart = elim (cases_Bool (bytes_
   | inr other ↦ other
 ]
 
--- one binding more is placed, before the others
-pub placed_more : (start : ℕ) (names : List (List ℕ)) (bindings later : List Binding) (b : Binding) (place : ℕ) (number : Option ℕ) (places : List ℕ) →
-    AreSingle names → number ≡ number_of b.name names → text_at bindings place ≡ Some b.text →
-    ((k : ℕ) → k < length places → start + k < length names → text_at bindings (get_or places k 0) ≡ bound later (name_at names (start + k))) →
-    (k : ℕ) → k < length (places_after start place number places) → start + k < length names →
-    text_at bindings (get_or (places_after start place number places) k 0) ≡ bound (b ∷ later) (name_at names (start + k))
-placed_more start names bindings later b place None places single is at placed k within fits =
-    rw (other_name names b.name None (start + k) single fits is (λ e. cc)) (placed k within fits)
-placed_more start names bindings later b place (Some n) places single is at placed k within fits =
-    elim (cases_Bool (is_within start (start + length places) n)) [
-      | inl inside ↦
-          let low_high = within_both start (start + length places) n inside in
-          let w : k < length (set places (n - start) place) = rw inside at within in
-          elim (cases_eq k (n - start)) [
-            | inl here ↦
-                let n_is : start + k ≡ n = omega (arith, low_high.0) in
-                let long : n - start < length places = omega (arith, low_high.0, low_high.1) in
-                let named : name_at names (start + k) ≡ b.name = ap (name_at names) n_is ∙ (numbered b.name names n (sym is)).1 in
-                let same : bytes_eq b.name (name_at names (start + k)) ≡ true = equal_bytes b.name (name_at names (start + k)) (sym named) in
-                let put : get_or (set places (n - start) place) k 0 ≡ place =
-                ap (λ i. get_or (set places (n - start) place) i 0) here ∙ get_or-set_same places (n - start) place 0 long in
-                rw (inside, same) (ap (text_at bindings) put ∙ at)
-            | inr there ↦
-                let apart : bytes_eq b.name (name_at names (start + k)) ≡ false =
-                other_name names b.name (Some n) (start + k) single fits is (λ e. there (let m : n ≡ start + k = cc in omega arith)) in
-                let kept : get_or (set places (n - start) place) k 0 ≡ get_or places k 0 = get_or-set_other places (n - start) k place 0 there in
-                let short : k < length places = omega (arith, length-set places (n - start) place) in
-                rw (inside, apart) (ap (text_at bindings) kept ∙ placed k short fits)
-          ]
-      | inr outside ↦
-          let w : k < length places = rw outside at within in
-          let apart : bytes_eq b.name (name_at names (start + k)) ≡ false =
-          other_name names b.name (Some n) (start + k) single fits is
-          (λ e. let m : n ≡ start + k = cc in not_within start (start + length places) n outside (omega arith) (omega arith)) in
-          rw (outside, apart) (placed k w fits)
+-- one binding more is put down, before the others
+placed_more : (names : List (List ℕ)) (bindings later : List Binding) (b : Binding) (place : ℕ) (number : Option ℕ) (places : List ℕ) →
+    AreSingle names → length names ≤ length places → number ≡ number_of b.name names → text_at bindings place ≡ Some b.text →
+    ((k : ℕ) → k < length names → text_at bindings (get_or places k 0) ≡ bound later (name_at names k)) →
+    (k : ℕ) → k < length names → text_at bindings (get_or (places_after place number places) k 0) ≡ bound (b ∷ later) (name_at names k)
+placed_more names bindings later b place None places single enough is at placed k within =
+    rw (other_name names b.name None k single within is (λ e. cc)) (placed k within)
+placed_more names bindings later b place (Some n) places single enough is at placed k within =
+    let number = numbered b.name names n (sym is) in
+    elim (cases_eq k n) [
+      | inl here ↦
+          let named : name_at names k ≡ b.name = ap (name_at names) here ∙ number.1 in
+          let same : bytes_eq b.name (name_at names k) ≡ true = equal_bytes b.name (name_at names k) (sym named) in
+          let long : n < length places = omega (arith, number.0) in
+          let put : get_or (set places n place) k 0 ≡ place = ap (λ i. get_or (set places n place) i 0) here ∙ get_or-set_same places n place 0 long in
+          rw same (ap (text_at bindings) put ∙ at)
+      | inr there ↦
+          let apart : bytes_eq b.name (name_at names k) ≡ false = other_name names b.name (Some n) k single within is (λ e. there (let m : n ≡ k = cc in omega arith)) in
+          let kept : get_or (set places n place) k 0 ≡ get_or places k 0 = get_or-set_other places n k place 0 there in
+          rw apart (ap (text_at bindings) kept ∙ placed k within)
     ]
 
--- a name has a place before it is put down where a later binding has it
-pub taken_is_bound : (start : ℕ) (names : List (List ℕ)) (bindings later : List Binding) (name : List ℕ) (number : Option ℕ) (places : List ℕ) →
-    number ≡ number_of name names →
-    ((k : ℕ) → k < length places → start + k < length names → text_at bindings (get_or places k 0) ≡ bound later (name_at names (start + k))) →
-    is_flawed start (start + length places) number (is_taken start (length bindings) number places)
-    ≡ is_flawed start (start + length places) (number_of name names) (is_some (bound later name))
-taken_is_bound start names bindings later name None places is placed = rw (sym is) refl
-taken_is_bound start names bindings later name (Some n) places is placed =
-    elim (cases_Bool (is_within start (start + length places) n)) [
-      | inl inside ↦
-          let low_high = within_both start (start + length places) n inside in
-          let known = numbered name names n (sym is) in
-          let n_is : start + (n - start) ≡ n = omega (arith, low_high.0) in
-          let same : text_at bindings (get_or places (n - start) 0) ≡ bound later name =
-          placed (n - start) (omega (arith, low_high.0, low_high.1)) (omega (arith, low_high.0, known.0))
-          ∙ ap (bound later) (ap (name_at names) n_is ∙ known.1) in
-          let taken : ltb (get_or places (n - start) 0) (length bindings) ≡ is_some (bound later name) =
-          sym (has_text bindings (get_or places (n - start) 0)) ∙ ap is_some same in
-          rw (sym is, inside) taken
-      | inr outside ↦ rw (sym is, outside) refl
-    ]
+-- ---- the faults that places tell
 
--- the bindings after the rest are placed, and the first of them with a fault is known
-abbrev pub ArePlacedAfter : ℕ → List (List ℕ) → ℕ → List (Bor (List ℕ) × Bor (List ℕ)) → List ℕ → List (Bor (List ℕ) × Bor (List ℕ)) → ℕ → Type 0
-ArePlacedAfter start names count bindings places rest first =
+-- a name is taken where it is bound
+taken_bound : (bindings later : List Binding) (places : List ℕ) (n : ℕ) (name : List ℕ) → n < length places →
+    text_at bindings (get_or places n 0) ≡ bound later name → is_taken (length bindings) (slice_get places n) ≡ is_some (bound later name)
+taken_bound bindings later places n name within same =
+    ap (is_taken (length bindings)) (slice_get-get_or places n 0 within) ∙ sym (has_text bindings (get_or places n 0)) ∙ ap is_some same
+
+placing_is : (names : List (List ℕ)) (bindings later : List Binding) (b : Binding) (number : Option ℕ) (places : List ℕ) → number ≡ number_of b.name names →
+    length names ≤ length places → ((k : ℕ) → k < length names → text_at bindings (get_or places k 0) ≡ bound later (name_at names k)) →
+    placing_fault (length bindings) number places ≡ binding_fault names b later
+placing_is names bindings later b None places is enough placed =
+    let among : is_among b.name names ≡ false = sym (has_number b.name names) ∙ ap is_some (sym is) in
+    rw among refl
+placing_is names bindings later b (Some n) places is enough placed =
+    let among : is_among b.name names ≡ true = sym (has_number b.name names) ∙ ap is_some (sym is) in
+    let number = numbered b.name names n (sym is) in
+    let same : text_at bindings (get_or places n 0) ≡ bound later b.name = placed n number.0 ∙ ap (bound later) number.1 in
+    let long : n < length places = omega (arith, number.0) in
+    rw (among, taken_bound bindings later places n b.name long same) refl
+
+-- those of slots, where all bindings are put down
+pub unplaced_are : (names : List (List ℕ)) (bindings : List Binding) (places numbers : List ℕ) → length names ≤ length places → AreBelow (length names) numbers →
+    ((k : ℕ) → k < length names → text_at bindings (get_or places k 0) ≡ bound bindings (name_at names k)) →
+    unplaced (length bindings) places numbers ≡ slot_faults bindings (map (name_at names) numbers)
+unplaced_are names bindings places [] enough below placed = refl
+unplaced_are names bindings places (n ∷ numbers) enough below placed =
+    let within : n < length names = below 0 (omega arith) in
+    let long : n < length places = omega arith in
+    rw (taken_bound bindings bindings places n (name_at names n) long (placed n within))
+    (ap (λ faults. slot_fault bindings (name_at names n) ∷ faults) (unplaced_are names bindings places numbers enough (below_later (length names) n numbers below) placed))
+
+-- the number of a name is that of a place
+pub has_place : (names : List (List ℕ)) (name : List ℕ) (number : Option ℕ) (count : ℕ) → number ≡ number_of name names → length names ≤ count →
+    IfSome number (λ n. n < count)
+has_place names name None count is enough = tt
+has_place names name (Some n) count is enough = omega (arith, (numbered name names n (sym is)).0)
+
+-- ---- the bindings after the rest are put down, and the first of them with a fault is known
+
+abbrev pub ArePlacedAfter : List (List ℕ) → List (Bor (List ℕ) × Bor (List ℕ)) → List ℕ → List (Bor (List ℕ) × Bor (List ℕ)) → Option BindFault → Type 0
+ArePlacedAfter names bindings places rest first =
     (later : List (Bor (List ℕ) × Bor (List ℕ))) × ((rest ++ later ≡ bindings)
-    × (first ≡ length rest + first_flawed start (start + length places) names (bindings_of later))
-    × ((k : ℕ) → k < length places → start + k < count →
-    text_at (bindings_of bindings) (get_or places k 0) ≡ bound (bindings_of later) (name_at names (start + k))))
-
-length-after : (start place : ℕ) (number : Option ℕ) (places : List ℕ) → length (places_after start place number places) ≡ length places
-length-after start place None places = refl
-length-after start place (Some n) places = elim (cases_Bool (is_within start (start + length places) n)) [
-  | inl inside ↦ rw inside (length-set places (n - start) place)
-  | inr outside ↦ rw outside refl
-]
+    × (first ≡ first_from binding_told (length rest) (binding_faults names (bindings_of later)))
+    × ((k : ℕ) → k < length names → text_at (bindings_of bindings) (get_or places k 0) ≡ bound (bindings_of later) (name_at names k)))
 
 pub length-bindings : (bindings : List (Bor (List ℕ) × Bor (List ℕ))) → length (bindings_of bindings) ≡ length bindings
 length-bindings [] = refl
 length-bindings (b ∷ bindings) = ap suc (length-bindings bindings)
 
--- no binding is placed at first
-pub none_placed : (start : ℕ) (names : List (List ℕ)) (count : ℕ) (bindings : List (Bor (List ℕ) × Bor (List ℕ))) (places : List ℕ) (nowhere : ℕ) →
-    length bindings ≤ nowhere → places ≡ replicate (length places) nowhere → ArePlacedAfter start names count bindings places bindings (length bindings)
-none_placed start names count bindings places nowhere far fresh = (
+-- none is put down at first
+pub none_placed : (names : List (List ℕ)) (bindings : List (Bor (List ℕ) × Bor (List ℕ))) (places : List ℕ) (nowhere : ℕ) → length bindings ≤ nowhere →
+    length names ≤ length places → places ≡ replicate (length places) nowhere → ArePlacedAfter names bindings places bindings None
+none_placed names bindings places nowhere far enough fresh = (
   [],
   (
     append-nil bindings,
-    omega arith,
-    λ k within fits.
-        let at : get_or places k 0 ≡ nowhere = ap (λ x. get_or x k 0) fresh ∙ get_or-replicate (length places) k nowhere 0 within in
+    refl,
+    λ k within.
+        let at : get_or places k 0 ≡ nowhere = ap (λ x. get_or x k 0) fresh ∙ get_or-replicate (length places) k nowhere 0 (omega arith) in
         ap (text_at (bindings_of bindings)) at
         ∙ no_text (bindings_of bindings) nowhere (omega (arith, length-bindings bindings)),
   ),
 )
 
-first_after : (start end : ℕ) (names : List (List ℕ)) (later : List Binding) (b : Bor (List ℕ) × Bor (List ℕ)) (front first next : ℕ) (flawed : Bool) →
-    flawed ≡ is_flawed start end (number_of b.0.now names) (is_some (bound later b.0.now)) → first ≡ front + 1 + first_flawed start end names later →
-    (flawed ≡ true → next ≡ front) → (flawed ≡ false → next ≡ first) →
-    next ≡ front + first_flawed start end names (record { name = b.0.now; text = b.1.now } ∷ later)
-first_after start end names later b front first next true is was then otherwise = rw (sym is) (omega (arith, then refl))
-first_after start end names later b front first next false is was then otherwise = rw (sym is) (omega (arith, otherwise refl))
+first_more : (n : ℕ) (why : Option BindingFault) (faults : List (Option BindingFault)) (first : Option BindFault) → first ≡ first_from binding_told (n + 1) faults →
+    option_or (option_map (binding_told n) why) first ≡ first_from binding_told n (why ∷ faults)
+first_more n None faults first is = is
+first_more n (Some why) faults first is = refl
 
--- the last binding of the rest is placed, too
-pub last_placed : (start : ℕ) (names : List (List ℕ)) (count : ℕ) (bindings rest : List (Bor (List ℕ) × Bor (List ℕ))) (places more : List ℕ)
-    (first next : ℕ) (last : Bor (List ℕ) × Bor (List ℕ)) (number : Option ℕ) (flawed : Bool) →
-    AreSingle names → count ≡ length names → 1 ≤ length rest → ArePlacedAfter start names count bindings places rest first →
-    number ≡ number_of (get_or rest (length rest - 1) last).0.now names →
-    more ≡ places_after start (length (take (length rest - 1) rest)) number places →
-    flawed ≡ is_flawed start (start + length places) number (is_taken start (length bindings) number places) →
-    (flawed ≡ true → next ≡ length (take (length rest - 1) rest)) → (flawed ≡ false → next ≡ first) →
-    ArePlacedAfter start names count bindings more (take (length rest - 1) rest) next
-last_placed start names count bindings rest places more first next last number flawed single count_is some (later, (whole, was, placed)) is more_is flawed_is then otherwise =
+-- the last binding of the rest is put down, too
+pub last_placed : (names : List (List ℕ)) (bindings rest : List (Bor (List ℕ) × Bor (List ℕ))) (places more : List ℕ) (first fault next : Option BindFault)
+    (last : Bor (List ℕ) × Bor (List ℕ)) (number : Option ℕ) → AreSingle names → length names ≤ length places → 1 ≤ length rest →
+    ArePlacedAfter names bindings places rest first → number ≡ number_of (get_or rest (length rest - 1) last).0.now names →
+    more ≡ places_after (length (take (length rest - 1) rest)) number places →
+    fault ≡ option_map (binding_told (length (take (length rest - 1) rest))) (placing_fault (length bindings) number places) → next ≡ option_or fault first →
+    ArePlacedAfter names bindings more (take (length rest - 1) rest) next
+last_placed names bindings rest places more first fault next last number single enough some (later, (whole, was, placed)) is more_is fault_is next_is =
     let front : List (Bor (List ℕ) × Bor (List ℕ)) = take (length rest - 1) rest in
     let b : Bor (List ℕ) × Bor (List ℕ) = get_or rest (length rest - 1) last in
+    let binding : Binding = record { name = b.0.now; text = b.1.now } in
     let all : front ++ b ∷ later ≡ bindings =
     sym (append_assoc front (b ∷ []) later) ∙ ap (λ x. x ++ later) (sym (front_and_last rest last some)) ∙ whole in
     let at : text_at (bindings_of bindings) (length front) ≡ Some b.1.now =
     ap (λ x. text_at (bindings_of x) (length front)) (sym all) ∙ text_after front later b in
-    let long : length more ≡ length places = ap length more_is ∙ length-after start (length front) number places in
-    let placed' : (k : ℕ) → k < length places → start + k < length names → text_at (bindings_of bindings) (get_or places k 0) ≡ bound (bindings_of later) (name_at names (start + k)) =
-    λ k within fits. placed k within (omega arith) in
-    let count' : length (bindings_of bindings) ≡ length bindings = length-bindings bindings in
-    let same : flawed ≡ is_flawed start (start + length more) (number_of b.0.now names) (is_some (bound (bindings_of later) b.0.now)) =
-    flawed_is
-    ∙ ap (λ n. is_flawed start (start + length places) number (is_taken start n number places)) (sym count')
-    ∙ taken_is_bound start names (bindings_of bindings) (bindings_of later) b.0.now number places is placed'
-    ∙ ap (λ n. is_flawed start (start + n) (number_of b.0.now names) (is_some (bound (bindings_of later) b.0.now))) (sym long) in
     let rest_long : length rest ≡ length front + 1 = omega (arith, length-take (length rest - 1) rest) in
-    let was' : first ≡ length rest + first_flawed start (start + length more) names (bindings_of later) =
-    was ∙ ap (λ n. length rest + first_flawed start (start + n) names (bindings_of later)) (sym long) in (
+    let why : placing_fault (length bindings) number places ≡ binding_fault names binding (bindings_of later) =
+    ap (λ n. placing_fault n number places) (sym (length-bindings bindings)) ∙ placing_is names (bindings_of bindings) (bindings_of later) binding number places is enough placed in (
       b ∷ later,
       (
         all,
-        first_after start (start + length more) names (bindings_of later) b (length front) first next flawed same (omega arith) then otherwise,
-        λ k within fits.
-            let moved : k < length (places_after start (length front) number places) = omega (arith, ap length more_is) in
+        next_is
+            ∙ ap (λ o. option_or o first) (fault_is ∙ ap (option_map (binding_told (length front))) why)
+            ∙ first_more (length front) (binding_fault names binding (bindings_of later)) (binding_faults names (bindings_of later)) first
+            (was ∙ ap (λ n. first_from binding_told n (binding_faults names (bindings_of later))) rest_long),
+        λ k within.
             ap (λ x. text_at (bindings_of bindings) (get_or x k 0)) more_is
-            ∙ placed_more start names (bindings_of bindings) (bindings_of later) (record { name = b.0.now; text = b.1.now }) (length front) number places single is at placed' k moved (omega arith),
+            ∙ placed_more names (bindings_of bindings) (bindings_of later) binding (length front) number places single enough is at placed k within,
       ),
     )
 
 -- places that are put down for all names are those of the bindings
 pub listed_places : (places : List ℕ) (bindings : List Binding) (names : List (List ℕ)) → length names ≤ length places →
-    ((k : ℕ) → k < length places → k < length names → text_at bindings (get_or places k 0) ≡ bound bindings (name_at names k)) →
+    ((k : ℕ) → k < length names → text_at bindings (get_or places k 0) ≡ bound bindings (name_at names k)) →
     AreListed (Some places) bindings names
 listed_places places bindings names enough placed None is = absurd (cc)
 listed_places places bindings names enough placed (Some found) is = λ number within.
@@ -211,4 +185,4 @@ listed_places places bindings names enough placed (Some found) is = λ number wi
     let there : number < length places = omega (arith, enough, within) in
     ap (λ l. option_and_then (text_at bindings) (slice_get l number)) same
     ∙ ap (option_and_then (text_at bindings)) (slice_get-get_or places number 0 there)
-    ∙ placed number there within
+    ∙ placed number within

@@ -2,7 +2,6 @@ pub mod Sources
 pub mod SourceFaults
 pub mod NamedTemplates
 pub mod Bindings
-pub mod EachFault
 pub mod Names
 pub mod Places
 pub mod SlotNames

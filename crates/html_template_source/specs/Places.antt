@@ -1,10 +1,9 @@
--- The places of bindings, and the first binding and the first slot with a fault.
-use Rattle.std.specs.Prelude.{◌≡◌, ℕ, suc, ◌+◌, ◌-◌, ◌<◌, ◌&&◌, Bool, false, true, List, [], ◌∷◌, Option, Some, None, if◌then◌else◌, length, map, nat_le, nat_lt, not, slice_get, slice_index_or, slice_set}
+-- The places of bindings, and the faults that they tell.
+use Rattle.std.specs.Prelude.{◌≡◌, ℕ, ◌<◌, Bool, false, List, [], ◌∷◌, Option, Some, None, if◌then◌else◌, length, map, nat_lt, slice_get, slice_set}
 use Rattle.std.specs.Borrow.{Bor}
-use Rattle.std.specs.List.{position_or_len}
-use Rattle.std.specs.Option.{is_some, option_and_then, option_map, unwrap_or}
-use Rattle.html_template_source.specs.Bindings.{Binding, bound}
-use Rattle.html_template_source.specs.Names.{name_at, number_of}
+use Rattle.std.specs.Option.{option_and_then, option_map, unwrap_or}
+use Rattle.html_template_source.specs.Bindings.{Binding, BindingFault, IsDoubled, IsUnknown, bound}
+use Rattle.html_template_source.specs.Names.{name_at}
 use Rattle.html_template_source.specs.declared.places.Places.{Places}
 use Rattle.html_template_source.specs.declared.places.Places.TheVariants.{Block, InOrder, Many}
 
@@ -35,44 +34,24 @@ listed InOrder = None
 listed (Block block) = Some block
 listed (Many places) = Some places.items
 
--- numbers from one on, below another
-abbrev pub is_within : ℕ → ℕ → ℕ → Bool
-is_within start end number = not (nat_lt number start) && nat_lt number end
+-- where a binding of the name of this number is put down
+abbrev pub places_after : ℕ → Option ℕ → List ℕ → List ℕ
+places_after place None places = places
+places_after place (Some number) places = slice_set places number place
 
--- a binding has a fault where its name has no number, or one of these and a later binding has the same name
-abbrev pub is_flawed : ℕ → ℕ → Option ℕ → Bool → Bool
-is_flawed start end None is_doubled = true
-is_flawed start end (Some number) is_doubled = is_within start end number && is_doubled
+-- a place is that of one of so many bindings
+abbrev pub is_taken : ℕ → Option ℕ → Bool
+is_taken count None = false
+is_taken count (Some place) = nat_lt place count
 
--- where a binding of the name of this number is put down, and whether an earlier one was
-abbrev pub places_after : ℕ → ℕ → Option ℕ → List ℕ → List ℕ
-places_after start place None places = places
-places_after start place (Some number) places =
-    if is_within start (start + length places) number then slice_set places (number - start) place else places
+-- the fault of a binding of the name of this number, where those behind it are put down
+abbrev pub placing_fault : ℕ → Option ℕ → List ℕ → Option BindingFault
+placing_fault count None places = Some IsUnknown
+placing_fault count (Some number) places = if is_taken count (slice_get places number) then Some IsDoubled else None
 
-abbrev pub is_taken : ℕ → ℕ → Option ℕ → List ℕ → Bool
-is_taken start count None places = false
-is_taken start count (Some number) places = nat_lt (slice_index_or places (number - start) 0) count
-
--- the first binding with such a fault, or how many bindings there are
-abbrev pub first_flawed : ℕ → ℕ → List (List ℕ) → List Binding → ℕ
-first_flawed start end names [] = 0
-first_flawed start end names (b ∷ bindings) =
-    if is_flawed start end (number_of b.name names) (is_some (bound bindings b.name)) then 0
-    else suc (first_flawed start end names bindings)
-
--- a name of these numbers has no text
-abbrev pub is_unbound : ℕ → ℕ → List (List ℕ) → List Binding → ℕ → Bool
-is_unbound start end names bindings number = is_within start end number && not (is_some (bound bindings (name_at names number)))
-
--- the same, as the places of a block tell
-abbrev pub is_unbound_at : ℕ → ℕ → List ℕ → ℕ → Bool
-is_unbound_at start count places number =
-    is_within start (start + length places) number && nat_le count (slice_index_or places (number - start) 0)
-
--- the first slot with such a name, or how many slots there are
-abbrev pub first_unbound : ℕ → ℕ → List (List ℕ) → List Binding → List ℕ → ℕ
-first_unbound start end names bindings numbers = position_or_len (is_unbound start end names bindings) numbers
+-- the faults of slots whose names have these numbers, where all bindings are put down
+abbrev pub unplaced : ℕ → List ℕ → List ℕ → List (Option (Unit {0}))
+unplaced count places numbers = map (λ number. if is_taken count (slice_get places number) then None else Some tt) numbers
 
 -- the texts of names of these numbers
 abbrev pub texts_by : Option (Bor (List ℕ)) → List Binding → List ℕ → List (List ℕ)

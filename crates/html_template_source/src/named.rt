@@ -1,37 +1,33 @@
 //! Templates whose slots have names.
-ghost use Rattle.std.specs.Prelude.{◌≡◌, ◌≢◌, ◌++◌, ℕ, List, None, IfErr, IfOk, IsErrOf, OnErr, OnOk, map};
+ghost use Rattle.std.specs.Prelude.{◌≡◌, ◌≢◌, ◌++◌, ℕ, List, None, IfOk, OnErr, OnOk, map};
 ghost use Rattle.std.specs.Io.KnownBytes.{Appends};
-ghost use Rattle.std.specs.Option.{option_or};
 ghost use Rattle.std.specs.String.{string_bytes};
 ghost use Rattle.hesc_specs.specs.Text.Beginning.{AppendsBeginning};
 ghost use Rattle.hesc_engine.specs.Forms.{Appended};
-ghost use Rattle.html_template.specs.declared.faults.WriteFault.TheVariants.{Texts};
 ghost use Rattle.html_template.specs.FilledUrls.{HasUrlsOf};
-ghost use Rattle.html_template.specs.PageUrls.{LeadsAsAny, urls_of};
+ghost use Rattle.html_template.specs.PageUrls.{urls_of};
 ghost use Rattle.html_template.specs.Structure.{IsPageOf, IsReadAs, JoinsWritten};
 ghost use Rattle.html_template.specs.TemplateFaults.{placed};
 ghost use Rattle.html_template.specs.Templates.{Given, page, part_of, texts_of};
 ghost use Rattle.html_template_source.specs.Bindings.{
   AnswersBind,
   AnswersBinding,
-  IsEarlyFault,
+  AnswersEarly,
   bind_fault,
-  binding_fault,
   bindings_of,
-  missing_fault,
+  early_fault,
   of_fill,
   text_of,
 };
-ghost use Rattle.html_template_source.specs.EachFault.{AnswersEachBind, AnswersFirstBind};
 ghost use Rattle.html_template_source.specs.Places.{AreListed, listed, texts_by};
 ghost use Rattle.html_template_source.specs.SourceFaults.{AnswersSource};
 ghost use Rattle.html_template_source.specs.Sources.{IsSourceOf, TakeTurns};
 
 use crate::bound::Bound;
 use crate::faults::{BindFault, SourceFault};
-use crate::first_fault::find_fault;
+use crate::first_fault::{find_fault, search_fault};
 use crate::names::Names;
-use crate::places::{BLOCK, NOWHERE, Places, place_bindings};
+use crate::places::{BLOCK, NOWHERE, Places};
 use crate::source::Source;
 use html_template::{FillFault, Template, TemplateFault, WriteFault};
 use std::alloc::{Allocator, Global};
@@ -52,7 +48,7 @@ impl<'a, A: Allocator + Copy> NamedTemplate<'a, A> {
     /// `{{` of the markup. A name may stand more than once.
     ///
     /// Of `<p>{{name}}</p>` it has one slot, `name`; of `<p {{name}}>` the fault is
-    /// `NoTemplate(NoPlace(1))`.
+    /// `NoTemplate(Part(1, NoPlace))`.
     pub fn parse(alloc: A, source: &'a str) -> Result<NamedTemplate<'a, A>, SourceFault>
         ensures source { IfOk result (λ t.
             IsSourceOf (map part_of (chunks_of t)) (names_of t) source.now) }
@@ -84,6 +80,7 @@ impl<'a, A: Allocator + Copy> NamedTemplate<'a, A> {
     /// of any page are alike, as `html_template::laws::url_law` says.
     ///
     /// Of `<p>{{name}}</p>`, the page of `a<b` for `name` is `<p>a&lt;b</p>`.
+    #[tactic(auto, using(crate::proofs::FirstFaults::early_answers, crate::proofs::FirstFaults::late_answers, crate::proofs::FirstFaults::no_fault))]
     pub fn append<B: Allocator>(
         &self,
         output: &mut String<B>,
@@ -92,17 +89,13 @@ impl<'a, A: Allocator + Copy> NamedTemplate<'a, A> {
         ensures appended { Appended (string_bytes output.old) (string_bytes output.new)
             (page (chunks_of self.now)
             (map (text_of (bindings_of bindings.now)) (names_of self.now))) result }
-        ensures faults { AnswersBind (bind_fault (bindings_of bindings.now) (names_of self.now)
-            (chunks_of self.now)) result }
+        ensures faults { AnswersBind (bindings_of bindings.now) (names_of self.now)
+            (chunks_of self.now) result }
         ensures read { OnOk result (IsReadAs (chunks_of self.now)
             (map (text_of (bindings_of bindings.now)) (names_of self.now))
             (page (chunks_of self.now)
             (map (text_of (bindings_of bindings.now)) (names_of self.now)))) }
-        ensures each { AnswersFirstBind (bindings_of bindings.now) (names_of self.now)
-            (chunks_of self.now) result }
         ensures filled { OnOk result (HasUrlsOf (chunks_of self.now)
-            (map (text_of (bindings_of bindings.now)) (names_of self.now))) }
-        ensures urls { OnOk result (LeadsAsAny (chunks_of self.now)
             (map (text_of (bindings_of bindings.now)) (names_of self.now))) }
         ensures joins { OnOk result ((parts : List Given) (before : List (List ℕ))
             → IsPageOf parts before (string_bytes output.old)
@@ -131,6 +124,7 @@ impl<'a, A: Allocator + Copy> NamedTemplate<'a, A> {
     /// fill the template nothing is written. On the writer's own fault a beginning of the page was.
     ///
     /// Of `<p>{{name}}</p>` and `a<b` for `name` it writes `<p>a&lt;b</p>`.
+    #[tactic(auto, using(crate::proofs::FirstFaults::early_writes, crate::proofs::FirstFaults::late_writes, crate::proofs::FirstFaults::no_fault))]
     pub fn append_to_writer<W: Write>(
         &self,
         output: &mut W,
@@ -144,17 +138,13 @@ impl<'a, A: Allocator + Copy> NamedTemplate<'a, A> {
             (map (text_of (bindings_of bindings.now)) (names_of self.now)))) }
         ensures kept { bind_fault (bindings_of bindings.now) (names_of self.now)
             (chunks_of self.now) ≢ None → output.new ≡ output.old }
-        ensures faults { AnswersBinding (bind_fault (bindings_of bindings.now) (names_of self.now)
-            (chunks_of self.now)) result }
-        ensures each { AnswersEachBind (bindings_of bindings.now) (names_of self.now)
-            (chunks_of self.now) (λ fault. IsErrOf result (Texts fault)) }
+        ensures faults { AnswersBinding (bindings_of bindings.now) (names_of self.now)
+            (chunks_of self.now) result }
         ensures read { OnOk result (IsReadAs (chunks_of self.now)
             (map (text_of (bindings_of bindings.now)) (names_of self.now))
             (page (chunks_of self.now)
             (map (text_of (bindings_of bindings.now)) (names_of self.now)))) }
         ensures filled { OnOk result (HasUrlsOf (chunks_of self.now)
-            (map (text_of (bindings_of bindings.now)) (names_of self.now))) }
-        ensures urls { OnOk result (LeadsAsAny (chunks_of self.now)
             (map (text_of (bindings_of bindings.now)) (names_of self.now))) }
         ensures joins { OnOk result (JoinsWritten (map part_of (chunks_of self.now))
             (map (text_of (bindings_of bindings.now)) (names_of self.now))
@@ -181,10 +171,7 @@ impl<'a, A: Allocator + Copy> NamedTemplate<'a, A> {
     ) -> Result<Bound<'t>, BindFault>
         ensures texts { IfOk result (λ texts. texts_by texts.places (bindings_of texts.bindings.now)
             texts.numbers.now ≡ map (text_of (bindings_of bindings.now)) (names_of self.now)) }
-        ensures sound { OnOk result (option_or
-            (binding_fault 0 (names_of self.now) (bindings_of bindings.now))
-            (missing_fault 0 (bindings_of bindings.now) (names_of self.now)) ≡ None) }
-        ensures fault { IfErr result (IsEarlyFault (bindings_of bindings.now) (names_of self.now)) }
+        ensures faults { AnswersEarly (early_fault (bindings_of bindings.now) (names_of self.now)) result }
     {
         if self.names.are_in_order(bindings) {
             return Ok(Bound {
@@ -206,25 +193,29 @@ impl<'a, A: Allocator + Copy> NamedTemplate<'a, A> {
     fn put_places(&self, bindings: &[(&str, &str)], places: &mut Places<A>) -> Result<(), BindFault>
         ensures placed { OnOk result (AreListed (listed places.new) (bindings_of bindings.now)
             (texts_of self.now.names.distinct.items)) }
-        ensures sound { OnOk result (option_or
-            (binding_fault 0 (names_of self.now) (bindings_of bindings.now))
-            (missing_fault 0 (bindings_of bindings.now) (names_of self.now)) ≡ None) }
-        ensures fault { IfErr result (IsEarlyFault (bindings_of bindings.now) (names_of self.now)) }
+        ensures faults { AnswersEarly (early_fault (bindings_of bindings.now) (names_of self.now)) result }
     {
-        let mut block = [NOWHERE; BLOCK];
-        if let Some(fault) = find_fault(&self.names, bindings, &mut block) {
-            return Err(fault);
+        let count = self.names.distinct.len();
+        if count <= BLOCK {
+            let mut block = [NOWHERE; BLOCK];
+            return match find_fault(&self.names, bindings, &mut block) {
+                Some(fault) => Err(fault),
+                None => {
+                    *places = Places::Block(block);
+                    Ok(())
+                }
+            };
         }
-        if self.names.distinct.len() <= BLOCK {
-            *places = Places::Block(block);
-            return Ok(());
-        }
-        let Ok(mut many) = vec![in self.alloc; NOWHERE; self.names.distinct.len()] else {
-            return Err(BindFault::Memory);
+        let Ok(mut many) = vec![in self.alloc; NOWHERE; count] else {
+            return Err(search_fault(&self.names, bindings).unwrap_or(BindFault::Memory));
         };
-        let _first = place_bindings(&self.names, bindings, 0, &mut many);
-        *places = Places::Many(many);
-        Ok(())
+        match find_fault(&self.names, bindings, &mut many) {
+            Some(fault) => Err(fault),
+            None => {
+                *places = Places::Many(many);
+                Ok(())
+            }
+        }
     }
 }
 

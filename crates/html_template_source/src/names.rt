@@ -60,6 +60,16 @@ impl<'a, A: Allocator + Copy> Names<'a, A> {
         })
     }
 
+    /// The name of this number.
+    pub(crate) fn name(&self, number: usize) -> &'a str
+        ensures { result.now ≡ name_at (texts_of self.now.distinct.items) number }
+    {
+        match self.distinct.get(number) {
+            Some(name) => *name,
+            None => "",
+        }
+    }
+
     /// The number of a name, mostly by one comparison.
     #[inline(always)]
     pub(crate) fn find(&self, name: &str) -> Option<usize>

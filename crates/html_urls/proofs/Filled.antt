@@ -3,5 +3,3 @@ pub mod OpenSegments
 pub mod LaterSlots
 pub mod FirstSlot
 pub mod MayFill
-pub mod Counts
-pub mod Marks

@@ -1,5 +1,7 @@
 pub mod Encoded
+pub mod Bytes
 pub mod Components
+pub mod OpenEscapes
 pub mod Examples
 pub mod Fragments
 pub mod Links

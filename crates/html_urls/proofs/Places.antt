@@ -1,3 +1,3 @@
-pub mod PlaceSound
-pub mod PlaceStays
+pub mod FixedHosts
+pub mod PlaceIs
 pub mod UrlLaw

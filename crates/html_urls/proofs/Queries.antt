@@ -1,2 +1,1 @@
-pub mod PairLaw
 pub mod QueryLaw

@@ -1,5 +1,6 @@
 pub mod Encoded
 pub mod Slots
+pub mod Closing
 pub mod Decoding
 pub mod Filling
 pub mod Fills
@@ -8,6 +9,7 @@ pub mod Pairs
 pub mod PathShapes
 pub mod Pieces
 pub mod PlainParts
+pub mod SameCounts
 pub mod ShapeLaw
 pub mod TailShapes
 pub mod Tails

@@ -1,11 +1,12 @@
 -- Splitting joined text, and cleaning visible text.
 use Rattle.std.proofs.Common.{◌≡◌, ℕ, ◌+◌, ◌<◌, ◌-◌, Bool, true, false, cond, not, ◌==◌, List, [], ◌∷◌, ◌++◌, length, get_or, take, drop, reverse, Option, Some, None, is_some, All, sym, refl, ap, ◌∙◌, ⊎_elim, arith, append_assoc, append-nil, one-add, zero-add, suc-add, length-append, drop_of_length-le}
 use Rattle.std.specs.List.{prefix_len, suffix_len}
-use Rattle.std.proofs.lemmas.Bool.{lt-leb, cond-true, cond-false, cases_Bool, ne_eqb}
+use Rattle.std.proofs.lemmas.Bool.{lt-leb, cond-true, cond-false, cases_Bool, eq-eqb, ne_eqb}
 use Rattle.std.proofs.lemmas.Bool.Decides.{nat_tests}
 use Rattle.std.proofs.lemmas.List.{reverse-append}
-use Rattle.std.proofs.lemmas.List.Elements.{All-head, All-tail, All-weaker}
+use Rattle.std.proofs.lemmas.List.Elements.{All-get_or, All-head, All-tail, All-weaker}
 use Rattle.std.proofs.lemmas.List.Sums.{suffix_len-le-length}
+use Rattle.form_urlencoded.specs.Form.{onto_first, split}
 use Rattle.url.specs.Input.{trim_start, trim_end, is_c0_control_or_space, is_tab_or_new_line, trim_c0_control_and_space, strip_tabs_and_new_lines, split_once}
 use Rattle.url.proofs.InputLemmas.{IsNot, Passes, filter_all, split_around}
 use Rattle.html_urls.specs.Components.{component}
@@ -13,6 +14,9 @@ use Rattle.html_urls.specs.Inputs.{IsVisible, EndsVisibly, kept, kept_rest}
 use Rattle.html_urls.proofs.Components.{component_visible}
 
 -- ---- what the parser keeps
+
+pub all_visible : (xs : List ℕ) → All IsVisible xs → 0 < length xs → EndsVisibly xs
+all_visible xs visible some = All-get_or IsVisible xs (length xs - 1) 0 (omega arith) visible
 
 stripped-append : (xs ys : List ℕ) → strip_tabs_and_new_lines (xs ++ ys) ≡ strip_tabs_and_new_lines xs ++ strip_tabs_and_new_lines ys
 unfolding strip_tabs_and_new_lines
@@ -135,3 +139,28 @@ split_whole s (x ∷ xs) ys none =
 pub some_value : (o : Option (List ℕ)) → is_some o ≡ true → (x : List ℕ) × (o ≡ Some x)
 some_value None is = cc
 some_value (Some x) is = (x, refl)
+
+-- ---- the pieces of joined bytes
+
+onto_append : (b : ℕ) (first : List (List ℕ)) (others : List (List ℕ)) → 0 < length first → onto_first b first ++ others ≡ onto_first b (first ++ others)
+onto_append b [] others some = absurd (omega arith)
+onto_append b (piece ∷ pieces) others some = refl
+
+pub split_some : (s : ℕ) (xs : List ℕ) → 0 < length (split s xs)
+unfolding split
+split_some s [] = omega arith
+split_some s (x ∷ xs) =
+    ⊎_elim (λ (here : (x == s) ≡ true). rw here (omega arith)) (λ (other : (x == s) ≡ false). rw other (onto (split s xs))) (cases_Bool (x == s))
+  where
+    onto : (pieces : List (List ℕ)) → 0 < length (onto_first x pieces)
+    onto [] = omega arith
+    onto (piece ∷ pieces) = omega arith
+
+pub split_joined : (s : ℕ) (xs ys : List ℕ) → split s (xs ++ s ∷ ys) ≡ split s xs ++ split s ys
+unfolding split
+split_joined s [] ys = cond-true _ _ _ (eq-eqb s s refl)
+split_joined s (x ∷ xs) ys =
+    ⊎_elim
+    (λ (here : (x == s) ≡ true). rw (here, split_joined s xs ys) refl)
+    (λ (other : (x == s) ≡ false). rw (other, split_joined s xs ys) (sym (onto_append x (split s xs) (split s ys) (split_some s xs))))
+    (cases_Bool (x == s))

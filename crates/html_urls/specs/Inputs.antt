@@ -1,5 +1,5 @@
 -- What the parser keeps of its input (URL Standard, 4.4 URL parsing: a C0 control or space at an end, and a tab or newline anywhere, is removed).
-use Rattle.std.specs.Prelude.{◌≡◌, ◌≢◌, ◌⊎◌, ℕ, ◌-◌, ◌<◌, List, [], length, slice_index}
+use Rattle.std.specs.Prelude.{◌≢◌, ℕ, ◌-◌, ◌<◌, List, length, slice_index}
 use Rattle.url.specs.Ascii.{space}
 use Rattle.url.specs.Input.{is_c0_control_or_space, trim_end, trim_c0_control_and_space, strip_tabs_and_new_lines}
 
@@ -14,10 +14,6 @@ IsVisible b = space < b
 -- the last byte is such a byte
 abbrev pub EndsVisibly : List ℕ → Type 0
 EndsVisibly front = IsVisible (slice_index front (length front - 1))
-
--- nothing, or bytes that end with such a byte
-abbrev pub KeepsEnd : List ℕ → Type 0
-KeepsEnd rest = (rest ≡ []) ⊎ EndsVisibly rest
 
 -- what is kept of a whole input
 abbrev pub kept : List ℕ → List ℕ

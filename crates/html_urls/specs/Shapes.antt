@@ -1,10 +1,9 @@
 -- What the parser makes of a URL with slots: a URL whose path, query and fragment are markup and slots.
-use Rattle.std.specs.Prelude.{◌≡◌, ℕ, List, [], ◌∷◌, ◌++◌, Option, Some, None, Ok, unwrap_or, option_map}
+use Rattle.std.specs.Prelude.{◌≡◌, ℕ, ◌==◌, List, [], ◌∷◌, ◌++◌, Option, Some, None, Ok, unwrap_or, option_map, if◌then◌else◌}
 use Rattle.percent_encoding.specs.declared.ascii_set.AsciiSet.{AsciiSet}
 use Rattle.percent_encoding.specs.Percent.{percent_encode}
 use Rattle.url.specs.declared.sets.TheConstants.{FRAGMENT, PATH}
 use Rattle.url.specs.Ascii.{number_sign, question_mark}
-use Rattle.url.specs.Input.{split_once}
 use Rattle.url.specs.Parser.{Parsed, and_then, parse_url}
 use Rattle.url.specs.Parts.{Parts, kind_of, query_set}
 use Rattle.html_urls.specs.Slots.{FillUrl, Given, Markup, Slot, url_of}
@@ -55,14 +54,21 @@ from_slot [] = []
 from_slot (Markup bytes ∷ parts) = from_slot parts
 from_slot (Slot ∷ parts) = Slot ∷ parts
 
--- the parts before the first such byte of the markup, and those after it, if there is one
-abbrev pub split_markup : List ℕ → List ℕ × Option (List ℕ) → List Given → List Given × Option (List Given) → List Given × Option (List Given)
-split_markup bytes (before, Some after) parts later = (Markup before ∷ [], Some (Markup after ∷ parts))
-split_markup bytes (before, None) parts later = (Markup bytes ∷ later.0, later.1)
+-- one byte of markup before what it is split in
+abbrev pub onto_halves : ℕ → List Given × Option (List Given) → List Given × Option (List Given)
+onto_halves b (Markup bytes ∷ before, after) = (Markup (b ∷ bytes) ∷ before, after)
+onto_halves b (before, after) = (Markup (b ∷ []) ∷ before, after)
 
+-- markup before these parts, which are split so
+abbrev pub split_markup : ℕ → List ℕ → List Given → List Given × Option (List Given) → List Given × Option (List Given)
+split_markup mark [] parts halves = (Markup [] ∷ halves.0, halves.1)
+split_markup mark (b ∷ bytes) parts halves =
+    if b == mark then (Markup [] ∷ [], Some (Markup bytes ∷ parts)) else onto_halves b (split_markup mark bytes parts halves)
+
+-- the parts before the first such byte of the markup, and those after it, if there is one
 abbrev pub split_parts : ℕ → List Given → List Given × Option (List Given)
 split_parts mark [] = ([], None)
-split_parts mark (Markup bytes ∷ parts) = split_markup bytes (split_once mark bytes) parts (split_parts mark parts)
+split_parts mark (Markup bytes ∷ parts) = split_markup mark bytes parts (split_parts mark parts)
 split_parts mark (Slot ∷ parts) = (Slot ∷ (split_parts mark parts).0, (split_parts mark parts).1)
 
 -- the first `#` begins the fragment, and the first `?` before it the query

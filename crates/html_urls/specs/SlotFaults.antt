@@ -13,14 +13,9 @@ AnswersSlots items told (Err (NotPlain number)) = told ≡ Err (NotPlain number)
 AnswersSlots items told (Err (NotFixed number)) = told ≡ Err (NotFixed number)
 AnswersSlots items told (Err (DotSegment number)) = told ≡ Err (DotSegment number)
 
--- after one part more the slots are those so far and those of the other parts, or its fault is the first
-abbrev pub TakesPart : ℕ → List ℕ → Option OpenPart → List UrlSlot → Given → List ℕ → List UrlSlot → Result (Option OpenPart) UrlFault → Type 0
-TakesPart number front open_part slots part new_front new_slots (Ok new_part) =
-    (parts : List Given) → after_slots slots (slots_from number front open_part (part ∷ parts)) ≡ after_slots new_slots (slots_from (number + 1) new_front new_part parts)
-TakesPart number front open_part slots part new_front new_slots (Err Memory) = ⊤
-TakesPart number front open_part slots part new_front new_slots (Err (NotPlain n)) =
-    (parts : List Given) → slots_from number front open_part (part ∷ parts) ≡ Err (NotPlain n)
-TakesPart number front open_part slots part new_front new_slots (Err (NotFixed n)) =
-    (parts : List Given) → slots_from number front open_part (part ∷ parts) ≡ Err (NotFixed n)
-TakesPart number front open_part slots part new_front new_slots (Err (DotSegment n)) =
-    (parts : List Given) → slots_from number front open_part (part ∷ parts) ≡ Err (DotSegment n)
+-- with one part more the slots are those so far and those of the parts behind it, or its fault is the first
+abbrev pub TakesPart : ℕ → List ℕ → Option OpenPart → List UrlSlot → Given → List Given → List ℕ → List UrlSlot → Result (Option OpenPart) UrlFault → Type 0
+TakesPart number front open_part slots part parts new_front new_slots (Ok new_part) =
+    after_slots slots (slots_from number front open_part (part ∷ parts)) ≡ after_slots new_slots (slots_from (number + 1) new_front new_part parts)
+TakesPart number front open_part slots part parts new_front new_slots (Err Memory) = ⊤
+TakesPart number front open_part slots part parts new_front new_slots (Err fault) = slots_from number front open_part (part ∷ parts) ≡ Err fault

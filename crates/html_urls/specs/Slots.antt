@@ -1,8 +1,9 @@
 -- The slots of a URL's parts, the texts that fill them, and the URL of the texts.
-use Rattle.std.specs.Prelude.{◌≡◌, ⊤, ℕ, ◌+◌, ◌-◌, Bool, true, not, ◌&&◌, ◌||◌, ◌==◌, nat_lt, List, [], ◌∷◌, ◌++◌, length, map, Option, Some, None, Result, Ok, Err, IsOkAnd, if◌then◌else◌}
+use Rattle.std.specs.Prelude.{◌≡◌, ⊤, ℕ, ◌+◌, ◌-◌, Bool, true, false, not, ◌&&◌, ◌||◌, ◌==◌, nat_lt, List, [], ◌∷◌, ◌++◌, length, map, Option, Some, None, Result, Ok, Err, IsOkAnd, if◌then◌else◌}
 use Rattle.std.specs.Borrow.{Bor}
+use Rattle.std.specs.Char.{is_digit}
 use Rattle.std.specs.List.{list_all}
-use Rattle.url.specs.Ascii.{backslash, space}
+use Rattle.url.specs.Ascii.{backslash, percent_sign, space}
 use Rattle.url.specs.Path.{dot_count}
 use Rattle.html_urls.specs.declared.open_part.OpenPart.{OpenPart}
 use Rattle.html_urls.specs.declared.parts.UrlFault.{UrlFault}
@@ -10,6 +11,8 @@ use Rattle.html_urls.specs.declared.parts.UrlFault.TheVariants.{NotPlain, NotFix
 use Rattle.html_urls.specs.declared.parts.UrlPart.{UrlPart}
 use Rattle.html_urls.specs.declared.parts.UrlPart.TheVariants as part
 use Rattle.html_urls.specs.declared.parts.UrlSlot.{UrlSlot}
+use Rattle.html_urls.specs.declared.place.UrlPlace.{UrlPlace}
+use Rattle.html_urls.specs.declared.place.UrlPlace.TheVariants.{Path, Query, Fragment}
 use Rattle.html_urls.specs.Components.{component}
 use Rattle.html_urls.specs.OpenParts.{after_markup, after_text, may_be_dots, open_of, slot_at}
 
@@ -48,12 +51,28 @@ FillSlots (slot ∷ slots) (text ∷ texts) = (may_fill slot text ≡ true) × F
 
 -- ---- the slots of the parts
 
--- no white space, no control and no `\`
+-- a byte that is no white space, no control and no `\`
 abbrev pub is_plain_byte : ℕ → Bool
-is_plain_byte b = nat_lt space b && not (b == 127 || b == backslash)
+is_plain_byte b = nat_lt space b && nat_lt b 256 && not (b == 127 || b == backslash)
 
-abbrev pub is_plain : List ℕ → Bool
-is_plain markup = list_all is_plain_byte markup
+abbrev pub are_plain : List ℕ → Bool
+are_plain bytes = list_all is_plain_byte bytes
+
+-- the bytes end in `%`, or in `%` and one hexadecimal digit, which with what follows may be an escape
+abbrev pub ends_in_escape : List ℕ → Bool
+ends_in_escape [] = false
+ends_in_escape (b ∷ []) = b == percent_sign
+ends_in_escape (b ∷ c ∷ []) = c == percent_sign || (b == percent_sign && is_digit c 16)
+ends_in_escape (b ∷ c ∷ d ∷ bytes) = ends_in_escape (c ∷ d ∷ bytes)
+
+-- such bytes alone, and no escape is open at the end, unless the URL ends there
+abbrev pub is_plain : List ℕ → Bool → Bool
+is_plain markup is_last = are_plain markup && (is_last || not (ends_in_escape markup))
+
+-- no part follows
+abbrev pub no_parts : List Given → Bool
+no_parts [] = true
+no_parts (part ∷ parts) = false
 
 abbrev pub Told : Type 0
 Told = Result (List UrlSlot) UrlFault
@@ -72,7 +91,7 @@ told_of None fault go_on = Err fault
 abbrev pub later_slots : ℕ → OpenPart → List Given → Told
 later_slots number open_part [] = if may_be_dots open_part then Err (DotSegment (number - 1)) else Ok []
 later_slots number open_part (Markup bytes ∷ parts) =
-    if is_plain bytes
+    if is_plain bytes (no_parts parts)
     then told_of (after_markup open_part bytes) (DotSegment number) (λ after. later_slots (number + 1) after parts)
     else Err (NotPlain number)
 later_slots number open_part (Slot ∷ parts) =
@@ -82,7 +101,7 @@ later_slots number open_part (Slot ∷ parts) =
 abbrev pub first_slots : ℕ → List ℕ → List Given → Told
 first_slots number front [] = Ok []
 first_slots number front (Markup bytes ∷ parts) =
-    if is_plain bytes then first_slots (number + 1) (front ++ bytes) parts else Err (NotPlain number)
+    if is_plain bytes (no_parts parts) then first_slots (number + 1) (front ++ bytes) parts else Err (NotPlain number)
 first_slots number front (Slot ∷ parts) =
     told_of (open_of front) (NotFixed number) (λ open_part. later_slots number open_part (Slot ∷ parts))
 
@@ -94,6 +113,17 @@ slots_from number front (Some open_part) parts = later_slots number open_part pa
 -- the slots of the parts, or the first fault
 abbrev pub slots_of : List Given → Told
 slots_of parts = first_slots 0 [] parts
+
+-- the first slot stands in the path
+abbrev pub is_path : UrlPlace → Bool
+is_path Path = true
+is_path Query = false
+is_path Fragment = false
+
+abbrev pub begins_in_path : Told → Bool
+begins_in_path (Ok (slot ∷ slots)) = is_path slot.place
+begins_in_path (Ok []) = false
+begins_in_path (Err fault) = false
 
 -- the texts fill the slots of the parts, which have no fault
 abbrev pub FillUrl : List Given → List (List ℕ) → Type 0

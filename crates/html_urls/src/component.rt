@@ -121,7 +121,7 @@ fn put_long_block<S: Sink>(block: &[u8], sink: &mut S) -> Result<(), S::Fault>
 /// Whether no byte of `text` is percent-encoded, so that the text is its own component.
 ///
 /// Of `a-b` it is `true`, and of `a b` it is `false`.
-pub fn is_unreserved(text: &str) -> bool
+pub(crate) fn is_unreserved(text: &str) -> bool
     ensures { IsTrue result ↔ IsUnreservedText text.now }
 {
     let mut rest = text.as_bytes();

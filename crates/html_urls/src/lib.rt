@@ -19,7 +19,7 @@ pub mod segment;
 pub mod slots;
 
 pub use crate::append::append_url;
-pub use crate::component::{COMPONENT, Component, is_unreserved, put_component};
+pub use crate::component::{COMPONENT, Component, put_component};
 pub use crate::forms::{
     append_component, append_component_to_vec, encode_component, encode_component_to_string,
     encode_component_to_vec, encode_component_to_writer,

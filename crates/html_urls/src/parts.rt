@@ -24,7 +24,8 @@ pub struct UrlSlot {
 /// answered.
 #[derive(Clone, Copy, Debug, PartialEq, Eq)]
 pub enum UrlFault {
-    /// This part is markup with an ASCII white space or control, or a `\`.
+    /// This part is markup with an ASCII white space or control, or a `\`; or it is not the last one and
+    /// ends in `%`, or in `%` and one hexadecimal digit, which with the text of a slot would be an escape.
     NotPlain(usize),
     /// This part is a slot in a scheme, a user, a host or a port, or where these are still open, or
     /// behind a scheme that is none of `http`, `https` and `mailto`, as in `javascript:x?` and a slot.

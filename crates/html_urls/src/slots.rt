@@ -22,7 +22,7 @@ pub fn may_fill(slot: UrlSlot, text: &str) -> bool
 ///
 /// Of `/items/`, a slot, `?q=` and a slot, the first stands in the path and a segment begins with it,
 /// and the second stands in the query. Of `//`, a slot and `/` the fault is `NotFixed(1)`, and so it is
-/// of `javascript:x?` and a slot.
+/// of `javascript:x?` and a slot. Of `?q=%4` and a slot it is `NotPlain(0)`: the text would end an escape.
 #[tactic(auto, using(crate::proofs::SlotsTaken::answered))]
 pub fn slots_of<A: Allocator + Copy>(
     alloc: A,
@@ -36,7 +36,7 @@ pub fn slots_of<A: Allocator + Copy>(
     let mut rest = parts;
     'parts: while let [part, others @ ..] = rest {
         let number = parts.len() - rest.len();
-        match take_part(&mut front, &mut slots, open_part, *part, number) {
+        match take_part(&mut front, &mut slots, open_part, *part, others, number) {
             Ok(after) => open_part = after,
             Err(fault) => return Err(fault),
         }
@@ -48,27 +48,29 @@ pub fn slots_of<A: Allocator + Copy>(
     Ok(slots)
 }
 
-// Takes one part more, which has this number.
+// Takes one part more, which has this number, before the others.
+#[tactic(auto, using(crate::proofs::SlotsTaken::none_left))]
 fn take_part<A: Allocator>(
     front: &mut Vec<u8, A>,
     slots: &mut Vec<UrlSlot, A>,
     open_part: Option<OpenPart>,
     part: UrlPart<'_>,
+    others: &[UrlPart<'_>],
     number: usize,
 ) -> Result<Option<OpenPart>, UrlFault>
     ensures { TakesPart number front.old.items open_part slots.old.items (spec.given part.entry)
-        front.new.items slots.new.items result }
+        (map spec.given others.now) front.new.items slots.new.items result }
 {
     match (part, open_part) {
         (UrlPart::Markup(markup), None) => {
-            if !is_plain(markup.as_bytes()) {
+            if !is_plain(markup.as_bytes(), others.is_empty()) {
                 return Err(UrlFault::NotPlain(number));
             }
             front.extend_from_slice(markup.as_bytes())?;
             Ok(None)
         }
         (UrlPart::Markup(markup), Some(open_part)) => {
-            if !is_plain(markup.as_bytes()) {
+            if !is_plain(markup.as_bytes(), others.is_empty()) {
                 return Err(UrlFault::NotPlain(number));
             }
             match after_markup(open_part, markup.as_bytes()) {
@@ -90,8 +92,9 @@ fn take_slot<A: Allocator>(
     open_part: OpenPart,
     number: usize,
 ) -> Result<Option<OpenPart>, UrlFault>
-    ensures { (front : List ℕ) → TakesPart number front (Some open_part) slots.old.items spec.Slot
-        front slots.new.items result }
+    ensures { (front : List ℕ) (parts : List spec.Given)
+        → TakesPart number front (Some open_part) slots.old.items spec.Slot
+        parts front slots.new.items result }
 {
     match slot_at(open_part) {
         Some(slot) => match slots.push(slot) {
@@ -102,14 +105,33 @@ fn take_slot<A: Allocator>(
     }
 }
 
-/// Whether the markup has no ASCII white space, no control and no `\`: other markup `slots_of` refuses
-/// as `NotPlain`.
+/// Whether the markup has no ASCII white space, no control and no `\`, and ends in no open escape unless
+/// it is the last part: other markup `slots_of` refuses as `NotPlain`.
 ///
-/// Of `/items/` it is `true`, and of `/a b` and `/\` it is `false`.
-pub fn is_plain(markup: &[u8]) -> bool
-    ensures { result ≡ spec.is_plain markup.now }
+/// Of `/items/` it is `true`, and of `/a b` and `/\` it is `false`. Of `?q=%4` it is `true` of the last
+/// part alone.
+pub fn is_plain(markup: &[u8], is_last: bool) -> bool
+    ensures { result ≡ spec.is_plain markup.now is_last }
 {
-    markup.iter().all(|b| is_plain_byte(*b))
+    are_plain(markup) && (is_last || !ends_in_escape(markup))
+}
+
+fn are_plain(bytes: &[u8]) -> bool
+    ensures { result ≡ spec.are_plain bytes.now }
+{
+    bytes.iter().all(|b| is_plain_byte(*b))
+}
+
+// Whether the bytes end in `%`, or in `%` and one hexadecimal digit.
+#[tactic(auto, using(crate::proofs::OpenEscapes::ends_by_places))]
+fn ends_in_escape(bytes: &[u8]) -> bool
+    ensures { result ≡ spec.ends_in_escape bytes.now }
+{
+    match bytes {
+        [.., b'%'] => true,
+        [.., b'%', digit] => (*digit as char).is_digit(16),
+        _ => false,
+    }
 }
 
 fn is_plain_byte(b: u8) -> bool

@@ -1,4 +1,5 @@
 pub mod Pages
 pub mod Readers
 pub mod Templates
+pub mod Urls
 pub mod Writers

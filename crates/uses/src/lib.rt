@@ -4,6 +4,7 @@
 mod pages;
 mod readers;
 mod templates;
+mod urls;
 mod writers;
 
 pub use crate::pages::{card, cell, excerpt, field, label, rows, search};
@@ -11,4 +12,5 @@ pub use crate::readers::{back, posted, table};
 pub use crate::templates::{
     breadcrumbs, form_page, home_page, link_list, mail_rows, price_list, search_page,
 };
+pub use crate::urls::search_link;
 pub use crate::writers::{log_item, log_list};

@@ -1,7 +1,7 @@
 -- What is proved of a template from one place on: the URLs there, which the texts fill, and how the URL that is open goes on.
 use Rattle.std.proofs.Common.{ℕ, ◌≡◌, List, [], ◌∷◌, ◌++◌, IsUtf8, Ok, ap, ◌∙◌, append_assoc, drop, map, take}
 use Rattle.std.specs.List.{AllByRecursion}
-use Rattle.html_template.specs.FilledUrls.{FillUrls, Fixed, OneSlot, Parts, Slotted, TemplateUrl, Value, Whole, filled_urls, slots_in, url_texts, urls_behind}
+use Rattle.html_template.specs.FilledUrls.{FillUrls, Fixed, OneSlot, Parts, Slotted, TemplateUrl, Value, Whole, filled_urls, slots_in, url_texts, urls_behind, whole_texts}
 use Rattle.html_template.specs.PageUrls.{whole_urls}
 use Rattle.html_template.specs.Templates.{Chunk, Fill, page}
 use Rattle.html_tokenizer.specs.Tokenizer.States.{Tokenizer}
@@ -10,14 +10,6 @@ use Rattle.html_urls.specs.Slots as part
 use Rattle.html_urls.specs.Slots.{FillSlots, Given, later_slots, url_of}
 use Rattle.html_urls.specs.declared.open_part.OpenPart.{OpenPart}
 use Rattle.html_urls.specs.declared.parts.UrlSlot.{UrlSlot}
-
--- of the texts those that are whole URLs
-abbrev pub whole_texts : List TemplateUrl → List (List ℕ) → List (List ℕ)
-whole_texts [] texts = []
-whole_texts (Fixed url ∷ urls) texts = whole_texts urls texts
-whole_texts (Parts parts ∷ urls) texts = whole_texts urls (drop (slots_in parts) texts)
-whole_texts (Whole ∷ urls) [] = whole_texts urls []
-whole_texts (Whole ∷ urls) (text ∷ texts) = text ∷ whole_texts urls texts
 
 -- the URLs that are found are these, filled by the texts, of which those that are whole URLs are the template's
 pub record IsFilled (found whole : List (List ℕ)) (urls : List TemplateUrl) (texts : List (List ℕ)) : Type 0 where

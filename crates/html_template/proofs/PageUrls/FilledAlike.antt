@@ -1,29 +1,20 @@
 -- The URLs of a template, filled by two lists of texts, lead alike.
 use Rattle.std.proofs.Common.{ℕ, ◌≡◌, true, List, [], ◌∷◌, drop, take, inl, inr, refl}
-use Rattle.std.proofs.lemmas.List.Elements.{All-nil}
-use Rattle.html_urls.specs.Parts.Pairs.{string_count}
-use Rattle.html_urls.specs.Parts.Segments.{segment_count}
-use Rattle.html_urls.specs.Slots.{FillUrl, Given, is_plain_byte, slots_of, url_of}
-use Rattle.html_urls.proofs.Filled.Counts.{same_count}
-use Rattle.html_urls.proofs.Filled.FirstSlot.{both_fill, same_head}
-use Rattle.html_urls.proofs.Filled.Marks.{same_segments, same_strings}
-use Rattle.html_template.specs.FilledUrls.{FillUrls, Fixed, Parts, TemplateUrl, Whole, filled_urls, slots_in}
+use Rattle.html_urls.specs.Slots.{FillUrl, Given, url_of}
+use Rattle.html_urls.proofs.Shapes.SameCounts.{same_head, same_segments, same_strings}
+use Rattle.html_template.specs.FilledUrls.{FillUrls, Fixed, Parts, TemplateUrl, Whole, filled_urls, slots_in, whole_texts}
 use Rattle.html_template.specs.PageUrls.{AllAlike, LeadAlike}
-use Rattle.html_template.proofs.PageUrls.Filled.{whole_texts}
 
 leads_itself : (url : List ℕ) → LeadAlike url url
 leads_itself url = record { head = λ base web. refl; segments = λ base web. refl; strings = λ base web. refl }
 
 parts_alike : (parts : List Given) (texts others : List (List ℕ)) → FillUrl parts texts → FillUrl parts others →
     LeadAlike (url_of parts texts) (url_of parts others)
-parts_alike parts texts others full others_full =
-    let (slots, told, fill, other) = both_fill (slots_of parts) texts others full others_full in
-    let none = All-nil (λ b. is_plain_byte b ≡ true) in
-    record {
-      head = λ base web. same_head base parts 0 [] slots texts others web none told fill other;
-      segments = λ base web. same_count segment_count same_segments base parts 0 [] slots texts others web none told fill other;
-      strings = λ base web. same_count string_count same_strings base parts 0 [] slots texts others web none told fill other;
-    }
+parts_alike parts texts others full others_full = record {
+  head = λ base web. same_head base parts texts others web full others_full;
+  segments = λ base web. same_segments base parts texts others web full others_full;
+  strings = λ base web. same_strings base parts texts others web full others_full;
+}
 
 -- two URLs more, before the others
 alike_first : (texts more : List (List ℕ)) (first second : List ℕ) (urls others : List (List ℕ)) → LeadAlike first second →

@@ -1,12 +1,12 @@
 -- Markup behind a slot of a URL: what it adds to the URL, and what is open behind it.
-use Rattle.std.proofs.Common.{ℕ, ◌≡◌, Bool, true, false, List, Option, Some, None, Ok, Err, Result, refl, ap, ◌∙◌, ⊎_elim, ◌&&◌, not}
+use Rattle.std.proofs.Common.{ℕ, ◌≡◌, Bool, true, false, List, Option, Some, None, Ok, Err, Result, refl, ap, ◌∙◌, ⊎_elim}
 use Rattle.std.proofs.lemmas.Bool.{cases_Bool}
 use Rattle.std.specs.Option.{option_and_then}
-use Rattle.html_template.specs.declared.faults.TemplateFault.{TemplateFault}
-use Rattle.html_template.specs.declared.faults.TemplateFault.TheVariants.{DotSegment}
+use Rattle.html_template.specs.declared.faults.PartFault.{PartFault}
+use Rattle.html_template.specs.declared.faults.PartFault.TheVariants.{DotSegment}
 use Rattle.html_template.specs.declared.open_url.OpenUrl.{OpenUrl}
 use Rattle.html_template.specs.declared.open_url.OpenUrl.TheVariants.{Outside, Within}
-use Rattle.html_template.specs.OpenUrls.{behind_part, behind_slot, if_plain, plain_text, url_end, opens_escape, whole_text}
+use Rattle.html_template.specs.OpenUrls.{behind_part, behind_slot, if_plain, plain_text, url_end}
 use Rattle.html_tokenizer.specs.declared.slot_place.SlotPlace.{SlotPlace}
 use Rattle.html_tokenizer.specs.UrlValues.{url_text}
 use Rattle.html_urls.specs.OpenParts.{after_markup, may_be_dots}
@@ -16,81 +16,72 @@ use Rattle.html_urls.specs.declared.open_part.OpenPart.{OpenPart}
 -- the markup adds this text to the URL
 pub record AddsText (is_ended : Bool) (markup text : List ℕ) : Type 0 where
   pub read : url_text is_ended markup ≡ Some text
-  pub plain : is_plain text ≡ true
+  pub plain : is_plain text is_ended ≡ true
 
 some_text : {first second : List ℕ} → Some first ≡ Some second → first ≡ second
 some_text same = cc
 
-plain_adds : (is_ended : Bool) (markup text : List ℕ) (read : Option (List ℕ)) → url_text is_ended markup ≡ read → option_and_then if_plain read ≡ Some text →
+plain_adds : (is_ended : Bool) (markup text : List ℕ) (read : Option (List ℕ)) → url_text is_ended markup ≡ read → option_and_then (if_plain is_ended) read ≡ Some text →
     AddsText is_ended markup text
 plain_adds is_ended markup text None is told = absurd (cc)
 plain_adds is_ended markup text (Some found) is told =
     ⊎_elim
-    (λ (plain : is_plain found ≡ true).
+    (λ (plain : is_plain found is_ended ≡ true).
     let same : found ≡ text = some_text (rw plain at told) in
     record { read = is ∙ ap Some same; plain = rw (← same) plain })
-    (λ (not : is_plain found ≡ false).
+    (λ (not : is_plain found is_ended ≡ false).
     let clash : None ≡ Some text = rw not at told in
     absurd (cc))
-    (cases_Bool (is_plain found))
+    (cases_Bool (is_plain found is_ended))
 
 pub adds_text : (is_ended : Bool) (markup text : List ℕ) → plain_text is_ended markup ≡ Some text → AddsText is_ended markup text
 adds_text is_ended markup text told = plain_adds is_ended markup text (url_text is_ended markup) refl told
 
 -- the value goes on behind the markup, or ends in it
-pub record BehindSlot (number : ℕ) (p : SlotPlace) (part : OpenPart) (ended : Bool) (markup : List ℕ) (url : OpenUrl) : Type 0 where
+pub record BehindSlot (p : SlotPlace) (part : OpenPart) (ended : Bool) (markup : List ℕ) (url : OpenUrl) : Type 0 where
   pub text : List ℕ
   pub adds : AddsText ended markup text
   pub after : OpenPart
   pub opened : after_markup part text ≡ Some after
-  pub told : url_end number p ended after ≡ Ok url
+  pub told : url_end p ended after ≡ Ok url
 
-behind_after : (number : ℕ) (p : SlotPlace) (part : OpenPart) (ended : Bool) (markup text : List ℕ) (url : OpenUrl) (after : Option OpenPart) →
-    AddsText ended markup text → after_markup part text ≡ after → behind_part number p ended after ≡ Ok url → BehindSlot number p part ended markup url
-behind_after number p part ended markup text url None adds opened told = absurd (cc)
-behind_after number p part ended markup text url (Some after) adds opened told =
+behind_after : (p : SlotPlace) (part : OpenPart) (ended : Bool) (markup text : List ℕ) (url : OpenUrl) (after : Option OpenPart) →
+    AddsText ended markup text → after_markup part text ≡ after → behind_part p ended after ≡ Ok url → BehindSlot p part ended markup url
+behind_after p part ended markup text url None adds opened told = absurd (cc)
+behind_after p part ended markup text url (Some after) adds opened told =
     record { text = text; adds = adds; after = after; opened = opened; told = told }
 
-whole_is_plain : (ended : Bool) (markup text : List ℕ) → whole_text ended markup ≡ Some text → plain_text ended markup ≡ Some text
-whole_is_plain ended markup text told =
-    ⊎_elim
-    (λ (opens : (not ended && opens_escape markup) ≡ true).
-    let clash : None ≡ Some text = rw opens at told in
-    absurd (cc))
-    (λ (none : (not ended && opens_escape markup) ≡ false). rw none at told)
-    (cases_Bool (not ended && opens_escape markup))
+behind_read : (p : SlotPlace) (part : OpenPart) (ended : Bool) (markup : List ℕ) (url : OpenUrl) (read : Option (List ℕ)) →
+    plain_text ended markup ≡ read → behind_slot p part ended read ≡ Ok url → BehindSlot p part ended markup url
+behind_read p part ended markup url None is told = absurd (cc)
+behind_read p part ended markup url (Some text) is told =
+    behind_after p part ended markup text url (after_markup part text) (adds_text ended markup text is) refl told
 
-behind_read : (number : ℕ) (p : SlotPlace) (part : OpenPart) (ended : Bool) (markup : List ℕ) (url : OpenUrl) (read : Option (List ℕ)) →
-    whole_text ended markup ≡ read → behind_slot number p part ended read ≡ Ok url → BehindSlot number p part ended markup url
-behind_read number p part ended markup url None is told = absurd (cc)
-behind_read number p part ended markup url (Some text) is told =
-    behind_after number p part ended markup text url (after_markup part text) (adds_text ended markup text (whole_is_plain ended markup text is)) refl told
-
-pub behind_told : (number : ℕ) (p : SlotPlace) (part : OpenPart) (ended : Bool) (markup : List ℕ) (url : OpenUrl) →
-    behind_slot number p part ended (whole_text ended markup) ≡ Ok url → BehindSlot number p part ended markup url
-behind_told number p part ended markup url told = behind_read number p part ended markup url (whole_text ended markup) refl told
+pub behind_told : (p : SlotPlace) (part : OpenPart) (ended : Bool) (markup : List ℕ) (url : OpenUrl) →
+    behind_slot p part ended (plain_text ended markup) ≡ Ok url → BehindSlot p part ended markup url
+behind_told p part ended markup url told = behind_read p part ended markup url (plain_text ended markup) refl told
 
 -- ---- at the end of the markup, or of the value
 
-abbrev pub as_told : OpenUrl → Result OpenUrl TemplateFault
+abbrev pub as_told : OpenUrl → Result OpenUrl PartFault
 as_told url = Ok url
 
 pub ok_url : {first second : OpenUrl} → as_told first ≡ as_told second → first ≡ second
 ok_url same = cc
 
-pub goes_on : (number : ℕ) (p : SlotPlace) (part : OpenPart) (url : OpenUrl) → url_end number p false part ≡ Ok url → Within p part ≡ url
-goes_on number p part url told = ok_url told
+pub goes_on : (p : SlotPlace) (part : OpenPart) (url : OpenUrl) → url_end p false part ≡ Ok url → Within p part ≡ url
+goes_on p part url told = ok_url told
 
 -- the URL is whole
 pub record IsEnded (part : OpenPart) (url : OpenUrl) : Type 0 where
   pub no_dots : may_be_dots part ≡ false
   pub outside : Outside ≡ url
 
-pub is_ended : (number : ℕ) (p : SlotPlace) (part : OpenPart) (url : OpenUrl) → url_end number p true part ≡ Ok url → IsEnded part url
-is_ended number p part url told =
+pub is_ended : (p : SlotPlace) (part : OpenPart) (url : OpenUrl) → url_end p true part ≡ Ok url → IsEnded part url
+is_ended p part url told =
     ⊎_elim
     (λ (dots : may_be_dots part ≡ true).
-    let clash : Err (DotSegment number) ≡ as_told url = rw dots at told in
+    let clash : Err DotSegment ≡ as_told url = rw dots at told in
     absurd (cc))
     (λ (none : may_be_dots part ≡ false). record { no_dots = none; outside = ok_url (rw none at told) })
     (cases_Bool (may_be_dots part))

@@ -4,8 +4,8 @@ use Rattle.std.specs.List.{AllByRecursion}
 use Rattle.html_template.specs.declared.open_url.OpenUrl.{OpenUrl}
 use Rattle.html_template.specs.declared.open_url.OpenUrl.TheVariants.{Outside, Within, Whole}
 use Rattle.html_template.specs.declared.open_url.PlacedSlot.{PlacedSlot}
-use Rattle.html_template.specs.FilledUrls.{AreFilled, HasUrls, HasUrlsOf, url_texts}
-use Rattle.html_template.specs.PageUrls.{AllAlike, LeadsAsAny, urls_of, whole_urls}
+use Rattle.html_template.specs.FilledUrls.{AreFilled, HasUrls, HasUrlsOf, piece_urls, url_texts}
+use Rattle.html_template.specs.PageUrls.{LeadsAsAny}
 use Rattle.html_template.specs.TemplateFaults.{Walk, at_beginning, behind_markup, behind_slot, pieces_from, template_of}
 use Rattle.html_template.specs.Templates.{Chunk, Fill, Given, GivenMarkup, GivenSlot, after_slot, page, part_of}
 use Rattle.html_tokenizer.specs.Standing.{may_end, standing}
@@ -33,17 +33,17 @@ all_goes number walk [] chunks told tame =
 all_goes number walk (GivenMarkup bytes ∷ parts) chunks told tame =
     let here = at_markup number walk bytes parts chunks told in
     subst (Goes walk.url walk.tokenizer walk.markup) (sym here.whole)
-    (markup_goes number walk.url walk.tokenizer walk.markup bytes here.url here.rest tame here.read here.opened
+    (markup_goes walk.url walk.tokenizer walk.markup bytes here.url here.rest tame here.read here.opened
     (all_goes (number + 1) (behind_markup walk bytes here.url) parts here.rest here.told (tame_after walk.tokenizer bytes tame)))
 all_goes number walk (GivenSlot ∷ parts) chunks told tame =
     let here = at_slot number walk parts chunks told in
     let slot : PlacedSlot = here.slot in
-    let suited = (slot_suits number walk.markup walk.url (standing walk.tokenizer) slot here.placed).suited in
+    let suited = (slot_suits walk.markup walk.url (standing walk.tokenizer) slot here.placed).suited in
     let next : Tokenizer = past_slot walk.tokenizer slot.place in
     let goes_to : after_slot slot.place slot.kind walk.tokenizer ≡ next = rw suited refl in
-    let next_tame = tame_behind number walk.markup walk.url walk.tokenizer slot tame here.placed in
+    let next_tame = tame_behind walk.markup walk.url walk.tokenizer slot tame here.placed in
     subst (Goes walk.url walk.tokenizer walk.markup) (sym here.whole)
-    (slot_goes number walk.markup walk.url walk.tokenizer slot here.rest tame here.placed
+    (slot_goes walk.markup walk.url walk.tokenizer slot here.rest tame here.placed
     (subst (λ (t : Tokenizer). Goes slot.url t [] here.rest) goes_to
     (all_goes (number + 1) (behind_slot walk slot) parts here.rest here.told (subst IsTame (sym goes_to) next_tame))))
 
@@ -56,7 +56,7 @@ pub has_urls : (parts : List Given) (chunks : List Chunk) → template_of parts 
 has_urls parts chunks told = λ texts full utf8.
     let later = all_later parts chunks told in
     let found = later.filled texts full utf8 in
-    subst (λ urls. AreFilled urls chunks texts) (sym later.told) (record { same = found.same; full = found.full })
+    subst (λ urls. AreFilled urls chunks texts) (sym later.told) (record { same = found.same; full = found.full; whole = found.whole_same })
 
 pub has_urls_of : (chunks : List Chunk) (texts : List (List ℕ)) → template_of (map part_of chunks) ≡ Ok chunks → Fill chunks texts →
     AllByRecursion IsUtf8 texts → HasUrlsOf chunks texts
@@ -64,19 +64,9 @@ has_urls_of chunks texts told full utf8 =
     let any = has_urls (map part_of chunks) chunks told in
     record { here = any texts full utf8; any = any }
 
--- ---- those of two pages
-
-pub urls_alike : (parts : List Given) (chunks : List Chunk) (texts others : List (List ℕ)) → template_of parts ≡ Ok chunks →
-    Fill chunks texts → Fill chunks others → AllByRecursion IsUtf8 texts → AllByRecursion IsUtf8 others →
-    AllAlike (whole_urls chunks texts) (whole_urls chunks others) (urls_of (page chunks texts)) (urls_of (page chunks others))
-urls_alike parts chunks texts others told full others_full utf8 others_utf8 =
-    let later = all_later parts chunks told in
-    let first = later.filled texts full utf8 in
-    let second = later.filled others others_full others_utf8 in
-    rw (first.whole_same, second.whole_same, first.same, second.same)
-    (filled_alike later.urls (url_texts chunks texts) (url_texts chunks others) first.full second.full)
-
-pub leads_as_any : (chunks : List Chunk) (texts : List (List ℕ)) → template_of (map part_of chunks) ≡ Ok chunks → Fill chunks texts →
-    AllByRecursion IsUtf8 texts → LeadsAsAny chunks texts
-leads_as_any chunks texts told full utf8 = λ others others_full others_utf8.
-    urls_alike (map part_of chunks) chunks texts others told full others_full utf8 others_utf8
+-- so they are alike with all texts
+pub leads_as_any : (chunks : List Chunk) (texts : List (List ℕ)) → HasUrlsOf chunks texts → LeadsAsAny chunks texts
+leads_as_any chunks texts has = λ others full utf8.
+    let second = has.any others full utf8 in
+    rw (has.here.whole, second.whole, has.here.same, second.same)
+    (filled_alike (piece_urls chunks) (url_texts chunks texts) (url_texts chunks others) has.here.full second.full)

@@ -1,8 +1,8 @@
 -- Markup, and what is open behind it.
-use Rattle.std.proofs.Common.{ℕ, ◌≡◌, ◌+◌, true, false, List, [], ◌∷◌, ◌++◌, Ok, Err, Some, length, map, take, nat_lt, refl, sym, ap, ◌∙◌, subst, ⊎_elim, append-nil, append_assoc, arith}
-use Rattle.std.proofs.lemmas.Bool.{cases_Bool}
+use Rattle.std.proofs.Common.{ℕ, ◌≡◌, ◌+◌, Bool, true, false, not, List, [], ◌∷◌, ◌++◌, Ok, Err, Some, length, map, take, nat_lt, refl, sym, ap, ◌∙◌, subst, ⊎_elim, append-nil, append_assoc, arith}
+use Rattle.std.proofs.lemmas.Bool.{and_parts, cases_Bool}
 use Rattle.std.proofs.lemmas.Bool.Decides.{nat_tests}
-use Rattle.html_template.specs.declared.faults.TemplateFault.TheVariants.{AfterLink}
+use Rattle.html_template.specs.declared.faults.PartFault.TheVariants.{AfterLink}
 use Rattle.html_template.specs.declared.open_url.OpenUrl.{OpenUrl}
 use Rattle.html_template.specs.declared.open_url.OpenUrl.TheVariants.{Outside, Within, Whole}
 use Rattle.html_template.specs.FilledUrls.{Fixed, Parts, url_texts}
@@ -26,7 +26,7 @@ use Rattle.html_tokenizer.proofs.UrlValues.Slots.Tame.{IsTame}
 use Rattle.html_tokenizer.proofs.UrlValues.Staying.{StaysUrl, stays_none}
 use Rattle.html_urls.specs.OpenParts.{after_markup, may_be_dots}
 use Rattle.html_urls.specs.Slots as part
-use Rattle.html_urls.specs.Slots.{is_plain}
+use Rattle.html_urls.specs.Slots.{are_plain, ends_in_escape, is_plain, no_parts}
 use Rattle.html_urls.specs.declared.open_part.OpenPart.{OpenPart}
 use Rattle.html_template.proofs.PageUrls.Filled.{EndsBehind, EndsParts, GoesOn, IsFilled, ends_more, fixed_before}
 use Rattle.html_template.proofs.PageUrls.EndedUrls.{ends_in, parts_end}
@@ -54,18 +54,23 @@ outside_goes t markup bytes chunks tame goes = λ value from.
 
 -- ---- behind a slot in a URL
 
+-- markup that another part may follow may be the last one
+plain_anywhere : (text : List ℕ) (is_last : Bool) → is_plain text false ≡ true → is_plain text is_last ≡ true
+plain_anywhere text true plain = rw (and_parts (are_plain text) (not (ends_in_escape text)) plain).0 refl
+plain_anywhere text false plain = plain
+
 module _ (p : SlotPlace) (content : Content) (attribute : Attribute) (place : is_value_place p ≡ true) (url : is_url attribute ≡ true) where
   abbrev here : Tokenizer
   here = at_value (In p) content attribute
 
   -- ---- in a part of it
 
-  goes_within : (open_part after : OpenPart) (raw text : List ℕ) (there : Tokenizer) (chunks : List Chunk) → is_plain text ≡ true → after_markup open_part text ≡ Some after →
+  goes_within : (open_part after : OpenPart) (raw text : List ℕ) (there : Tokenizer) (chunks : List Chunk) → is_plain text false ≡ true → after_markup open_part text ≡ Some after →
       StaysUrl here raw text there → GoesOn after there chunks → GoesOn open_part here (Markup raw ∷ chunks)
   goes_within open_part after raw text there chunks plain opened stays behind = record {
     parts = part.Markup text ∷ behind.parts;
     slots = behind.slots;
-    fixed = λ number. rw (plain, opened) (behind.fixed (number + 1));
+    fixed = λ number. rw (plain_anywhere text (no_parts behind.parts) plain, opened) (behind.fixed (number + 1));
     later = behind.later;
     told = λ before.
         rw (stays.none_ends [], stays.passes.after, stays.value []) (behind.told (before ++ part.Markup text ∷ []))
@@ -76,7 +81,7 @@ module _ (p : SlotPlace) (content : Content) (attribute : Attribute) (place : is
         (behind.ends (value ++ text) texts full utf8);
   }
 
-  ends_within : (open_part after : OpenPart) (text : List ℕ) (chunks : List Chunk) → is_plain text ≡ true → after_markup open_part text ≡ Some after →
+  ends_within : (open_part after : OpenPart) (text : List ℕ) (chunks : List Chunk) → is_plain text true ≡ true → after_markup open_part text ≡ Some after →
       may_be_dots after ≡ false → EndsParts here text chunks → GoesOn open_part here chunks
   ends_within open_part after text chunks plain opened none ends = record {
     parts = part.Markup text ∷ [];
@@ -88,19 +93,19 @@ module _ (p : SlotPlace) (content : Content) (attribute : Attribute) (place : is
     ends = λ value texts full utf8. rw (append-nil text) (ends.end.ends value texts full utf8);
   }
 
-  module _ (number : ℕ) (open_part : OpenPart) (bytes : List ℕ) (opened : OpenUrl) (chunks : List Chunk)
-      (unrefused : is_refused (state_after here bytes).state ≡ false) (told : url_markup number (Within p open_part) bytes ≡ Ok opened)
+  module _ (open_part : OpenPart) (bytes : List ℕ) (opened : OpenUrl) (chunks : List Chunk)
+      (unrefused : is_refused (state_after here bytes).state ≡ false) (told : url_markup (Within p open_part) bytes ≡ Ok opened)
       (goes : Goes opened (state_after here bytes) bytes chunks) where
     whole_goes : IsWhole (ends_value p) bytes → GoesOn open_part here (Markup bytes ∷ chunks)
     whole_goes whole =
         let end = whole.end in
         let all_of_it : nat_lt (value_length p bytes) (length bytes) ≡ false = grind (arith, nat_tests) in
-        let behind = behind_told number p open_part false bytes opened (rw (all_of_it, whole.all) at told) in
+        let behind = behind_told p open_part false bytes opened (rw (all_of_it, whole.all) at told) in
         let reads = reads_on p content attribute bytes behind.text place url whole.none behind.adds.read unrefused in
         let there : Tokenizer = at_value (In p) content reads.attribute in
         let later : Goes (Within p behind.after) there bytes chunks =
         subst (λ (x : Tokenizer). Goes (Within p behind.after) x bytes chunks) reads.stays.passes.after
-        (goes_as (Within p behind.after) (state_after here bytes) bytes chunks (goes_on number p behind.after opened behind.told) goes) in
+        (goes_as (Within p behind.after) (state_after here bytes) bytes chunks (goes_on p behind.after opened behind.told) goes) in
         goes_within open_part behind.after bytes behind.text there chunks behind.adds.plain behind.opened reads.stays (later (record { state_is = refl; attribute_is = reads.url }))
 
     cut_goes : IsCut (ends_value p) bytes → GoesOn open_part here (Markup bytes ∷ chunks)
@@ -108,8 +113,8 @@ module _ (p : SlotPlace) (content : Content) (attribute : Attribute) (place : is
         let raw : List ℕ = take (value_length p bytes) bytes in
         let within = cut.within in
         let ends : nat_lt (value_length p bytes) (length bytes) ≡ true = grind (arith, nat_tests) in
-        let behind = behind_told number p open_part true raw opened (rw ends at told) in
-        let end = is_ended number p behind.after opened behind.told in
+        let behind = behind_told p open_part true raw opened (rw ends at told) in
+        let end = is_ended p behind.after opened behind.told in
         let all : is_refused (state_after here (raw ++ cut.first ∷ cut.rest)).state ≡ false =
         subst (λ (x : List ℕ). is_refused (state_after here x).state ≡ false) cut.parts unrefused in
         let still : is_refused (consume (state_after here raw) cut.first).next.state ≡ false =
@@ -129,35 +134,35 @@ module _ (p : SlotPlace) (content : Content) (attribute : Attribute) (place : is
 
   -- ---- in a whole one
 
-  link_goes : (number : ℕ) (bytes : List ℕ) (opened : OpenUrl) (chunks : List Chunk) → url_markup number (Whole p) bytes ≡ Ok opened →
+  link_goes : (bytes : List ℕ) (opened : OpenUrl) (chunks : List Chunk) → url_markup (Whole p) bytes ≡ Ok opened →
       Goes opened (state_after here bytes) bytes chunks → EndsBehind here [] (Markup bytes ∷ chunks)
-  link_goes number [] opened chunks told goes =
+  link_goes [] opened chunks told goes =
       let still : Goes (Whole p) here [] chunks = goes_as (Whole p) here [] chunks (ok_url told) goes in
       let end = still (record { state_is = refl; attribute_is = url }) in
       record { later = end.later; told = end.told; ends = end.ends }
-  link_goes number (b ∷ rest) opened chunks told goes =
+  link_goes (b ∷ rest) opened chunks told goes =
       ⊎_elim
       (λ (ends : ends_value p b ≡ true).
       ends_in here here (value_tame p content attribute place) (value_fresh p content attribute []) url [] [] [] b rest chunks stays_none (ends_at p content attribute b place url ends)
       (goes_as Outside (state_after here (b ∷ rest)) (b ∷ rest) chunks (ok_url (rw ends at told)) goes))
       (λ (goes_on : ends_value p b ≡ false).
-      let clash : Err (AfterLink number) ≡ as_told opened = rw goes_on at told in
+      let clash : Err AfterLink ≡ as_told opened = rw goes_on at told in
       absurd (cc))
       (cases_Bool (ends_value p b))
 
 -- ---- where anything is open
 
-pub markup_goes : (number : ℕ) (before : OpenUrl) (t : Tokenizer) (markup bytes : List ℕ) (opened : OpenUrl) (chunks : List Chunk) → IsTame t →
-    is_refused (state_after t bytes).state ≡ false → url_markup number before bytes ≡ Ok opened → Goes opened (state_after t bytes) bytes chunks →
+pub markup_goes : (before : OpenUrl) (t : Tokenizer) (markup bytes : List ℕ) (opened : OpenUrl) (chunks : List Chunk) → IsTame t →
+    is_refused (state_after t bytes).state ≡ false → url_markup before bytes ≡ Ok opened → Goes opened (state_after t bytes) bytes chunks →
     Goes before t markup (Markup bytes ∷ chunks)
-markup_goes number Outside t markup bytes opened chunks tame unrefused told goes =
+markup_goes Outside t markup bytes opened chunks tame unrefused told goes =
     outside_goes t markup bytes chunks tame (goes_as Outside (state_after t bytes) bytes chunks (ok_url told) goes)
-markup_goes number (Within p open_part) t markup bytes opened chunks tame unrefused told goes = λ stands.
+markup_goes (Within p open_part) t markup bytes opened chunks tame unrefused told goes = λ stands.
     subst (λ s. GoesOn open_part (at_value s t.content t.attribute) (Markup bytes ∷ chunks)) (sym stands.state_is)
-    (within_goes p t.content t.attribute (value_place p t tame stands) stands.attribute_is number open_part bytes opened chunks
+    (within_goes p t.content t.attribute (value_place p t tame stands) stands.attribute_is open_part bytes opened chunks
     (subst (λ s. is_refused (state_after (at_value s t.content t.attribute) bytes).state ≡ false) stands.state_is unrefused) told
     (subst (λ s. Goes opened (state_after (at_value s t.content t.attribute) bytes) bytes chunks) stands.state_is goes))
-markup_goes number (Whole p) t markup bytes opened chunks tame unrefused told goes = λ stands.
+markup_goes (Whole p) t markup bytes opened chunks tame unrefused told goes = λ stands.
     subst (λ s. EndsBehind (at_value s t.content t.attribute) [] (Markup bytes ∷ chunks)) (sym stands.state_is)
-    (link_goes p t.content t.attribute (value_place p t tame stands) stands.attribute_is number bytes opened chunks told
+    (link_goes p t.content t.attribute (value_place p t tame stands) stands.attribute_is bytes opened chunks told
     (subst (λ s. Goes opened (state_after (at_value s t.content t.attribute) bytes) bytes chunks) stands.state_is goes))

@@ -1,9 +1,8 @@
 -- Where a URL with a slot is open no template ends, no text that is none of a URL stands, and no slot stands behind a whole one.
-use Rattle.std.proofs.Common.{ℕ, ◌≡◌, Bool, true, false, List, Ok, Err, refl, sym, ◌∙◌}
+use Rattle.std.proofs.Common.{ℕ, ◌≡◌, Bool, true, false, List, Ok, refl, sym, ◌∙◌}
 use Rattle.std.proofs.lemmas.Bool.{false≢true, true≢false}
 use Rattle.html_template.specs.declared.open_url.OpenUrl.TheVariants.{Whole}
 use Rattle.html_template.specs.declared.open_url.PlacedSlot.{PlacedSlot}
-use Rattle.html_template.specs.declared.faults.TemplateFault.TheVariants.{AfterLink}
 use Rattle.html_template.specs.OpenUrls.{url_slot}
 use Rattle.html_template.specs.TemplateFaults.{slot_at}
 use Rattle.html_tokenizer.specs.declared.elements.Content.{Content}
@@ -17,26 +16,24 @@ use Rattle.html_tokenizer.proofs.UrlValues.Places.{is_value_place}
 use Rattle.html_tokenizer.proofs.UrlValues.Slots.Tame.{IsTame}
 use Rattle.html_template.proofs.PageUrls.Opening.{StandsAt, value_place}
 use Rattle.html_template.proofs.PageUrls.TextSlots.{text_stands_apart}
-use Rattle.html_template.proofs.Walks.{same_itself, told_behind_markup}
+use Rattle.html_template.proofs.Walks.{same_itself}
 
 -- no text
 pub no_text_stands : (p q : SlotPlace) (t : Tokenizer) → standing t ≡ Stands q → StandsAt p t → ⊥
 no_text_stands p q t is stands = true≢false (sym stands.attribute_is ∙ (text_stands_apart q t (rw is (same_itself q))).no_url)
 
 -- no slot
-none_behind : (number : ℕ) (q : SlotPlace) (is_followed : Bool) (markup : List ℕ) (p : SlotPlace) (slot : PlacedSlot) →
-    url_slot number q is_followed markup (Whole p) ≡ Ok slot → ⊥
-none_behind number q is_followed markup p slot told =
-    let behind : Err (AfterLink number) ≡ Ok slot = told_behind_markup number q is_followed markup (Whole p) slot told in
-    cc
+none_behind : (q : SlotPlace) (is_followed : Bool) (markup : List ℕ) (p : SlotPlace) (slot : PlacedSlot) →
+    url_slot q is_followed markup (Whole p) ≡ Ok slot → ⊥
+none_behind q is_followed markup p slot told = cc
 
-pub no_slot_behind : (number : ℕ) (markup : List ℕ) (p : SlotPlace) (t : Tokenizer) (slot : PlacedSlot) (s : Standing) → standing t ≡ s →
-    StandsAt p t → slot_at number markup (Whole p) s ≡ Ok slot → ⊥
-no_slot_behind number markup p t slot (Stands q) is stands told = no_text_stands p q t is stands
-no_slot_behind number markup p t slot (InUrl q) is stands told = none_behind number q false markup p slot told
-no_slot_behind number markup p t slot (InLink q) is stands told = none_behind number q true markup p slot told
-no_slot_behind number markup p t slot Nowhere is stands told = cc
-no_slot_behind number markup p t slot Barred is stands told = cc
+pub no_slot_behind : (markup : List ℕ) (p : SlotPlace) (t : Tokenizer) (slot : PlacedSlot) (s : Standing) → standing t ≡ s →
+    StandsAt p t → slot_at markup (Whole p) s ≡ Ok slot → ⊥
+no_slot_behind markup p t slot (Stands q) is stands told = no_text_stands p q t is stands
+no_slot_behind markup p t slot (InUrl q) is stands told = none_behind q false markup p slot told
+no_slot_behind markup p t slot (InLink q) is stands told = none_behind q true markup p slot told
+no_slot_behind markup p t slot Nowhere is stands told = cc
+no_slot_behind markup p t slot Barred is stands told = cc
 
 -- no template ends
 value_goes_on : (p : SlotPlace) (content : Content) (attribute : Attribute) → is_value_place p ≡ true → may_end_in (In p) content attribute ≡ false

@@ -3,13 +3,13 @@ use Rattle.std.proofs.Common.{ℕ, ◌≡◌, ◌∙◌, Bool, true, false, List
 use Rattle.std.specs.Prelude.{⊤}
 use Rattle.std.proofs.lemmas.Bool.{cases_Bool, true≢false}
 use Rattle.std.proofs.lemmas.Bool.Decides.{nat_tests}
-use Rattle.html_template.specs.declared.faults.TemplateFault.TheVariants.{AfterLink}
+use Rattle.html_template.specs.declared.faults.PartFault.TheVariants.{AfterLink}
 use Rattle.html_template.specs.declared.open_url.OpenUrl.{OpenUrl}
 use Rattle.html_template.specs.declared.open_url.OpenUrl.TheVariants.{Outside, Within, Whole}
 use Rattle.html_template.specs.declared.open_url.PlacedSlot.{PlacedSlot}
 use Rattle.html_template.specs.declared.parts.SlotKind.{SlotKind}
 use Rattle.html_template.specs.declared.parts.SlotKind.TheVariants as kind
-use Rattle.html_template.specs.OpenUrls.{slot_behind, url_markup, value_length}
+use Rattle.html_template.specs.OpenUrls.{url_markup, url_slot, value_length}
 use Rattle.html_template.specs.Slots.{suits}
 use Rattle.html_template.specs.TemplateFaults.{slot_at}
 use Rattle.html_tokenizer.specs.declared.elements.Content.{Content}
@@ -30,7 +30,7 @@ use Rattle.html_template.proofs.PageUrls.Opening.{StandsAt, value_place}
 use Rattle.html_template.proofs.PageUrls.Placed.{InPart, IsFirst, behind, first_told, part_told, whole}
 use Rattle.html_template.proofs.PageUrls.SlotSteps.{past_slot}
 use Rattle.html_template.proofs.TemplateLaw.{link_in_url, part_in_url}
-use Rattle.html_template.proofs.Walks.{ok_slot, slot_suits, told_behind_markup}
+use Rattle.html_template.proofs.Walks.{ok_slot, slot_suits}
 use Rattle.html_template.proofs.PageUrls.Splitting.{IsCut, IsWhole, whole_or_cut}
 
 abbrev pub OpenStands : OpenUrl → Tokenizer → Type 0
@@ -50,46 +50,46 @@ module _ (p : SlotPlace) (content : Content) (attribute : Attribute) (place : is
   abbrev here : Tokenizer
   here = at_value (In p) content attribute
 
-  part_stands : (number : ℕ) (part : OpenPart) (bytes : List ℕ) (opened : OpenUrl) → is_refused (state_after here bytes).state ≡ false →
-      url_markup number (Within p part) bytes ≡ Ok opened → OpenStands opened (state_after here bytes)
-  part_stands number part bytes opened unrefused told =
+  part_stands : (part : OpenPart) (bytes : List ℕ) (opened : OpenUrl) → is_refused (state_after here bytes).state ≡ false →
+      url_markup (Within p part) bytes ≡ Ok opened → OpenStands opened (state_after here bytes)
+  part_stands part bytes opened unrefused told =
       ⊎_elim
       (λ (whole : IsWhole (ends_value p) bytes).
       let end = whole.end in
       let all_of_it : nat_lt (value_length p bytes) (length bytes) ≡ false = grind (arith, nat_tests) in
-      let behind = behind_told number p part false bytes opened (rw (all_of_it, whole.all) at told) in
+      let behind = behind_told p part false bytes opened (rw (all_of_it, whole.all) at told) in
       let reads = reads_on p content attribute bytes behind.text place url whole.none behind.adds.read unrefused in
-      subst (λ (x : OpenUrl). OpenStands x (state_after here bytes)) (goes_on number p behind.after opened behind.told)
+      subst (λ (x : OpenUrl). OpenStands x (state_after here bytes)) (goes_on p behind.after opened behind.told)
       (subst (StandsAt p) (sym reads.stays.passes.after) (record { state_is = refl; attribute_is = reads.url })))
       (λ (cut : IsCut (ends_value p) bytes).
       let within = cut.within in
       let ends : nat_lt (value_length p bytes) (length bytes) ≡ true = grind (arith, nat_tests) in
-      let behind = behind_told number p part true (take (value_length p bytes) bytes) opened (rw ends at told) in
-      subst (λ (x : OpenUrl). OpenStands x (state_after here bytes)) (is_ended number p behind.after opened behind.told).outside tt)
+      let behind = behind_told p part true (take (value_length p bytes) bytes) opened (rw ends at told) in
+      subst (λ (x : OpenUrl). OpenStands x (state_after here bytes)) (is_ended p behind.after opened behind.told).outside tt)
       (whole_or_cut (ends_value p) bytes)
 
-  whole_stands : (number : ℕ) (bytes : List ℕ) (opened : OpenUrl) → url_markup number (Whole p) bytes ≡ Ok opened → OpenStands opened (state_after here bytes)
-  whole_stands number [] opened told =
+  whole_stands : (bytes : List ℕ) (opened : OpenUrl) → url_markup (Whole p) bytes ≡ Ok opened → OpenStands opened (state_after here bytes)
+  whole_stands [] opened told =
       subst (λ (x : OpenUrl). OpenStands x here) (ok_url told) (record { state_is = refl; attribute_is = url })
-  whole_stands number (b ∷ rest) opened told =
+  whole_stands (b ∷ rest) opened told =
       ⊎_elim
       (λ (ends : ends_value p b ≡ true). subst (λ (x : OpenUrl). OpenStands x (state_after here (b ∷ rest))) (ok_url (rw ends at told)) tt)
       (λ (goes_on : ends_value p b ≡ false).
-      let clash : Err (AfterLink number) ≡ as_told opened = rw goes_on at told in
+      let clash : Err AfterLink ≡ as_told opened = rw goes_on at told in
       absurd (cc))
       (cases_Bool (ends_value p b))
 
-pub markup_stands : (number : ℕ) (before : OpenUrl) (t : Tokenizer) (bytes : List ℕ) (opened : OpenUrl) → IsTame t →
-    is_refused (state_after t bytes).state ≡ false → url_markup number before bytes ≡ Ok opened → OpenStands before t → OpenStands opened (state_after t bytes)
-markup_stands number Outside t bytes opened tame unrefused told stands =
+pub markup_stands : (before : OpenUrl) (t : Tokenizer) (bytes : List ℕ) (opened : OpenUrl) → IsTame t →
+    is_refused (state_after t bytes).state ≡ false → url_markup before bytes ≡ Ok opened → OpenStands before t → OpenStands opened (state_after t bytes)
+markup_stands Outside t bytes opened tame unrefused told stands =
     subst (λ (x : OpenUrl). OpenStands x (state_after t bytes)) (ok_url told) tt
-markup_stands number (Within p part) t bytes opened tame unrefused told stands =
+markup_stands (Within p part) t bytes opened tame unrefused told stands =
     subst (λ s. OpenStands opened (state_after (at_value s t.content t.attribute) bytes)) (sym stands.state_is)
-    (part_stands p t.content t.attribute (value_place p t tame stands) stands.attribute_is number part bytes opened
+    (part_stands p t.content t.attribute (value_place p t tame stands) stands.attribute_is part bytes opened
     (subst (λ s. is_refused (state_after (at_value s t.content t.attribute) bytes).state ≡ false) stands.state_is unrefused) told)
-markup_stands number (Whole p) t bytes opened tame unrefused told stands =
+markup_stands (Whole p) t bytes opened tame unrefused told stands =
     subst (λ s. OpenStands opened (state_after (at_value s t.content t.attribute) bytes)) (sym stands.state_is)
-    (whole_stands p t.content t.attribute (value_place p t tame stands) stands.attribute_is number bytes opened told)
+    (whole_stands p t.content t.attribute (value_place p t tame stands) stands.attribute_is bytes opened told)
 
 -- ---- behind a slot
 
@@ -104,11 +104,11 @@ first_opens : (p : SlotPlace) (markup : List ℕ) (slot : PlacedSlot) → IsFirs
 first_opens p markup slot (whole last is) = subst OpensUrl is (λ t url. record { state_is = refl; attribute_is = url })
 first_opens p markup slot (behind raw last front) = part_opens p front.part slot front.placed
 
-url_opens : (number : ℕ) (p : SlotPlace) (is_followed : Bool) (markup : List ℕ) (url : OpenUrl) (slot : PlacedSlot) →
-    slot_behind number p is_followed markup url ≡ Ok slot → OpensUrl slot
-url_opens number p is_followed markup Outside slot told = first_opens p markup slot (first_told number p is_followed markup slot told)
-url_opens number p is_followed markup (Within q part) slot told = part_opens p part slot (part_told number p part slot told)
-url_opens number p is_followed markup (Whole q) slot told = absurd (cc)
+url_opens : (p : SlotPlace) (is_followed : Bool) (markup : List ℕ) (url : OpenUrl) (slot : PlacedSlot) →
+    url_slot p is_followed markup url ≡ Ok slot → OpensUrl slot
+url_opens p is_followed markup Outside slot told = first_opens p markup slot (first_told p is_followed markup slot told)
+url_opens p is_followed markup (Within q part) slot told = part_opens p part slot (part_told p part slot told)
+url_opens p is_followed markup (Whole q) slot told = absurd (cc)
 
 -- it stands in the value of an attribute that holds one
 holds_url : (found : SlotKind) (p : SlotPlace) (t : Tokenizer) → suits found p (standing t) ≡ true → suits kind.Text p (standing t) ≡ false → is_url t.attribute ≡ true
@@ -116,14 +116,14 @@ holds_url kind.Text p t suited no_text = absurd (true≢false (sym suited ∙ no
 holds_url (kind.UrlPart slot) p t suited no_text = (part_in_url slot p t.state t.content t.attribute suited).attribute_is
 holds_url kind.Link p t suited no_text = (link_in_url p t.state t.content t.attribute suited).attribute_is
 
-pub slot_stands : (number : ℕ) (markup : List ℕ) (url : OpenUrl) (t : Tokenizer) (s : Standing) (slot : PlacedSlot) → standing t ≡ s →
-    slot_at number markup url s ≡ Ok slot → OpenStands slot.url (past_slot t slot.place)
-slot_stands number markup url t (Stands p) slot is told = subst (λ (x : PlacedSlot). OpenStands x.url (past_slot t x.place)) (ok_slot told) tt
-slot_stands number markup url t (InUrl p) slot is told =
-    url_opens number p false markup url slot (told_behind_markup number p false markup url slot told) t
-    (holds_url slot.kind slot.place t (rw is (slot_suits number markup url (InUrl p) slot told).suited) (rw is refl))
-slot_stands number markup url t (InLink p) slot is told =
-    url_opens number p true markup url slot (told_behind_markup number p true markup url slot told) t
-    (holds_url slot.kind slot.place t (rw is (slot_suits number markup url (InLink p) slot told).suited) (rw is refl))
-slot_stands number markup url t Barred slot is told = absurd (cc)
-slot_stands number markup url t Nowhere slot is told = absurd (cc)
+pub slot_stands : (markup : List ℕ) (url : OpenUrl) (t : Tokenizer) (s : Standing) (slot : PlacedSlot) → standing t ≡ s →
+    slot_at markup url s ≡ Ok slot → OpenStands slot.url (past_slot t slot.place)
+slot_stands markup url t (Stands p) slot is told = subst (λ (x : PlacedSlot). OpenStands x.url (past_slot t x.place)) (ok_slot told) tt
+slot_stands markup url t (InUrl p) slot is told =
+    url_opens p false markup url slot told t
+    (holds_url slot.kind slot.place t (rw is (slot_suits markup url (InUrl p) slot told).suited) (rw is refl))
+slot_stands markup url t (InLink p) slot is told =
+    url_opens p true markup url slot told t
+    (holds_url slot.kind slot.place t (rw is (slot_suits markup url (InLink p) slot told).suited) (rw is refl))
+slot_stands markup url t Barred slot is told = absurd (cc)
+slot_stands markup url t Nowhere slot is told = absurd (cc)

@@ -25,13 +25,13 @@ pub record InPart (p : SlotPlace) (part : OpenPart) (slot : PlacedSlot) : Type 0
   pub at : slot_at part ≡ Some found
   pub is : part_slot p part found ≡ slot
 
-found_told : (number : ℕ) (p : SlotPlace) (part : OpenPart) (found : Option UrlSlot) (slot : PlacedSlot) → slot_at part ≡ found →
-    at_open number p part found ≡ Ok slot → InPart p part slot
-found_told number p part None slot at told = absurd (cc)
-found_told number p part (Some found) slot at told = record { found = found; at = at; is = ok_slot told }
+found_told : (p : SlotPlace) (part : OpenPart) (found : Option UrlSlot) (slot : PlacedSlot) → slot_at part ≡ found →
+    at_open p part found ≡ Ok slot → InPart p part slot
+found_told p part None slot at told = absurd (cc)
+found_told p part (Some found) slot at told = record { found = found; at = at; is = ok_slot told }
 
-pub part_told : (number : ℕ) (p : SlotPlace) (part : OpenPart) (slot : PlacedSlot) → in_part number p (Some part) ≡ Ok slot → InPart p part slot
-part_told number p part slot told = found_told number p part (slot_at part) slot refl told
+pub part_told : (p : SlotPlace) (part : OpenPart) (slot : PlacedSlot) → in_part p (Some part) ≡ Ok slot → InPart p part slot
+part_told p part slot told = found_told p part (slot_at part) slot refl told
 
 -- the first slot of a URL, behind its markup
 pub record BehindFront (p : SlotPlace) (raw : List ℕ) (slot : PlacedSlot) : Type 0 where
@@ -41,35 +41,35 @@ pub record BehindFront (p : SlotPlace) (raw : List ℕ) (slot : PlacedSlot) : Ty
   pub opened : open_of text ≡ Some part
   pub placed : InPart p part slot
 
-opened_told : (number : ℕ) (p : SlotPlace) (raw text : List ℕ) (slot : PlacedSlot) (opened : Option OpenPart) → AddsText false raw text → open_of text ≡ opened →
-    in_part number p opened ≡ Ok slot → BehindFront p raw slot
-opened_told number p raw text slot None adds is told = absurd (cc)
-opened_told number p raw text slot (Some part) adds is told =
-    record { text = text; adds = adds; part = part; opened = is; placed = part_told number p part slot told }
+opened_told : (p : SlotPlace) (raw text : List ℕ) (slot : PlacedSlot) (opened : Option OpenPart) → AddsText false raw text → open_of text ≡ opened →
+    in_part p opened ≡ Ok slot → BehindFront p raw slot
+opened_told p raw text slot None adds is told = absurd (cc)
+opened_told p raw text slot (Some part) adds is told =
+    record { text = text; adds = adds; part = part; opened = is; placed = part_told p part slot told }
 
-front_told : (number : ℕ) (p : SlotPlace) (raw : List ℕ) (slot : PlacedSlot) (read : Option (List ℕ)) → plain_text false raw ≡ read →
-    behind_text number p read ≡ Ok slot → BehindFront p raw slot
-front_told number p raw slot None is told = absurd (cc)
-front_told number p raw slot (Some text) is told =
-    opened_told number p raw text slot (open_of text) (adds_text false raw text is) refl told
+front_told : (p : SlotPlace) (raw : List ℕ) (slot : PlacedSlot) (read : Option (List ℕ)) → plain_text false raw ≡ read →
+    behind_text p read ≡ Ok slot → BehindFront p raw slot
+front_told p raw slot None is told = absurd (cc)
+front_told p raw slot (Some text) is told =
+    opened_told p raw text slot (open_of text) (adds_text false raw text is) refl told
 
-whole_told : (is_followed : Bool) (p : SlotPlace) (number : ℕ) (slot : PlacedSlot) → whole_slot number p is_followed ≡ Ok slot → link_slot p ≡ slot
-whole_told true place.DoubleQuoted number slot told = ok_slot told
-whole_told true place.SingleQuoted number slot told = ok_slot told
-whole_told is_followed p number slot told = absurd (cc)
+whole_told : (is_followed : Bool) (p : SlotPlace) (slot : PlacedSlot) → whole_slot p is_followed ≡ Ok slot → link_slot p ≡ slot
+whole_told true place.DoubleQuoted slot told = ok_slot told
+whole_told true place.SingleQuoted slot told = ok_slot told
+whole_told is_followed p slot told = absurd (cc)
 
 -- it is a whole URL, or stands behind markup
 pub data IsFirst (p : SlotPlace) (markup : List ℕ) (slot : PlacedSlot) : Type 0 where
   whole : after_last (begins_value p) markup ≡ Some [] → link_slot p ≡ slot → IsFirst p markup slot
   behind : (raw : List ℕ) → after_last (begins_value p) markup ≡ Some raw → BehindFront p raw slot → IsFirst p markup slot
 
-last_told : (number : ℕ) (p : SlotPlace) (is_followed : Bool) (markup : List ℕ) (slot : PlacedSlot) (last : Option (List ℕ)) →
-    after_last (begins_value p) markup ≡ last → first_slot number p is_followed last ≡ Ok slot → IsFirst p markup slot
-last_told number p is_followed markup slot None is told = absurd (cc)
-last_told number p is_followed markup slot (Some []) is told = whole is (whole_told is_followed p number slot told)
-last_told number p is_followed markup slot (Some (b ∷ raw)) is told =
-    behind (b ∷ raw) is (front_told number p (b ∷ raw) slot (plain_text false (b ∷ raw)) refl told)
+last_told : (p : SlotPlace) (is_followed : Bool) (markup : List ℕ) (slot : PlacedSlot) (last : Option (List ℕ)) →
+    after_last (begins_value p) markup ≡ last → first_slot p is_followed last ≡ Ok slot → IsFirst p markup slot
+last_told p is_followed markup slot None is told = absurd (cc)
+last_told p is_followed markup slot (Some []) is told = whole is (whole_told is_followed p slot told)
+last_told p is_followed markup slot (Some (b ∷ raw)) is told =
+    behind (b ∷ raw) is (front_told p (b ∷ raw) slot (plain_text false (b ∷ raw)) refl told)
 
-pub first_told : (number : ℕ) (p : SlotPlace) (is_followed : Bool) (markup : List ℕ) (slot : PlacedSlot) →
-    first_slot number p is_followed (after_last (begins_value p) markup) ≡ Ok slot → IsFirst p markup slot
-first_told number p is_followed markup slot told = last_told number p is_followed markup slot (after_last (begins_value p) markup) refl told
+pub first_told : (p : SlotPlace) (is_followed : Bool) (markup : List ℕ) (slot : PlacedSlot) →
+    first_slot p is_followed (after_last (begins_value p) markup) ≡ Ok slot → IsFirst p markup slot
+first_told p is_followed markup slot told = last_told p is_followed markup slot (after_last (begins_value p) markup) refl told

@@ -24,7 +24,7 @@ use Rattle.html_template.proofs.PageUrls.Placed.{IsFirst, behind, first_told, pa
 use Rattle.html_template.proofs.PageUrls.TextSlots.{text_goes, text_stands_apart}
 use Rattle.html_template.proofs.PageUrls.UrlSlots.{first_goes, later_goes, link_goes}
 use Rattle.html_template.proofs.TemplateLaw.{link_in_url, part_in_url}
-use Rattle.html_template.proofs.Walks.{ok_slot, same_itself, slot_suits, told_behind_markup}
+use Rattle.html_template.proofs.Walks.{ok_slot, same_itself, slot_suits}
 
 abbrev pub past_slot : Tokenizer → SlotPlace → Tokenizer
 past_slot t p = at_value (In p) t.content t.attribute
@@ -38,9 +38,9 @@ tame_of_kind kind.Link p t tame suited = λ is.
     let in_value = link_in_url p t.state t.content t.attribute suited in
     value_place p t tame (record { state_is = in_value.state_is; attribute_is = in_value.attribute_is })
 
-pub tame_behind : (number : ℕ) (markup : List ℕ) (url : OpenUrl) (t : Tokenizer) (slot : PlacedSlot) → IsTame t →
-    slot_at number markup url (standing t) ≡ Ok slot → IsTame (past_slot t slot.place)
-tame_behind number markup url t slot tame told = tame_of_kind slot.kind slot.place t tame (slot_suits number markup url (standing t) slot told).suited
+pub tame_behind : (markup : List ℕ) (url : OpenUrl) (t : Tokenizer) (slot : PlacedSlot) → IsTame t →
+    slot_at markup url (standing t) ≡ Ok slot → IsTame (past_slot t slot.place)
+tame_behind markup url t slot tame told = tame_of_kind slot.kind slot.place t tame (slot_suits markup url (standing t) slot told).suited
 
 -- ---- where no URL with a slot is open, and where one is
 
@@ -67,44 +67,44 @@ module _ (t : Tokenizer) (chunks : List Chunk) (tame : IsTame t) where
       (goes (record { state_is = refl; attribute_is = (part_in_url front.placed.found p t.state t.content t.attribute suited).attribute_is }))
       front.text front.adds.plain front.opened value same)
 
-  url_from_markup : (number : ℕ) (p : SlotPlace) (is_followed : Bool) (markup value : List ℕ) (slot : PlacedSlot) → in_url p (standing t) ≡ true →
-      FromMarkup t markup value → url_slot number p is_followed markup Outside ≡ Ok slot → FromSlot (HasLater t value) slot
-  url_from_markup number p is_followed markup value slot stands from told =
-      first_slot p markup value slot stands from (first_told number p is_followed markup slot (told_behind_markup number p is_followed markup Outside slot told))
+  url_from_markup : (p : SlotPlace) (is_followed : Bool) (markup value : List ℕ) (slot : PlacedSlot) → in_url p (standing t) ≡ true →
+      FromMarkup t markup value → url_slot p is_followed markup Outside ≡ Ok slot → FromSlot (HasLater t value) slot
+  url_from_markup p is_followed markup value slot stands from told =
+      first_slot p markup value slot stands from (first_told p is_followed markup slot told)
 
-  from_markup : (number : ℕ) (markup value : List ℕ) (slot : PlacedSlot) (s : Standing) → standing t ≡ s → FromMarkup t markup value →
-      slot_at number markup Outside s ≡ Ok slot → FromSlot (HasLater t value) slot
-  from_markup number markup value slot (Stands p) is from told =
+  from_markup : (markup value : List ℕ) (slot : PlacedSlot) (s : Standing) → standing t ≡ s → FromMarkup t markup value →
+      slot_at markup Outside s ≡ Ok slot → FromSlot (HasLater t value) slot
+  from_markup markup value slot (Stands p) is from told =
       subst (FromSlot (HasLater t value)) (ok_slot told) (λ suited goes. text_goes p t value chunks suited goes)
-  from_markup number markup value slot (InUrl p) is from told = url_from_markup number p false markup value slot (rw is (same_itself p)) from told
-  from_markup number markup value slot (InLink p) is from told = url_from_markup number p true markup value slot (rw is (same_itself p)) from told
-  from_markup number markup value slot Nowhere is from told = absurd (cc)
-  from_markup number markup value slot Barred is from told = absurd (cc)
+  from_markup markup value slot (InUrl p) is from told = url_from_markup p false markup value slot (rw is (same_itself p)) from told
+  from_markup markup value slot (InLink p) is from told = url_from_markup p true markup value slot (rw is (same_itself p)) from told
+  from_markup markup value slot Nowhere is from told = absurd (cc)
+  from_markup markup value slot Barred is from told = absurd (cc)
 
-  url_within : (number : ℕ) (p q : SlotPlace) (is_followed : Bool) (open_part : OpenPart) (markup : List ℕ) (slot : PlacedSlot) →
-      url_slot number p is_followed markup (Within q open_part) ≡ Ok slot → FromSlot (GoesOn open_part t) slot
-  url_within number p q is_followed open_part markup slot told =
-      let placed = part_told number p open_part slot (told_behind_markup number p is_followed markup (Within q open_part) slot told) in
+  url_within : (p q : SlotPlace) (is_followed : Bool) (open_part : OpenPart) (markup : List ℕ) (slot : PlacedSlot) →
+      url_slot p is_followed markup (Within q open_part) ≡ Ok slot → FromSlot (GoesOn open_part t) slot
+  url_within p q is_followed open_part markup slot told =
+      let placed = part_told p open_part slot told in
       subst (FromSlot (GoesOn open_part t)) placed.is
       (λ suited goes.
       later_goes t p placed.found chunks tame suited open_part placed.at
       (goes (record { state_is = refl; attribute_is = (part_in_url placed.found p t.state t.content t.attribute suited).attribute_is })))
 
-  within : (number : ℕ) (q : SlotPlace) (open_part : OpenPart) (markup : List ℕ) (slot : PlacedSlot) (s : Standing) → standing t ≡ s → StandsAt q t →
-      slot_at number markup (Within q open_part) s ≡ Ok slot → FromSlot (GoesOn open_part t) slot
-  within number q open_part markup slot (Stands p) is stands told = absurd (no_text_stands q p t is stands)
-  within number q open_part markup slot (InUrl p) is stands told = url_within number p q false open_part markup slot told
-  within number q open_part markup slot (InLink p) is stands told = url_within number p q true open_part markup slot told
-  within number q open_part markup slot Nowhere is stands told = absurd (cc)
-  within number q open_part markup slot Barred is stands told = absurd (cc)
+  within : (q : SlotPlace) (open_part : OpenPart) (markup : List ℕ) (slot : PlacedSlot) (s : Standing) → standing t ≡ s → StandsAt q t →
+      slot_at markup (Within q open_part) s ≡ Ok slot → FromSlot (GoesOn open_part t) slot
+  within q open_part markup slot (Stands p) is stands told = absurd (no_text_stands q p t is stands)
+  within q open_part markup slot (InUrl p) is stands told = url_within p q false open_part markup slot told
+  within q open_part markup slot (InLink p) is stands told = url_within p q true open_part markup slot told
+  within q open_part markup slot Nowhere is stands told = absurd (cc)
+  within q open_part markup slot Barred is stands told = absurd (cc)
 
 -- ---- where anything is open
 
-pub slot_goes : (number : ℕ) (markup : List ℕ) (url : OpenUrl) (t : Tokenizer) (slot : PlacedSlot) (chunks : List Chunk) → IsTame t →
-    slot_at number markup url (standing t) ≡ Ok slot → Goes slot.url (past_slot t slot.place) [] chunks → Goes url t markup (Slot slot.place slot.kind ∷ chunks)
-slot_goes number markup Outside t slot chunks tame told goes = λ value from.
-    from_markup t chunks tame number markup value slot (standing t) refl from told (slot_suits number markup Outside (standing t) slot told).suited goes
-slot_goes number markup (Within p open_part) t slot chunks tame told goes = λ stands.
-    within t chunks tame number p open_part markup slot (standing t) refl stands told (slot_suits number markup (Within p open_part) (standing t) slot told).suited goes
-slot_goes number markup (Whole p) t slot chunks tame told goes = λ stands.
-    absurd (no_slot_behind number markup p t slot (standing t) refl stands told)
+pub slot_goes : (markup : List ℕ) (url : OpenUrl) (t : Tokenizer) (slot : PlacedSlot) (chunks : List Chunk) → IsTame t →
+    slot_at markup url (standing t) ≡ Ok slot → Goes slot.url (past_slot t slot.place) [] chunks → Goes url t markup (Slot slot.place slot.kind ∷ chunks)
+slot_goes markup Outside t slot chunks tame told goes = λ value from.
+    from_markup t chunks tame markup value slot (standing t) refl from told (slot_suits markup Outside (standing t) slot told).suited goes
+slot_goes markup (Within p open_part) t slot chunks tame told goes = λ stands.
+    within t chunks tame p open_part markup slot (standing t) refl stands told (slot_suits markup (Within p open_part) (standing t) slot told).suited goes
+slot_goes markup (Whole p) t slot chunks tame told goes = λ stands.
+    absurd (no_slot_behind markup p t slot (standing t) refl stands told)

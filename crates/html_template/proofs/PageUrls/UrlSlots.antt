@@ -1,5 +1,5 @@
 -- A slot for a part of a URL, and one that is a whole URL.
-use Rattle.std.proofs.Common.{ℕ, ◌≡◌, ◌+◌, true, List, [], ◌∷◌, ◌++◌, IsUtf8, IsOkAnd, Ok, Some, drop, take, refl, sym, ap, ◌∙◌, subst, append-nil, append_assoc}
+use Rattle.std.proofs.Common.{ℕ, ◌≡◌, ◌+◌, true, false, List, [], ◌∷◌, ◌++◌, IsUtf8, IsOkAnd, Ok, Some, drop, take, refl, sym, ap, ◌∙◌, subst, append-nil, append_assoc}
 use Rattle.std.specs.List.{AllByRecursion}
 use Rattle.std.proofs.lemmas.Bool.{false≢true}
 use Rattle.hesc_places.specs.Places.ReadBack.{read_back}
@@ -83,7 +83,7 @@ module _ (t : Tokenizer) (p : SlotPlace) (slot : UrlSlot) (chunks : List Chunk) 
     }
 
     -- behind the first markup of it
-    module _ (front : List ℕ) (plain : is_plain front ≡ true) (opened : open_of front ≡ Some open_part) where
+    module _ (front : List ℕ) (plain : is_plain front false ≡ true) (opened : open_of front ≡ Some open_part) where
       abbrev parts : List Given
       parts = part.Markup front ∷ part.Slot ∷ behind.parts
 

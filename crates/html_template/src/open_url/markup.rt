@@ -110,7 +110,7 @@ pub(crate) fn plain_text<'m, A: Allocator>(
     } else {
         PlainText::Same(markup)
     };
-    if is_plain(text.as_bytes()) {
+    if is_plain(text.as_bytes(), is_ended) {
         Ok(Some(text))
     } else {
         Ok(None)

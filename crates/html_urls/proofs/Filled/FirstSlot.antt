@@ -1,24 +1,24 @@
 -- The markup before the first slot, and what its text and the parts behind it do.
 use Rattle.std.proofs.Common.{◌≡◌, ◌≢◌, ℕ, ◌+◌, ◌<◌, Bool, true, false, not, ◌&&◌, ◌||◌, ◌==◌, nat_lt, List, [], ◌∷◌, ◌++◌, length, drop, take, get_or, lt_of_not-le, codes, Option, Some, None, Ok, Err, IsOkAnd, is_some, All, sym, refl, ap, ◌∙◌, subst, ⊎_elim, append_assoc, append-nil, arith}
-use Rattle.std.proofs.lemmas.Bool.{cases_Bool, cases_eq, both_ways, eq-eqb, eqb-true, ne_eqb, and_parts, cond-true, cond-false, lt-leb, lt-ltb}
+use Rattle.std.proofs.lemmas.Bool.{cases_Bool, cases_eq, both_ways, eq-eqb, eqb-true, ne_eqb, and_parts, cond-true, cond-false, lt-leb}
 use Rattle.std.proofs.lemmas.Bool.Decides.{nat_tests, Decides-eqb}
-use Rattle.std.proofs.lemmas.List.Elements.{All-nil, All-cons, All-head, All-tail, All-append, All-push, All-weaker}
+use Rattle.std.proofs.lemmas.List.Elements.{All-nil, All-cons, All-head, All-tail, All-push, All-weaker}
 use Rattle.std.proofs.lemmas.Slice.Eq.{starts_is}
 use Rattle.url.specs.Input.{rsplit_once, split_once, trim_c0_control_and_space}
 use Rattle.url.specs.Path.{dot_count}
 use Rattle.url.specs.Parts.{Parts}
 use Rattle.url.specs.Parser.{parse_url}
-use Rattle.url.proofs.InputLemmas.{All_from_list_all, split_around}
+use Rattle.url.proofs.InputLemmas.{split_around}
 use Rattle.std.proofs.lemmas.List.{get_or_past}
 use Rattle.html_urls.specs.Components.{component}
-use Rattle.html_urls.specs.Heads.{head_of}
+use Rattle.html_urls.specs.Heads.{on_ok}
 use Rattle.html_urls.specs.Hosts.{FixesHost, IsWebBase, has_first_segment, is_web_scheme, rooted}
 use Rattle.html_urls.specs.Inputs.{IsNot, IsVisible, kept, kept_rest}
 use Rattle.html_urls.specs.Links.{is_link, mark_at}
 use Rattle.html_urls.specs.Parts.Paths.{FitsSegment, IsPathText, is_path_byte}
 use Rattle.html_urls.specs.Parts.Rests.{path_of}
 use Rattle.html_urls.specs.Parts.Segments.{HasNoDotSegments, last_segment}
-use Rattle.html_urls.specs.Places.{EndsIn, Fits, SuitsPlace, has_whole_host}
+use Rattle.html_urls.specs.Places.{EndsIn, Fits, SuitsPlace, goes_on}
 use Rattle.html_urls.specs.declared.open_part.OpenPart.{OpenPart}
 use Rattle.html_urls.specs.declared.open_part.OpenPart.TheVariants.{NewSegment, DotSegment, NamedSegment, Query, Fragment}
 use Rattle.html_urls.specs.declared.parts.UrlFault.TheVariants as fault
@@ -26,37 +26,15 @@ use Rattle.html_urls.specs.declared.parts.UrlSlot.{UrlSlot}
 use Rattle.html_urls.specs.declared.place.UrlPlace.{UrlPlace}
 use Rattle.html_urls.specs.declared.place.UrlPlace.TheVariants as place
 use Rattle.html_urls.specs.OpenParts.{after_byte, after_front, after_segment_byte, begins, has_byte, has_host, has_web_host, after_text, is_fixed, is_rooted, may_be_dots, open_of, open_of_link, slot_at}
-use Rattle.html_urls.specs.Slots.{FillSlots, Given, Markup, Slot, Told, after_slots, first_slots, is_plain, is_plain_byte, later_slots, may_fill, told_of, url_of}
-use Rattle.html_urls.proofs.Splits.{kept_nothing, kept_visible}
+use Rattle.html_urls.specs.Slots.{FillSlots, Told, is_plain_byte, may_fill}
+use Rattle.html_urls.proofs.Splits.{all_visible, kept_nothing, kept_visible}
 use Rattle.html_urls.proofs.Paths.PathSegments.{last_after, last_of_whole, last_whole}
-use Rattle.html_urls.proofs.Places.PlaceSound.{first_segment, own_host, whole_host}
-use Rattle.html_urls.proofs.Places.PlaceStays.{all_visible}
-use Rattle.html_urls.proofs.Places.UrlLaw.{head_law}
+use Rattle.html_urls.proofs.Places.FixedHosts.{byte_found, first_segment, own_host, whole_host}
+use Rattle.html_urls.proofs.Places.UrlLaw.{url_law}
 use Rattle.html_urls.proofs.Filled.OpenSegments.{Open, after_segment, closes, in_path, segment_in_path}
-use Rattle.html_urls.proofs.Filled.LaterSlots.{Good, later_good, of_path, path_over_text, refusal, text_good}
+use Rattle.html_urls.proofs.Filled.LaterSlots.{Good, of_path, path_over_text, text_good}
 
 -- ---- the host is fixed
-
-byte_found : (mark : ℕ) (bytes : List ℕ) → has_byte mark bytes ≡ is_some (split_once mark bytes).1
-unfolding split_once
-byte_found mark [] = refl
-byte_found mark (b ∷ bytes) =
-    ⊎_elim (λ (here : (b == mark) ≡ true). rw here refl) (λ (other : (b == mark) ≡ false). rw other (byte_found mark bytes)) (cases_Bool (b == mark))
-
-host_is_whole : (body : List ℕ) → has_host body ≡ true → has_whole_host body ≡ true
-unfolding split_once
-host_is_whole [] has = cc
-host_is_whole (a ∷ []) has = cc
-host_is_whole (a ∷ b ∷ []) has = cc
-host_is_whole (a ∷ b ∷ c ∷ more) has =
-    let first : (a == 47) ≡ true = grind (arith, nat_tests) in
-    let second : (b == 47) ≡ true = grind (arith, nat_tests) in
-    let third : (c == 47) ≡ false = grind (arith, nat_tests) in
-    let found : has_byte 47 more ≡ true = (and_parts (a == 47 && b == 47 && not (c == 47)) (has_byte 47 more) has).1 in
-    let whole : split_once 47 (c ∷ more) ≡ (c ∷ (split_once 47 more).0, (split_once 47 more).1) = cond-false _ _ _ third in
-    let positive : nat_lt 0 (length (c ∷ (split_once 47 more).0)) ≡ true = lt-ltb 0 _ (omega arith) in
-    let ends : is_some (split_once 47 more).1 ≡ true = sym (byte_found 47 more) ∙ found in
-    rw (first, second) (ap (λ r. nat_lt 0 (length r.0) && is_some r.1) whole ∙ rw (positive, ends) refl)
 
 begun : (front mark : List ℕ) → begins front mark ≡ true → front ≡ mark ++ drop (length mark) front
 begun front mark = (starts_is Decides-eqb front mark (begins front mark) refl).0
@@ -81,7 +59,7 @@ absolute_front front web =
     let first = and_parts (get_or front n 0 == 58) (is_web_scheme scheme) parts.0 in
     let same : get_or front n 0 ≡ 58 = eqb-true _ 58 first.0 in
     let inside : n < length front = lt_of_not-le (λ past. let none : get_or front n 0 ≡ 0 = get_or_past front n 0 past in omega arith) in
-    whole_host front scheme body (split_around front n 58 inside same) first.1 (host_is_whole body parts.1)
+    whole_host front scheme body (split_around front n 58 inside same) first.1 parts.1
 
 pub fixed_front : (front : List ℕ) → is_fixed front ≡ true → FixesHost front
 fixed_front front fixed =
@@ -95,7 +73,7 @@ fixed_front front fixed =
     (λ (below : has_first_segment front ≡ true). first_segment front below)
     (λ (not_below : has_first_segment front ≡ false).
     ⊎_elim
-    (λ (own : has_host front ≡ true). own_host front (host_is_whole front own))
+    (λ (own : has_host front ≡ true). own_host front own)
     (λ (no_own : has_host front ≡ false). absolute_front front (rw (not_below, no_own) at either))
     (cases_Bool (has_host front)))
     (cases_Bool (has_first_segment front)))
@@ -312,55 +290,19 @@ text_fits front NewSegment slot text rest stands here may good = subst (λ at. F
 text_fits front DotSegment slot text rest stands here may good = cc
 text_fits front NamedSegment slot text rest stands here may good = subst (λ at. Fits at front text rest) (sym (slot_in_path NamedSegment slot here refl)) (path_fits front NamedSegment slot text rest stands refl here may good)
 
--- ---- the head
+-- ---- the URL
 
 pub any_suits : (at : UrlPlace) (base : Option Parts) → IsWebBase base → SuitsPlace at base
 any_suits place.Path base web = web
 any_suits place.Query base web = tt
 any_suits place.Fragment base web = tt
 
--- with these texts the URL has the head of the front's
-one_head : (base : Option Parts) (front : List ℕ) (p : OpenPart) (slot : UrlSlot) (text rest : List ℕ) → IsWebBase base → StandsIn front p slot.place → slot_at p ≡ Some slot → may_fill slot text ≡ true → Good (after_text p) rest →
-    head_of (parse_url base (front ++ (component text ++ rest))) ≡ head_of (parse_url base front)
-one_head base front p slot text rest web stands here may good =
-    ap (λ url. head_of (parse_url base url)) (sym (append_assoc front (component text) rest))
-    ∙ head_law slot.place base front text rest stands.ends (text_fits front p slot text rest stands here may good) (any_suits slot.place base web)
-
-slots_head : (base : Option Parts) (front : List ℕ) (p : OpenPart) (parts : List Given) (number : ℕ) (slots : List UrlSlot) (texts : List (List ℕ)) → IsWebBase base → All (λ b. is_plain_byte b ≡ true) front → open_of front ≡ Some p →
-    later_slots number p (Slot ∷ parts) ≡ Ok slots → FillSlots slots texts → head_of (parse_url base (front ++ url_of (Slot ∷ parts) texts)) ≡ head_of (parse_url base front)
-slots_head base front p parts number slots texts web plain is told fill = at_slot (slot_at p) refl told
-  where
-    filled : (slot : UrlSlot) → slot_at p ≡ Some slot → (more : List UrlSlot) → later_slots (number + 1) (after_text p) parts ≡ Ok more → (texts : List (List ℕ)) → FillSlots (slot ∷ more) texts → head_of (parse_url base (front ++ url_of (Slot ∷ parts) texts)) ≡ head_of (parse_url base front)
-    filled slot here more rest [] fill = absurd fill
-    filled slot here more rest (text ∷ texts) fill =
-        one_head base front p slot text (url_of parts texts) web (front_stands front p slot plain is here) here fill.0 (later_good parts texts more (number + 1) (after_text p) rest fill.1)
-
-    go_on : (slot : UrlSlot) → slot_at p ≡ Some slot → (more : Told) → later_slots (number + 1) (after_text p) parts ≡ more → after_slots (slot ∷ []) more ≡ Ok slots → head_of (parse_url base (front ++ url_of (Slot ∷ parts) texts)) ≡ head_of (parse_url base front)
-    go_on slot here (Ok more) rest found =
-        let same : slots ≡ slot ∷ more = cc in
-        filled slot here more rest texts (subst (λ l. FillSlots l texts) same fill)
-    go_on slot here (Err e) rest found = cc
-
-    at_slot : (o : Option UrlSlot) → slot_at p ≡ o → told_of o (fault.DotSegment number) (λ slot. after_slots (slot ∷ []) (later_slots (number + 1) (after_text p) parts)) ≡ Ok slots → head_of (parse_url base (front ++ url_of (Slot ∷ parts) texts)) ≡ head_of (parse_url base front)
-    at_slot (Some slot) here found = go_on slot here (later_slots (number + 1) (after_text p) parts) refl found
-    at_slot None here found = cc
-
-pub same_head : (base : Option Parts) (parts : List Given) (number : ℕ) (front : List ℕ) (slots : List UrlSlot) (texts others : List (List ℕ)) → IsWebBase base → All (λ b. is_plain_byte b ≡ true) front → first_slots number front parts ≡ Ok slots →
-    FillSlots slots texts → FillSlots slots others → head_of (parse_url base (front ++ url_of parts texts)) ≡ head_of (parse_url base (front ++ url_of parts others))
-same_head base [] number front slots texts others web plain is fill other = refl
-same_head base (Markup bytes ∷ parts) number front slots texts others web plain is fill other =
-    ⊎_elim
-    (λ (good : is_plain bytes ≡ true).
-    ap (λ url. head_of (parse_url base url)) (sym (append_assoc front bytes (url_of parts texts)))
-    ∙ same_head base parts (number + 1) (front ++ bytes) slots texts others web (All-append (λ b. is_plain_byte b ≡ true) front bytes plain (All_from_list_all is_plain_byte bytes good)) (rw good at is) fill other
-    ∙ ap (λ url. head_of (parse_url base url)) (append_assoc front bytes (url_of parts others)))
-    (λ (bad : is_plain bytes ≡ false). let clash : refusal (fault.NotPlain number) ≡ Ok slots = rw bad at is in cc)
-    (cases_Bool (is_plain bytes))
-same_head base (Slot ∷ parts) number front slots texts others web plain is fill other = at_front (open_of front) refl is
-  where
-    at_front : (o : Option OpenPart) → open_of front ≡ o → told_of o (fault.NotFixed number) (λ p. later_slots number p (Slot ∷ parts)) ≡ Ok slots → head_of (parse_url base (front ++ url_of (Slot ∷ parts) texts)) ≡ head_of (parse_url base (front ++ url_of (Slot ∷ parts) others))
-    at_front (Some p) here found = slots_head base front p parts number slots texts web plain here found fill ∙ sym (slots_head base front p parts number slots others web plain here found other)
-    at_front None here found = cc
+-- with these texts it is the URL of the front, of which the part goes on
+pub one_url : (base : Option Parts) (front : List ℕ) (p : OpenPart) (slot : UrlSlot) (text rest : List ℕ) → IsWebBase base → StandsIn front p slot.place → slot_at p ≡ Some slot → may_fill slot text ≡ true → Good (after_text p) rest →
+    parse_url base (front ++ (component text ++ rest)) ≡ on_ok (goes_on slot.place text rest) (parse_url base front)
+one_url base front p slot text rest web stands here may good =
+    ap (parse_url base) (sym (append_assoc front (component text) rest))
+    ∙ url_law slot.place base front text rest stands.ends (text_fits front p slot text rest stands here may good) (any_suits slot.place base web)
 
 -- parts whose slots are told, and two lists of texts
 pub both_fill : (told : Told) (texts others : List (List ℕ)) → IsOkAnd told (λ slots. FillSlots slots texts) → IsOkAnd told (λ slots. FillSlots slots others) → (slots : List UrlSlot) × (told ≡ Ok slots) × FillSlots slots texts × FillSlots slots others

@@ -5,7 +5,6 @@ use Rattle.std.proofs.lemmas.Bool.Decides.{nat_tests}
 use Rattle.std.proofs.lemmas.List.Elements.{All-nil, All-cons, All-head, All-tail, All-append, All-push, All-weaker}
 use Rattle.url.specs.Input.{split_once, strip_tabs_and_new_lines}
 use Rattle.url.specs.Path.{dot_count}
-use Rattle.url.proofs.InputLemmas.{All_from_list_all}
 use Rattle.html_urls.specs.Components.{component, is_component_byte}
 use Rattle.html_urls.specs.Inputs.{IsNot, IsVisible, kept_rest}
 use Rattle.html_urls.specs.Parts.Paths.{IsPathText, is_path_byte}
@@ -17,11 +16,12 @@ use Rattle.html_urls.specs.declared.parts.UrlFault.{UrlFault}
 use Rattle.html_urls.specs.declared.parts.UrlFault.TheVariants as fault
 use Rattle.html_urls.specs.declared.parts.UrlSlot.{UrlSlot}
 use Rattle.html_urls.specs.OpenParts.{after_byte, after_markup, after_path_byte, after_segment_byte, after_text, is_end, may_be_dots, slot_at}
-use Rattle.html_urls.specs.Slots.{FillSlots, Given, Markup, Slot, Told, after_slots, is_plain, is_plain_byte, later_slots, may_fill, told_of, url_of}
+use Rattle.html_urls.specs.Slots.{FillSlots, Given, Markup, Slot, Told, after_slots, is_plain, is_plain_byte, later_slots, may_fill, no_parts, told_of, url_of}
 use Rattle.html_urls.proofs.Components.{component_bytes, component_visible, component_without}
 use Rattle.html_urls.proofs.Splits.{kept_visible, split_clear}
 use Rattle.html_urls.proofs.Paths.PathSegments.{split_at, split_one}
 use Rattle.html_urls.proofs.Filled.NamedTexts.{text_names}
+use Rattle.html_urls.proofs.OpenEscapes.{plain_bytes}
 use Rattle.html_urls.proofs.Filled.OpenSegments.{IsNamed, Open, after_segment, closes, in_path, named_more, segment_in_path}
 
 -- ---- the path of a rest
@@ -169,10 +169,10 @@ later_good [] texts slots number p is fill =
     (cases_Bool (may_be_dots p))
 later_good (Markup bytes ∷ parts) texts slots number p is fill =
     ⊎_elim
-    (λ (plain : is_plain bytes ≡ true).
-    told (λ q found. later_good parts texts slots (number + 1) q found fill) (All_from_list_all is_plain_byte bytes plain) (after_markup p bytes) refl (rw plain at is))
-    (λ (other : is_plain bytes ≡ false). let clash : refusal (fault.NotPlain number) ≡ Ok slots = rw other at is in cc)
-    (cases_Bool (is_plain bytes))
+    (λ (plain : is_plain bytes (no_parts parts) ≡ true).
+    told (λ q found. later_good parts texts slots (number + 1) q found fill) (plain_bytes bytes (no_parts parts) plain) (after_markup p bytes) refl (rw plain at is))
+    (λ (other : is_plain bytes (no_parts parts) ≡ false). let clash : refusal (fault.NotPlain number) ≡ Ok slots = rw other at is in cc)
+    (cases_Bool (is_plain bytes (no_parts parts)))
   where
     told : ((q : OpenPart) → later_slots (number + 1) q parts ≡ Ok slots → Good q (url_of parts texts)) → All (λ b. is_plain_byte b ≡ true) bytes → (o : Option OpenPart) → after_markup p bytes ≡ o →
         told_of o (fault.DotSegment number) (λ after. later_slots (number + 1) after parts) ≡ Ok slots → Good p (bytes ++ url_of parts texts)

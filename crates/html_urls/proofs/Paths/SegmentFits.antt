@@ -1,25 +1,19 @@
--- Which texts may stand in a segment.
-use Rattle.std.proofs.Common.{◌≡◌, ◌≢◌, ◌⊎◌, ℕ, ◌<◌, true, false, not, ◌&&◌, ◌||◌, ◌==◌, List, [], ◌∷◌, ◌++◌, length, get_or, take, drop, All, sym, refl, ap, ◌∙◌, subst, inl, inr, ⊎_elim, append-nil, lt_of_not-le, arith, take_all, take-append-drop}
+-- Which texts read as dots in a segment.
+use Rattle.std.proofs.Common.{◌≡◌, ◌≢◌, ◌⊎◌, ℕ, ◌<◌, true, false, ◌&&◌, ◌||◌, ◌==◌, List, ◌++◌, length, get_or, take, drop, All, sym, refl, ap, ◌∙◌, subst, inl, inr, ⊎_elim, append-nil, lt_of_not-le, arith, take_all, take-append-drop}
 use Rattle.std.proofs.lemmas.Bool.{cond-true, cond-false, cases_Bool, cases_eq, both_ways}
 use Rattle.std.proofs.lemmas.Bool.Decides.{nat_tests}
 use Rattle.std.proofs.lemmas.List.{get_or_past}
-use Rattle.std.proofs.lemmas.List.Elements.{All-nil, All-cons, All-tail, All-append, All-weaker}
+use Rattle.std.proofs.lemmas.List.Elements.{All-nil, All-append}
 use Rattle.percent_encoding.specs.AsciiSet.{should_percent_encode}
 use Rattle.percent_encoding.specs.Percent.{IsKept}
 use Rattle.percent_encoding.proofs.PercentLemmas.{IsByte}
-use Rattle.form_urlencoded.specs.Form.{split}
 use Rattle.url.specs.Input.{is_empty}
 use Rattle.url.specs.Path.{dot_count, dot_len}
-use Rattle.url.proofs.InputLemmas.{All-take_from_reads, is_empty-nil, list_any_none}
+use Rattle.url.proofs.InputLemmas.{All-take_from_reads, is_empty-nil}
 use Rattle.url.proofs.PathLemmas.{IsDots, dots_from_encoded}
 use Rattle.html_urls.specs.declared.component.TheConstants.{COMPONENT}
 use Rattle.html_urls.specs.Components.{component}
-use Rattle.html_urls.specs.Inputs.{IsNot}
-use Rattle.html_urls.specs.Parts.Segments.{HasNoDotSegments, may_be_segment, BeginsSegment, is_dot_byte, names_segment, first_segment, later_segments}
-use Rattle.html_urls.proofs.Paths.Opening.{all_left, all_right}
-use Rattle.html_urls.proofs.Paths.OneSegment.{whole_first}
-use Rattle.html_urls.proofs.Components.{component_without}
-use Rattle.html_urls.proofs.Paths.PathSegments.{split_at, split_one}
+use Rattle.html_urls.specs.Parts.Segments.{may_be_segment, is_dot_byte}
 
 pub dot_kept : should_percent_encode COMPONENT 46 ≡ false
 unfolding should_percent_encode
@@ -41,22 +35,7 @@ component_dots text bytes may =
     ⊎_elim (λ kept. absurd (both_ways _ kept percent_escaped)) (λ dots. absurd (both_ways _ (dots_refused text dots) may)) found.1)
     (dots_from_encoded COMPONENT text dot_kept bytes)
 
--- such a text fits where the segment is its own, and the others have no dots
-pub own_segment : (last text path : List ℕ) → last ≡ [] → All IsByte text → may_be_segment text ≡ true → BeginsSegment path → HasNoDotSegments path → HasNoDotSegments (last ++ component text ++ path)
-own_segment last text path none bytes may begins dots =
-    let P = λ (s : List ℕ). dot_count s ≡ 0 in
-    let c = component text in
-    let whole = component_without 47 refl text in
-    let here = component_dots text bytes may in
-    subst HasNoDotSegments (sym (ap (λ l. l ++ c ++ path) none))
-    (⊎_elim
-    (λ (ended : path ≡ []). subst (All P) (sym (ap (λ p. split 47 (c ++ p)) ended ∙ ap (split 47) (append-nil c) ∙ split_one c whole)) (All-cons P c [] here (All-nil P)))
-    (λ (more : (segments : List ℕ) × (path ≡ 47 ∷ segments)).
-    let pieces = subst (All P) (ap (split 47) more.1 ∙ split_at [] more.0 (All-nil (IsNot 47))) dots in
-    subst (All P) (sym (ap (λ p. split 47 (c ++ p)) more.1 ∙ split_at c more.0 whole)) (All-cons P c (split 47 more.0) here (All-tail P [] (split 47 more.0) pieces)))
-    begins)
-
--- ---- a segment that other bytes name
+-- ---- the bytes of dot segments
 
 abbrev pub IsDotByte : ℕ → Type 0
 IsDotByte b = is_dot_byte b ≡ true
@@ -109,24 +88,3 @@ dot_segment_bytes xs dots =
     (cases_Bool (dot_len rest == length rest)))
     (cases_Bool (is_empty rest)))
     (cases_Bool (n == 0))
-
-unnamed : (xs : List ℕ) → All IsDotByte xs → names_segment xs ≡ false
-unnamed xs all = list_any_none (λ b. not (is_dot_byte b)) xs (All-weaker IsDotByte (λ b. not (is_dot_byte b) ≡ false) (λ b dot. ap not dot) xs all)
-
--- any text fits where the markup on one side of it names the segment
-pub mixed_segment : (last text path : List ℕ) → All (IsNot 47) last → (names_segment last ≡ true) ⊎ (names_segment (first_segment path) ≡ true) →
-    All (λ segment. dot_count segment ≡ 0) (later_segments path) → HasNoDotSegments (last ++ component text ++ path)
-mixed_segment last text path whole named later =
-    let P = λ (s : List ℕ). dot_count s ≡ 0 in
-    let c = component text in
-    let first = first_segment path in
-    let none = All-append (IsNot 47) last c whole (component_without 47 refl text) in
-    let never : dot_count (last ++ c ++ first) ≢ 0 → ⊥ =
-    λ dots.
-    let all = dot_segment_bytes (last ++ c ++ first) dots in
-    ⊎_elim
-    (λ before. both_ways _ (unnamed last (all_left IsDotByte last c (all_left IsDotByte (last ++ c) first all))) before)
-    (λ after. both_ways _ (unnamed first (all_right IsDotByte (last ++ c) first all)) after)
-    named in
-    let here : dot_count (last ++ c ++ first) ≡ 0 = ⊎_elim (λ zero_dots. zero_dots) (λ dots. absurd (never dots)) (cases_eq (dot_count (last ++ c ++ first)) 0) in
-    subst (All P) (sym (whole_first (last ++ c) path none)) (All-cons P (last ++ c ++ first) (later_segments path) here later)

@@ -1,31 +1,25 @@
 -- Markup and texts are decoded one by one, where no escape is open at the end of markup.
-use Rattle.std.proofs.Common.{◌≡◌, ◌≢◌, ℕ, ◌+◌, ◌*◌, Bool, true, false, not, ◌&&◌, ◌||◌, ◌==◌, List, [], ◌∷◌, ◌++◌, map, All, sym, refl, ap, ◌∙◌, subst, ⊎_elim, append_assoc, append-nil}
+use Rattle.std.proofs.Common.{◌≡◌, ◌≢◌, ℕ, ◌+◌, ◌*◌, Bool, true, false, ◌&&◌, ◌||◌, ◌==◌, List, [], ◌∷◌, ◌++◌, map, All, sym, refl, ap, ◌∙◌, subst, ⊎_elim, append_assoc, append-nil}
 use Rattle.std.specs.Char.{digit_value, is_digit}
-use Rattle.std.proofs.lemmas.Bool.{and_parts, both_ways, cases_Bool, cases_eq, cond-false, eq-eqb, ne_eqb}
+use Rattle.std.specs.List.{list_any}
+use Rattle.std.proofs.lemmas.Bool.{both_ways, cases_Bool, cases_eq, cond-false, eq-eqb, ne_eqb}
 use Rattle.std.proofs.lemmas.List.{map-append}
-use Rattle.std.proofs.lemmas.List.Elements.{All-head, All-tail}
-use Rattle.form_urlencoded.specs.Form.{decode, plus_to_space}
-use Rattle.form_urlencoded.proofs.FormLemmas.{map-plus_to_space}
+use Rattle.std.proofs.lemmas.List.Elements.{All-cons, All-head, All-nil, All-tail}
+use Rattle.form_urlencoded.specs.Form.{IsPlain, decode, plus_to_space}
+use Rattle.form_urlencoded.proofs.FormLemmas.{decode_plain, map-plus_to_space}
 use Rattle.percent_encoding.specs.AsciiSet.{should_percent_encode}
 use Rattle.percent_encoding.specs.Percent.{is_escape, percent_decode, percent_encode_byte}
 use Rattle.percent_encoding.proofs.PercentLemmas.{IsByte, percent_decode-nil, percent_decode-percent_encode_byte, percent_decode_not_percent, percent_encode-nil, percent_encode_escaped, percent_encode_kept}
 use Rattle.url.proofs.SetLemmas.{passes_from_kept}
 use Rattle.html_urls.specs.declared.component.TheConstants.{COMPONENT}
 use Rattle.html_urls.specs.Components.{component, is_unreserved_byte}
-use Rattle.html_urls.specs.Decoded.{AreBytes, closes_escapes, decoded_by, ends_in_escape}
-use Rattle.html_urls.specs.Slots.{Given, Markup, Slot, url_of}
+use Rattle.html_urls.specs.Decoded.{decoded_behind, decoded_by, form_text, percent_text}
+use Rattle.html_urls.specs.Slots.{Given, Markup, Slot, ends_in_escape, url_of}
+use Rattle.html_urls.proofs.Bytes.{AllBytes}
 use Rattle.html_urls.proofs.Components.{component_without}
+use Rattle.html_urls.proofs.OpenEscapes.{ClosesEscapes, closed_behind, closed_markup, closes_escapes, later_closed}
 
 -- ---- bytes that end in no open escape
-
-later_closed : (b : ℕ) (bytes : List ℕ) → ends_in_escape (b ∷ bytes) ≡ false → ends_in_escape bytes ≡ false
-later_closed b [] closed = refl
-later_closed b (c ∷ []) closed = first (c == 37) (b == 37 && is_digit c 16) closed
-  where
-    first : (x y : Bool) → (x || y) ≡ false → x ≡ false
-    first true y none = cc
-    first false y none = refl
-later_closed b (c ∷ d ∷ bytes) closed = closed
 
 no_escape : (high low : ℕ) → is_digit high 16 ≡ false → is_escape 37 high low ≡ false
 no_escape high low other = rw other refl
@@ -116,8 +110,8 @@ pub form_joined : (xs ys : List ℕ) → ends_in_escape xs ≡ false → decode 
 form_joined xs ys closed =
     ap percent_decode (map-append plus_to_space xs ys) ∙ decode_joined (map plus_to_space xs) (map plus_to_space ys) (plus_closed xs ∙ closed)
 
-pub form_text : (text ys : List ℕ) → All IsByte text → decode (component text ++ ys) ≡ text ++ decode ys
-form_text text ys bytes =
+form_of_text : (text ys : List ℕ) → All IsByte text → decode (component text ++ ys) ≡ text ++ decode ys
+form_of_text text ys bytes =
     ap percent_decode (map-append plus_to_space (component text) ys ∙ ap (λ l. l ++ map plus_to_space ys) (map-plus_to_space (component text) (component_without 43 refl text)))
     ∙ decode_text text (map plus_to_space ys) bytes
 
@@ -133,21 +127,72 @@ pub percent_decodes : Decodes percent_decode
 percent_decodes = record { nothing = percent_decode-nil; joined = decode_joined; text = decode_text }
 
 pub form_decodes : Decodes decode
-form_decodes = record { nothing = percent_decode-nil; joined = form_joined; text = form_text }
+form_decodes = record { nothing = percent_decode-nil; joined = form_joined; text = form_of_text }
 
-not_true : (x : Bool) → not x ≡ true → x ≡ false
-not_true true is = cc
-not_true false is = refl
+-- behind what is decoded so far
+decoded_on : (decoding : List ℕ → List ℕ) → Decodes decoding → (done : List ℕ) (parts : List Given) (texts : List (List ℕ)) → AllBytes texts → closes_escapes parts ≡ true →
+    done ++ decoding (url_of parts texts) ≡ decoded_behind decoding done parts texts
+decoded_on decoding decodes done [] texts bytes closed = ap (λ l. done ++ l) decodes.nothing ∙ append-nil done
+decoded_on decoding decodes done (Markup [] ∷ []) texts bytes closed = decoded_on decoding decodes done [] texts bytes refl
+decoded_on decoding decodes done (Markup [] ∷ part ∷ parts) texts bytes closed = decoded_on decoding decodes done (part ∷ parts) texts bytes closed
+decoded_on decoding decodes done (Markup (b ∷ markup) ∷ []) texts bytes closed = ap (λ l. done ++ decoding l) (append-nil (b ∷ markup))
+decoded_on decoding decodes done (Markup (b ∷ markup) ∷ part ∷ parts) texts bytes closed =
+    ap (λ l. done ++ l) (decodes.joined (b ∷ markup) (url_of (part ∷ parts) texts) (closed_markup (b ∷ markup) part parts closed))
+    ∙ sym (append_assoc done (decoding (b ∷ markup)) (decoding (url_of (part ∷ parts) texts)))
+    ∙ decoded_on decoding decodes (done ++ decoding (b ∷ markup)) (part ∷ parts) texts bytes (closed_behind (b ∷ markup) (part ∷ parts) closed)
+decoded_on decoding decodes done (Slot ∷ parts) [] bytes closed = decoded_on decoding decodes done parts [] bytes closed
+decoded_on decoding decodes done (Slot ∷ parts) (text ∷ texts) bytes closed =
+    ap (λ l. done ++ l) (decodes.text text (url_of parts texts) (All-head (All IsByte) text texts bytes))
+    ∙ sym (append_assoc done text (decoding (url_of parts texts)))
+    ∙ decoded_on decoding decodes (done ++ text) parts texts (All-tail (All IsByte) text texts bytes) closed
 
 -- THE DECODING LAW
-pub decoding_law : (decoding : List ℕ → List ℕ) → Decodes decoding → (parts : List Given) (texts : List (List ℕ)) → AreBytes texts → closes_escapes parts ≡ true → decoding (url_of parts texts) ≡ decoded_by decoding parts texts
-decoding_law decoding decodes [] texts bytes closed = decodes.nothing
-decoding_law decoding decodes (Markup markup ∷ []) texts bytes closed = ap decoding (append-nil markup) ∙ sym (append-nil (decoding markup))
-decoding_law decoding decodes (Markup markup ∷ part ∷ parts) texts bytes closed =
-    let both = and_parts (not (ends_in_escape markup)) (closes_escapes (part ∷ parts)) closed in
-    decodes.joined markup (url_of (part ∷ parts) texts) (not_true (ends_in_escape markup) both.0)
-    ∙ ap (λ l. decoding markup ++ l) (decoding_law decoding decodes (part ∷ parts) texts bytes both.1)
-decoding_law decoding decodes (Slot ∷ parts) [] bytes closed = decoding_law decoding decodes parts [] bytes closed
-decoding_law decoding decodes (Slot ∷ parts) (text ∷ texts) bytes closed =
-    decodes.text text (url_of parts texts) (All-head (All IsByte) text texts bytes)
-    ∙ ap (λ l. text ++ l) (decoding_law decoding decodes parts texts (All-tail (All IsByte) text texts bytes) closed)
+pub decoding_law : (decoding : List ℕ → List ℕ) → Decodes decoding → (parts : List Given) (texts : List (List ℕ)) → AllBytes texts → closes_escapes parts ≡ true → decoding (url_of parts texts) ≡ decoded_by decoding parts texts
+decoding_law decoding decodes parts texts bytes closed = decoded_on decoding decodes [] parts texts bytes closed
+
+-- ---- bytes that are decoded to themselves
+
+no_mark : (b : ℕ) (bytes : List ℕ) → list_any (λ x. x == 37) (b ∷ bytes) ≡ false → (b ≢ 37) × (list_any (λ x. x == 37) bytes ≡ false)
+no_mark b bytes none = (λ same. either (b == 37) none (eq-eqb b 37 same), later (b == 37) none)
+  where
+    either : (x : Bool) → (x || list_any (λ y. y == 37) bytes) ≡ false → x ≡ true → ⊥
+    either true none is = cc
+    either false none is = cc
+
+    later : (x : Bool) → (x || list_any (λ y. y == 37) bytes) ≡ false → list_any (λ y. y == 37) bytes ≡ false
+    later true none = cc
+    later false none = none
+
+percent_kept : (bytes : List ℕ) → list_any (λ b. b == 37) bytes ≡ false → percent_decode bytes ≡ bytes
+percent_kept [] none = percent_decode-nil
+percent_kept (b ∷ bytes) none = let both = no_mark b bytes none in percent_decode_not_percent b bytes both.0 ∙ ap (λ l. b ∷ l) (percent_kept bytes both.1)
+
+percent_is : (bytes : List ℕ) → percent_decode bytes ≡ percent_text bytes
+percent_is bytes =
+    ⊎_elim
+    (λ (some : list_any (λ b. b == 37) bytes ≡ true). rw some refl)
+    (λ (none : list_any (λ b. b == 37) bytes ≡ false). rw none (percent_kept bytes none))
+    (cases_Bool (list_any (λ b. b == 37) bytes))
+
+all_plain : (bytes : List ℕ) → list_any (λ b. b == 37 || b == 43) bytes ≡ false → All IsPlain bytes
+all_plain [] none = All-nil IsPlain
+all_plain (b ∷ bytes) none = by_tests (b == 37) (b == 43) refl refl none (all_plain bytes)
+  where
+    by_tests : (x y : Bool) → (b == 37) ≡ x → (b == 43) ≡ y → (x || y || list_any (λ c. c == 37 || c == 43) bytes) ≡ false → (list_any (λ c. c == 37 || c == 43) bytes ≡ false → All IsPlain bytes) → All IsPlain (b ∷ bytes)
+    by_tests true y percent plus none later = cc
+    by_tests false true percent plus none later = cc
+    by_tests false false percent plus none later = All-cons IsPlain b bytes ((λ same. both_ways _ plus (eq-eqb b 43 same)), (λ same. both_ways _ percent (eq-eqb b 37 same))) (later none)
+
+form_is : (bytes : List ℕ) → decode bytes ≡ form_text bytes
+form_is bytes =
+    ⊎_elim
+    (λ (some : list_any (λ b. b == 37 || b == 43) bytes ≡ true). rw some refl)
+    (λ (none : list_any (λ b. b == 37 || b == 43) bytes ≡ false). rw none (decode_plain bytes (all_plain bytes none)))
+    (cases_Bool (list_any (λ b. b == 37 || b == 43) bytes))
+
+-- THE SAME OF PERCENT-DECODING AND OF A FORM
+pub percent_law : (parts : List Given) (texts : List (List ℕ)) → AllBytes texts → ClosesEscapes parts → percent_decode (url_of parts texts) ≡ decoded_by percent_text parts texts
+percent_law parts texts bytes closed = decoding_law percent_decode percent_decodes parts texts bytes closed ∙ (λ i. decoded_by (λ l. percent_is l i) parts texts)
+
+pub form_law : (parts : List Given) (texts : List (List ℕ)) → AllBytes texts → ClosesEscapes parts → decode (url_of parts texts) ≡ decoded_by form_text parts texts
+form_law parts texts bytes closed = decoding_law decode form_decodes parts texts bytes closed ∙ (λ i. decoded_by (λ l. form_is l i) parts texts)

@@ -2,14 +2,14 @@
 use Rattle.std.proofs.Common.{◌≡◌, ℕ, true, false, List, [], ◌∷◌, ◌++◌, Option, Some, None, is_some, sym, refl, ap, ◌∙◌, append_assoc, append-nil}
 use Rattle.std.proofs.lemmas.Bool.{both_ways}
 use Rattle.url.specs.Input.{split_once}
-use Rattle.html_urls.specs.Shapes.{from_slot, front_of, split_markup, split_parts}
+use Rattle.html_urls.specs.Shapes.{from_slot, front_of, split_parts}
 use Rattle.html_urls.specs.Slots.{Given, Markup, Slot, url_of}
 use Rattle.html_urls.proofs.Splits.{split_found, split_whole}
-use Rattle.html_urls.proofs.Shapes.Fills.{Halves}
+use Rattle.html_urls.proofs.Shapes.Fills.{Halves, split_by, split_is}
 
 -- what a split of markup is, by whether the mark is in it
-by_mark : (mark : ℕ) (bytes : List ℕ) (parts : List Given) (o : Option (List ℕ)) → (split_once mark bytes).1 ≡ o → split_parts mark (Markup bytes ∷ parts) ≡ split_markup bytes ((split_once mark bytes).0, o) parts (split_parts mark parts)
-by_mark mark bytes parts o is = ap (λ o. split_markup bytes ((split_once mark bytes).0, o) parts (split_parts mark parts)) is
+by_mark : (mark : ℕ) (bytes : List ℕ) (parts : List Given) (o : Option (List ℕ)) → (split_once mark bytes).1 ≡ o → split_parts mark (Markup bytes ∷ parts) ≡ split_by bytes ((split_once mark bytes).0, o) parts (split_parts mark parts)
+by_mark mark bytes parts o is = split_is mark bytes parts (split_parts mark parts) ∙ ap (λ o. split_by bytes ((split_once mark bytes).0, o) parts (split_parts mark parts)) is
 
 pub url_of_front : (parts : List Given) (texts : List (List ℕ)) → url_of parts texts ≡ front_of parts ++ url_of (from_slot parts) texts
 url_of_front [] texts = refl

@@ -1,7 +1,6 @@
 -- The pairs of a query of markup and slots.
-use Rattle.std.proofs.Common.{◌≡◌, ℕ, suc, ◌<◌, List, [], ◌∷◌, length, map, filter, Option, Some, None, option_map, unwrap_or, All, sym, refl, ap, ◌∙◌, ⊎_elim, length-append, arith}
-use Rattle.std.proofs.lemmas.Bool.{and_parts, cases_eq, cond-true, eq-eqb, lt-ltb, ne_eqb}
-use Rattle.std.proofs.lemmas.List.{length-map}
+use Rattle.std.proofs.Common.{◌≡◌, ℕ, ◌<◌, List, [], ◌∷◌, length, map, filter, Option, Some, None, option_map, unwrap_or, All, sym, refl, ap, ◌∙◌, ⊎_elim, length-append, arith}
+use Rattle.std.proofs.lemmas.Bool.{cases_eq, cond-true, eq-eqb, lt-ltb, ne_eqb}
 use Rattle.std.proofs.lemmas.List.Elements.{All-head, All-tail}
 use Rattle.form_urlencoded.specs.Form.{decode, is_nonempty, parse, raw_pairs, split_pair}
 use Rattle.form_urlencoded.specs.Form as form
@@ -9,11 +8,14 @@ use Rattle.form_urlencoded.proofs.FormLemmas.{split_once_after_other, split_once
 use Rattle.percent_encoding.proofs.PercentLemmas.{IsByte}
 use Rattle.url.specs.Input.{split_once}
 use Rattle.html_urls.specs.Components.{component}
-use Rattle.html_urls.specs.Decoded.{AreBytes, ClosesPair, closes_escapes, pair_of, pairs_of}
+use Rattle.html_urls.specs.Decoded.{pair_of, pairs_of}
 use Rattle.html_urls.specs.Pieces.{HasMarkup, filled_pieces, pieces}
 use Rattle.html_urls.specs.Shapes.{split_parts, texts_after}
 use Rattle.html_urls.specs.Slots.{Given, Markup, Slot, url_of}
-use Rattle.html_urls.proofs.Shapes.Decoding.{decoding_law, form_decodes}
+use Rattle.html_urls.proofs.Bytes.{AllBytes}
+use Rattle.html_urls.proofs.OpenEscapes.{ClosesEscapes}
+use Rattle.html_urls.proofs.Shapes.Closing.{halves_close}
+use Rattle.html_urls.proofs.Shapes.Decoding.{form_law}
 use Rattle.html_urls.proofs.Shapes.Fills.{split_filled}
 use Rattle.html_urls.proofs.Shapes.Pieces.{pieces_law}
 
@@ -37,7 +39,7 @@ form_split mark (x ∷ xs) =
     (λ i. (front i, back i)) ∙ rw (ne_eqb x mark other) refl)
     (cases_eq x mark)
 
-pub bytes_after : (parts : List Given) (texts : List (List ℕ)) → AreBytes texts → AreBytes (texts_after parts texts)
+pub bytes_after : (parts : List Given) (texts : List (List ℕ)) → AllBytes texts → AllBytes (texts_after parts texts)
 bytes_after [] texts bytes = bytes
 bytes_after (Markup markup ∷ parts) texts bytes = bytes_after parts texts bytes
 bytes_after (Slot ∷ parts) [] bytes = bytes_after parts [] bytes
@@ -47,14 +49,14 @@ or_nothing : (o : Option (List Given)) (texts : List (List ℕ)) → unwrap_or (
 or_nothing (Some parts) texts = refl
 or_nothing None texts = refl
 
-pair_filled : (string : List Given) (texts : List (List ℕ)) → AreBytes texts → ClosesPair string → (decode (split_pair (url_of string texts)).0, decode (split_pair (url_of string texts)).1) ≡ pair_of string texts
+pair_filled : (string : List Given) (texts : List (List ℕ)) → AllBytes texts → ClosesEscapes string → (decode (split_pair (url_of string texts)).0, decode (split_pair (url_of string texts)).1) ≡ pair_of string texts
 pair_filled string texts bytes closed =
     let halves = split_parts 61 string in
     let left = texts_after halves.0 texts in
-    let both = and_parts (closes_escapes halves.0) (closes_escapes (unwrap_or halves.1 [])) closed in
+    let both = halves_close 61 string closed in
     let splits = form_split 61 (url_of string texts) ∙ ap (λ r. (r.0, unwrap_or r.1 [])) (split_filled 61 refl string texts) in
-    let name = ap (λ r. decode r.0) splits ∙ decoding_law decode form_decodes halves.0 texts bytes both.0 in
-    let value = ap (λ r. decode r.1) splits ∙ ap decode (or_nothing halves.1 left) ∙ decoding_law decode form_decodes (unwrap_or halves.1 []) left (bytes_after halves.0 texts bytes) both.1 in
+    let name = ap (λ r. decode r.0) splits ∙ form_law halves.0 texts bytes both.0 in
+    let value = ap (λ r. decode r.1) splits ∙ ap decode (or_nothing halves.1 left) ∙ form_law (unwrap_or halves.1 []) left (bytes_after halves.0 texts bytes) both.1 in
     λ i. (name i, value i)
 
 -- ---- all pairs
@@ -72,15 +74,11 @@ none_empty (piece ∷ more) texts has =
     cond-true _ _ _ (lt-ltb 0 (length (url_of piece texts)) (some_bytes piece texts (All-head HasMarkup piece more has)))
     ∙ ap (λ l. url_of piece texts ∷ l) (none_empty more (texts_after piece texts) (All-tail HasMarkup piece more has))
 
-pub length_filled : (l : List (List Given)) (texts : List (List ℕ)) → length (filled_pieces l texts) ≡ length l
-length_filled [] texts = refl
-length_filled (piece ∷ more) texts = ap suc (length_filled more (texts_after piece texts))
-
-pairs_filled : (l : List (List Given)) (texts : List (List ℕ)) → AreBytes texts → All ClosesPair l → map (λ pair. (decode pair.0, decode pair.1)) (map split_pair (filled_pieces l texts)) ≡ pairs_of l texts
+pairs_filled : (l : List (List Given)) (texts : List (List ℕ)) → AllBytes texts → All ClosesEscapes l → map (λ pair. (decode pair.0, decode pair.1)) (map split_pair (filled_pieces l texts)) ≡ pairs_of l texts
 pairs_filled [] texts bytes closed = refl
 pairs_filled (string ∷ more) texts bytes closed =
-    let first = pair_filled string texts bytes (All-head ClosesPair string more closed) in
-    let later = pairs_filled more (texts_after string texts) (bytes_after string texts bytes) (All-tail ClosesPair string more closed) in
+    let first = pair_filled string texts bytes (All-head ClosesEscapes string more closed) in
+    let later = pairs_filled more (texts_after string texts) (bytes_after string texts bytes) (All-tail ClosesEscapes string more closed) in
     λ i. first i ∷ later i
 
 raw_filled : (query : List Given) (texts : List (List ℕ)) → All HasMarkup (pieces 38 query) → raw_pairs (url_of query texts) ≡ map split_pair (filled_pieces (pieces 38 query) texts)
@@ -90,13 +88,6 @@ raw_filled query texts has =
     ∙ ap (map split_pair) (none_empty (pieces 38 query) texts has)
 
 -- THE PAIRS LAW
-pub pairs_law : (query : List Given) (texts : List (List ℕ)) → AreBytes texts → All HasMarkup (pieces 38 query) → All ClosesPair (pieces 38 query) → parse (url_of query texts) ≡ pairs_of (pieces 38 query) texts
+pub pairs_law : (query : List Given) (texts : List (List ℕ)) → AllBytes texts → All HasMarkup (pieces 38 query) → All ClosesEscapes (pieces 38 query) → parse (url_of query texts) ≡ pairs_of (pieces 38 query) texts
 pairs_law query texts bytes has closed =
     ap (map (λ pair. (decode pair.0, decode pair.1))) (raw_filled query texts has) ∙ pairs_filled (pieces 38 query) texts bytes closed
-
-pub pair_count_law : (query : List Given) (texts : List (List ℕ)) → All HasMarkup (pieces 38 query) → length (parse (url_of query texts)) ≡ length (pieces 38 query)
-pair_count_law query texts has =
-    length-map (raw_pairs (url_of query texts)) (λ pair. (decode pair.0, decode pair.1))
-    ∙ ap length (raw_filled query texts has)
-    ∙ length-map (filled_pieces (pieces 38 query) texts) split_pair
-    ∙ length_filled (pieces 38 query) texts

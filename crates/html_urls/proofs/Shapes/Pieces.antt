@@ -5,10 +5,10 @@ use Rattle.std.proofs.lemmas.List.Elements.{All-head, All-tail}
 use Rattle.form_urlencoded.specs.Form.{onto_first, split}
 use Rattle.html_urls.specs.Components.{component, is_component_byte}
 use Rattle.html_urls.specs.Inputs.{IsNot}
-use Rattle.html_urls.specs.Pieces.{filled_pieces, onto_piece, onto_pieces, pieces}
+use Rattle.html_urls.specs.Pieces.{filled_pieces, markup_pieces, onto_markup, onto_piece, pieces}
 use Rattle.html_urls.specs.Slots.{Given, Markup, Slot, url_of}
 use Rattle.html_urls.proofs.Components.{component_without}
-use Rattle.html_urls.proofs.Queries.PairLaw.{split_some}
+use Rattle.html_urls.proofs.Splits.{split_some}
 
 -- ---- pieces of bytes
 
@@ -21,7 +21,7 @@ joined [] later = later
 joined (piece ∷ []) later = onto_front piece later
 joined (piece ∷ next ∷ more) later = piece ∷ joined (next ∷ more) later
 
-onto_nothing : (later : List (List ℕ)) → 0 < length later → onto_front [] later ≡ later
+pub onto_nothing : (later : List (List ℕ)) → 0 < length later → onto_front [] later ≡ later
 onto_nothing [] some = absurd (omega arith)
 onto_nothing (piece ∷ more) some = refl
 
@@ -58,6 +58,32 @@ split_joins mark (x ∷ xs) ys =
 
 -- ---- pieces of parts
 
+-- pieces of markup, of which the last goes on in the first of the others
+abbrev pub onto_pieces : List (List ℕ) → List (List Given) → List (List Given)
+onto_pieces [] later = later
+onto_pieces (bytes ∷ []) later = onto_piece (Markup bytes) later
+onto_pieces (bytes ∷ next ∷ more) later = (Markup bytes ∷ []) ∷ onto_pieces (next ∷ more) later
+
+empty_before : (l : List (List ℕ)) (later : List (List Given)) → 0 < length l → (Markup [] ∷ []) ∷ onto_pieces l later ≡ onto_pieces ([] ∷ l) later
+empty_before [] later some = absurd (omega arith)
+empty_before (bytes ∷ more) later some = refl
+
+one_before : (b : ℕ) (l : List (List ℕ)) (later : List (List Given)) → 0 < length l → onto_markup b (onto_pieces l later) ≡ onto_pieces (onto_first b l) later
+one_before b [] later some = absurd (omega arith)
+one_before b (bytes ∷ []) [] some = refl
+one_before b (bytes ∷ []) (piece ∷ more) some = refl
+one_before b (bytes ∷ next ∷ more) later some = refl
+
+pub pieces_are : (mark : ℕ) (bytes : List ℕ) (later : List (List Given)) → markup_pieces mark bytes later ≡ onto_pieces (split mark bytes) later
+unfolding split
+pieces_are mark [] later = refl
+pieces_are mark (b ∷ bytes) later =
+    let more = pieces_are mark bytes later in
+    ⊎_elim
+    (λ (here : (b == mark) ≡ true). rw here (ap (λ l. (Markup [] ∷ []) ∷ l) more ∙ empty_before (split mark bytes) later (split_some mark bytes)))
+    (λ (other : (b == mark) ≡ false). rw other (ap (onto_markup b) more ∙ one_before b (split mark bytes) later (split_some mark bytes)))
+    (cases_Bool (b == mark))
+
 onto_piece_some : (part : Given) (l : List (List Given)) → 0 < length (onto_piece part l)
 onto_piece_some part [] = omega arith
 onto_piece_some part (piece ∷ more) = omega arith
@@ -69,7 +95,7 @@ onto_pieces_some (bytes ∷ next ∷ more) later some = omega arith
 
 pub pieces_some : (mark : ℕ) (parts : List Given) → 0 < length (pieces mark parts)
 pieces_some mark [] = omega arith
-pieces_some mark (Markup bytes ∷ parts) = onto_pieces_some (split mark bytes) (pieces mark parts) (pieces_some mark parts)
+pieces_some mark (Markup bytes ∷ parts) = rw (pieces_are mark bytes (pieces mark parts)) (onto_pieces_some (split mark bytes) (pieces mark parts) (pieces_some mark parts))
 pieces_some mark (Slot ∷ parts) = onto_piece_some Slot (pieces mark parts)
 
 markup_filled : (bytes : List ℕ) (l : List (List Given)) (texts : List (List ℕ)) → 0 < length l → onto_front bytes (filled_pieces l texts) ≡ filled_pieces (onto_piece (Markup bytes) l) texts
@@ -99,6 +125,7 @@ pieces_law mark other [] texts = refl
 pieces_law mark other (Markup bytes ∷ parts) texts =
     split_joins mark bytes (url_of parts texts) ∙ ap (joined (split mark bytes)) (pieces_law mark other parts texts)
     ∙ all_filled (split mark bytes) (pieces mark parts) texts (pieces_some mark parts)
+    ∙ sym (ap (λ l. filled_pieces l texts) (pieces_are mark bytes (pieces mark parts)))
 pieces_law mark other (Slot ∷ parts) [] = pieces_law mark other parts [] ∙ no_text (pieces mark parts) (pieces_some mark parts)
 pieces_law mark other (Slot ∷ parts) (text ∷ texts) =
     split_front mark (component text) (url_of parts texts) (component_without mark other text)

@@ -16,9 +16,8 @@ use Rattle.html_urls.specs.Inputs.{kept}
 use Rattle.html_urls.specs.OpenParts.{after_text, open_of, slot_at}
 use Rattle.html_urls.specs.Places.{EndsIn, goes_on}
 use Rattle.html_urls.specs.Shapes.{fill, from_slot, front_of}
-use Rattle.html_urls.specs.Slots.{FillSlots, FillUrl, Given, Markup, Slot, first_slots, is_plain, later_slots, slots_of, told_of, url_of}
-use Rattle.html_urls.proofs.Filled.Counts.{one_url}
-use Rattle.html_urls.proofs.Filled.FirstSlot.{both_fill, front_stands, kept_front, plain_visible}
+use Rattle.html_urls.specs.Slots.{FillSlots, FillUrl, Given, Markup, Slot, first_slots, is_plain, later_slots, no_parts, slots_of, told_of, url_of}
+use Rattle.html_urls.proofs.Filled.FirstSlot.{both_fill, front_stands, kept_front, one_url, plain_visible}
 use Rattle.html_urls.proofs.Filled.LaterSlots.{later_good, refusal}
 use Rattle.html_urls.proofs.Shapes.PathShapes.{path_shape, split_none}
 use Rattle.html_urls.proofs.Shapes.PlainParts.{ArePlain, first_plain, found_slot, front_plain, later_plain}
@@ -32,15 +31,15 @@ pub reached : (parts : List Given) (number : ℕ) (front : List ℕ) (slots : Li
 reached [] number front slots told = inl refl
 reached (Markup bytes ∷ parts) number front slots told =
     ⊎_elim
-    (λ (plain : is_plain bytes ≡ true).
+    (λ (plain : is_plain bytes (no_parts parts) ≡ true).
     ⊎_elim
     (λ none. inl none)
     (λ (found : Reached (front ++ bytes) parts slots).
     let (p, later, n, from, is, rest) = found in
     inr (p, later, n, from, ap open_of (sym (append_assoc front bytes (front_of parts))) ∙ is, rest))
     (reached parts (number + 1) (front ++ bytes) slots (rw plain at told)))
-    (λ (bad : is_plain bytes ≡ false). let clash : refusal (fault.NotPlain number) ≡ Ok slots = rw bad at told in cc)
-    (cases_Bool (is_plain bytes))
+    (λ (bad : is_plain bytes (no_parts parts) ≡ false). let clash : refusal (fault.NotPlain number) ≡ Ok slots = rw bad at told in cc)
+    (cases_Bool (is_plain bytes (no_parts parts)))
 reached (Slot ∷ parts) number front slots told = at_front (open_of front) refl told
   where
     at_front : (o : Option OpenPart) → open_of front ≡ o → told_of o (fault.NotFixed number) (λ p. later_slots number p (Slot ∷ parts)) ≡ Ok slots → (from_slot (Slot ∷ parts) ≡ []) ⊎ Reached front (Slot ∷ parts) slots
@@ -78,6 +77,12 @@ slot_shape base parts texts slots web plain no_fragment no_query found fill =
         let stands = front_stands front p slot (front_plain parts plain) is here in
         by_place later text texts (later_plain later (number + 1) (after_text p) more rest) from slot.place stands.ends
         (one_url base front p slot text (url_of later texts) web stands here fill.0 (later_good later texts more (number + 1) (after_text p) rest fill.1))
+
+-- parts that texts fill are plain
+pub filled_plain : (parts : List Given) (texts : List (List ℕ)) → FillUrl parts texts → ArePlain parts
+filled_plain parts texts fills =
+    let (slots, told, fill, again) = both_fill (slots_of parts) texts texts fills fills in
+    first_plain parts 0 [] slots told
 
 -- THE SHAPE LAW: the URL of the texts is the shape of the parts, filled
 pub shape_law : (base : Option Parts) (parts : List Given) (texts : List (List ℕ)) → IsWebBase base → FillUrl parts texts → HasThatShape base parts texts

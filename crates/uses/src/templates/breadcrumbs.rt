@@ -5,11 +5,12 @@ ghost use Rattle.std.specs.String.{string_bytes};
 ghost use Rattle.html_template.specs.FilledUrls.{piece_urls};
 ghost use Rattle.html_template.specs.PageUrls.{urls_of};
 ghost use Rattle.html_template.specs.TemplatePieces.{pieces_of};
-ghost use Rattle.html_template.specs.declared.faults.FillFault.TheVariants.{EmptySegment};
+ghost use Rattle.html_template.specs.declared.faults.FillFault.TheVariants.{Text};
+ghost use Rattle.html_template.specs.declared.faults.TextFault.TheVariants.{EmptySegment};
 ghost use Rattle.html_urls.specs.Components.{component};
 ghost use Rattle.uses.specs.Templates.Breadcrumbs.{crumb_pieces, crumb_text, crumb_urls};
 
-use html_template::{FillFault, Part, Template, TemplateFault};
+use html_template::{FillFault, Part, Template, TemplateFault, laws};
 use std::alloc::Global;
 
 /// A page on the way: the one segment of its path, and its name.
@@ -48,8 +49,9 @@ impl Breadcrumbs {
             (string_bytes page.new ≡ string_bytes page.old ++ crumb_text crumb.entry) }
         ensures url { OnOk result (urls_of (crumb_text crumb.entry)
             ≡ (codes "/" ++ component crumb.entry.path.now) ∷ []) }
-        ensures empty { IsErrOf result (EmptySegment 0) ↔ (crumb.entry.path.now ≡ []) }
+        ensures empty { IsErrOf result (Text 0 EmptySegment) ↔ (crumb.entry.path.now ≡ []) }
     {
+        laws::fill_faults_law();
         self.crumb.append(page, &[crumb.path, crumb.name])
     }
 }

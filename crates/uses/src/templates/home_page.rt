@@ -5,11 +5,12 @@ ghost use Rattle.std.specs.String.{string_bytes};
 ghost use Rattle.html_template.specs.Structure.{IsPageOf};
 ghost use Rattle.html_template.specs.TemplatePieces.{pieces_of};
 ghost use Rattle.html_template.specs.Templates.{part_of};
-ghost use Rattle.html_template.specs.declared.faults.FillFault.TheVariants.{NotALink};
+ghost use Rattle.html_template.specs.declared.faults.FillFault.TheVariants.{Text};
+ghost use Rattle.html_template.specs.declared.faults.TextFault.TheVariants.{NotALink};
 ghost use Rattle.html_urls.specs.Links.{is_link};
 ghost use Rattle.uses.specs.Templates.HomePages.{IsStranger, link_parts, link_pieces, name_parts};
 
-use html_template::{FillFault, Part, Template, TemplateFault, laws};
+use html_template::{FillFault, Part, Template, TemplateFault, TextFault, laws};
 use std::alloc::Global;
 
 /// Who wrote something, and where this is said to be at home.
@@ -51,7 +52,7 @@ impl StrangerTemplates {
         ensures { IfOk result (λ page. IsStranger stranger.entry (string_bytes page)) }
     {
         match self.linked(alloc, stranger) {
-            Err(FillFault::NotALink(0)) => self.named(alloc, stranger.name),
+            Err(FillFault::Text(0, TextFault::NotALink)) => self.named(alloc, stranger.name),
             answer => answer,
         }
     }
@@ -60,9 +61,10 @@ impl StrangerTemplates {
         ensures link { OnOk result (is_link stranger.entry.url.now ≡ true) }
         ensures page { IfOk result (λ page. IsPageOf link_parts
             (stranger.entry.url.now ∷ stranger.entry.name.now ∷ []) (string_bytes page)) }
-        ensures no_link { IsErrOf result (NotALink 0) ↔ (is_link stranger.entry.url.now ≡ false) }
+        ensures no_link { IsErrOf result (Text 0 NotALink) ↔ (is_link stranger.entry.url.now ≡ false) }
     {
         laws::pages_law();
+        laws::fill_faults_law();
         let mut page = String::new(alloc);
         self.link.append(&mut page, &[stranger.url, stranger.name])?;
         Ok(page)

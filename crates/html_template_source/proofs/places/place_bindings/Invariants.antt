@@ -4,8 +4,7 @@ use Rattle.html_template_source.proofs.Placed.{ArePlacedAfter}
 use Rattle.html_template_source.proofs.places.place_bindings.Given as goal
 
 abbrev pub invariant-bindings : goal.invariant-bindings
-invariant-bindings g l =
-    ArePlacedAfter l.start (texts_of l.names.distinct.items) (length l.names.distinct.items) l.bindings l.places l.rest l.first
+invariant-bindings g l = ArePlacedAfter (texts_of l.names.distinct.items) l.bindings l.places l.rest l.first
 
 abbrev pub decreases-bindings : goal.decreases-bindings
 decreases-bindings g l = length l.rest

@@ -1,8 +1,7 @@
 -- A query has the same pairs percent-encoded as the parser does.
-use Rattle.std.proofs.Common.{◌≡◌, ◌≢◌, ℕ, suc, true, false, List, [], ◌∷◌, map, filter, length, Option, Some, None, option_map, unwrap_or, All, sym, refl, ap, ◌∙◌, ⊎_elim, arith}
+use Rattle.std.proofs.Common.{◌≡◌, ◌≢◌, ℕ, true, false, List, [], ◌∷◌, map, filter, Option, Some, None, option_map, unwrap_or, All, sym, refl, ap, ◌∙◌, ⊎_elim, arith}
 use Rattle.std.proofs.lemmas.Bool.{cases_Bool, lt-ltb}
 use Rattle.std.proofs.lemmas.Bool.Decides.{nat_tests}
-use Rattle.std.proofs.lemmas.List.{length-map}
 use Rattle.std.proofs.lemmas.List.Elements.{All-head, All-tail}
 use Rattle.form_urlencoded.specs.Form.{decode, is_nonempty, parse, plus_to_space, raw_pairs, split, split_pair}
 use Rattle.percent_encoding.specs.declared.ascii_set.AsciiSet.{AsciiSet}
@@ -67,24 +66,3 @@ unfolding raw_pairs
 parse_encoded set keeps bytes all =
     ap (λ l. map decoded (map split_pair (filter is_nonempty l))) (split_encoded set 38 (record { kept = keeps 38 refl; other = no_ampersand }) bytes)
     ∙ pairs_encoded set keeps (split 38 bytes) (all_pieces IsByte 38 bytes all)
-
--- ---- as many, of any bytes
-
-as_many : (set : AsciiSet) (l : List (List ℕ)) → length (filter is_nonempty (map (percent_encode set) l)) ≡ length (filter is_nonempty l)
-as_many set [] = refl
-as_many set (string ∷ more) =
-    let later = as_many set more in
-    ⊎_elim
-    (λ (some : is_nonempty string ≡ true). rw (some_encoded set string ∙ some, some) (ap suc later))
-    (λ (none : is_nonempty string ≡ false). rw (some_encoded set string ∙ none, none) later)
-    (cases_Bool (is_nonempty string))
-
-count : (bytes : List ℕ) → length (parse bytes) ≡ length (filter is_nonempty (split 38 bytes))
-unfolding raw_pairs
-count bytes = length-map (raw_pairs bytes) decoded ∙ length-map (filter is_nonempty (split 38 bytes)) split_pair
-
-pub count_encoded : (set : AsciiSet) → KeepsForm set → (bytes : List ℕ) → length (parse (percent_encode set bytes)) ≡ length (parse bytes)
-count_encoded set keeps bytes =
-    count (percent_encode set bytes)
-    ∙ ap (λ l. length (filter is_nonempty l)) (split_encoded set 38 (record { kept = keeps 38 refl; other = no_ampersand }) bytes)
-    ∙ as_many set (split 38 bytes) ∙ sym (count bytes)

@@ -9,8 +9,7 @@ use Rattle.percent_encoding.specs.Percent.{percent_encode, percent_encode_byte}
 use Rattle.percent_encoding.proofs.PercentLemmas.{All-percent_encode_byte, IsEscapeByte, percent_encode-append, percent_encode-nil, percent_encode_escaped, percent_encode_kept}
 use Rattle.url.specs.Input.{split_once}
 use Rattle.html_urls.specs.Inputs.{IsNot}
-use Rattle.html_urls.proofs.Splits.{split_clear}
-use Rattle.html_urls.proofs.Queries.PairLaw.{split_some}
+use Rattle.html_urls.proofs.Splits.{split_clear, split_some}
 use Rattle.html_urls.proofs.Shapes.Pieces.{onto_front, split_front}
 
 abbrev Split : Type 0

@@ -10,7 +10,7 @@ use Rattle.html_urls.specs.Hosts.{IsWebBase}
 use Rattle.html_urls.specs.Links.{HasLinkOrPageScheme, is_link}
 use Rattle.html_urls.specs.OpenParts.{open_of}
 use Rattle.html_urls.specs.Shapes.{fill, from_slot, front_of, shape_from}
-use Rattle.html_urls.specs.Slots.{FillSlots, FillUrl, Given, Markup, Slot, first_slots, is_plain, slots_of, url_of}
+use Rattle.html_urls.specs.Slots.{FillSlots, FillUrl, Given, Markup, Slot, first_slots, is_plain, no_parts, slots_of, url_of}
 use Rattle.html_urls.proofs.Filled.FirstSlot.{both_fill}
 use Rattle.html_urls.proofs.Filled.LaterSlots.{refusal}
 use Rattle.html_urls.proofs.Links.LinkLaw.{page_law}
@@ -21,13 +21,13 @@ link_front : (front : List ℕ) (p : OpenPart) → open_of front ≡ Some p → 
 link_front front p is =
     ⊎_elim (λ link. link) (λ (other : is_link front ≡ false). let clash : None ≡ Some p = sym (cond-false _ _ _ other) ∙ is in cc) (cases_Bool (is_link front))
 
-no_slots : (parts : List Given) (number : ℕ) (front : List ℕ) (slots : List UrlSlot) → from_slot parts ≡ [] → first_slots number front parts ≡ Ok slots → slots ≡ []
+pub no_slots : (parts : List Given) (number : ℕ) (front : List ℕ) (slots : List UrlSlot) → from_slot parts ≡ [] → first_slots number front parts ≡ Ok slots → slots ≡ []
 no_slots [] number front slots none told = cc
 no_slots (Markup bytes ∷ parts) number front slots none told =
     ⊎_elim
-    (λ (plain : is_plain bytes ≡ true). no_slots parts (number + 1) (front ++ bytes) slots none (rw plain at told))
-    (λ (bad : is_plain bytes ≡ false). let clash : refusal (fault.NotPlain number) ≡ Ok slots = rw bad at told in cc)
-    (cases_Bool (is_plain bytes))
+    (λ (plain : is_plain bytes (no_parts parts) ≡ true). no_slots parts (number + 1) (front ++ bytes) slots none (rw plain at told))
+    (λ (bad : is_plain bytes (no_parts parts) ≡ false). let clash : refusal (fault.NotPlain number) ≡ Ok slots = rw bad at told in cc)
+    (cases_Bool (is_plain bytes (no_parts parts)))
 no_slots (Slot ∷ parts) number front slots none told = cc
 
 pub slot_scheme : (base : Option Parts) (parts : List Given) (text : List ℕ) (texts : List (List ℕ)) → IsWebBase base → FillUrl parts (text ∷ texts) → IfOk (parse_url base (url_of parts (text ∷ texts))) (HasLinkOrPageScheme base)

@@ -12,8 +12,8 @@ returns-then-are_in_order-clause-texts g c =
     same_texts None (bindings_of c.args.bindings.now) names.distinct.items names.numbers.items c.deref.result.now c.deref.ensures.value
     (placed_in_order (bindings_of c.args.bindings.now) (texts_of names.distinct.items) (c.if-are_in_order.ensures.0 refl) names.single) names.below
 
-pub returns-then-are_in_order-clause-sound : goal.returns-then-are_in_order-clause-sound
-returns-then-are_in_order-clause-sound g c =
+pub returns-then-are_in_order-clause-faults : goal.returns-then-are_in_order-clause-faults
+returns-then-are_in_order-clause-faults g c =
     let names = c.args.self.now.names in
     let B : ℕ → Type 0 = λ n. AreBelow n names.numbers.items in
     sound_in_order (bindings_of c.args.bindings.now) (texts_of names.distinct.items) names.numbers.items (c.if-are_in_order.ensures.0 refl) names.single names.used

@@ -1,5 +1,0 @@
-use Rattle.html_urls.proofs.Places.UrlLaw.{head_law}
-use Rattle.html_urls.proofs.laws.head_law.Goals as goal
-
-pub returns : goal.returns
-returns c base suits = head_law c.args.place base c.args.front.now c.args.text.now c.args.rest.now c.requires.ends c.requires.fits suits
