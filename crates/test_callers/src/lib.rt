@@ -9,3 +9,5 @@ mod parts;
 mod places;
 #[cfg(test)]
 mod templates;
+#[cfg(test)]
+mod urls;

@@ -1,6 +1,6 @@
 //! The callers of templates.
 
-use html_template::FillFault;
+use html_template::{FillFault, TextFault};
 use std::test::Fail;
 use test_support::{Trouble, WeakWriter, Weakness};
 use uses::breadcrumbs::{Breadcrumbs, Crumb};
@@ -114,8 +114,8 @@ fn an_id_that_is_dots_or_empty_is_a_fault(rt: HostRuntime) -> Result<(), Fail> {
         return Ok(());
     };
     for (id, fault) in [
-        ("..", FillFault::DotSegment(0)),
-        ("", FillFault::EmptySegment(0)),
+        ("..", FillFault::Text(0, TextFault::DotSegment)),
+        ("", FillFault::Text(0, TextFault::EmptySegment)),
     ] {
         let found = [Found { id, name: "tea" }];
         let page = list.page(rt.alloc(), "", &found);
@@ -168,12 +168,14 @@ fn a_crumb_is_appended_byte_by_byte(rt: HostRuntime) -> Result<(), Fail> {
     assert!(rt; crumbs.append(&mut page, crumb) == Ok(()));
     assert!(rt; page.as_str() == "<nav><a href=\"/a%2F..%2Fb\">a &gt; b</a> / ");
     let empty = Crumb { path: "", name: "" };
-    assert!(rt; crumbs.append(&mut page, empty) == Err(FillFault::EmptySegment(0)));
+    assert!(rt;
+        crumbs.append(&mut page, empty) == Err(FillFault::Text(0, TextFault::EmptySegment))
+    );
     let dots = Crumb {
         path: "..",
         name: "",
     };
-    assert!(rt; crumbs.append(&mut page, dots) == Err(FillFault::DotSegment(0)));
+    assert!(rt; crumbs.append(&mut page, dots) == Err(FillFault::Text(0, TextFault::DotSegment)));
     assert!(rt; page.as_str() == "<nav><a href=\"/a%2F..%2Fb\">a &gt; b</a> / ");
     Ok(())
 }

@@ -10,6 +10,7 @@ pub mod operations;
 pub mod places;
 mod refusing;
 pub mod rows;
+pub mod shown;
 mod streams;
 
 pub use crate::refusing::Refusing;

@@ -1,8 +1,9 @@
 //! The examples of templates and of their laws.
-use crate::links::read::url_of_page;
 use hesc_places::{Place, read_place};
-use html_template::{Content, FillFault, Part, Template, TemplateFault, Texts, laws};
-use html_template_source::{BindFault, NamedTemplate, SourceFault};
+use html_template::{
+    Content, FillFault, Part, PartFault, Template, TemplateFault, TextFault, Texts, laws,
+};
+use html_template_source::{BindFault, NamedTemplate, SourceFault, laws as source_laws};
 use html_tokenizer::{Reader, SlotPlace, Standing};
 use std::alloc::{AllocError, Global};
 use std::process::Abort;
@@ -44,7 +45,9 @@ fn a_template_is_made_and_filled_as_it_is_said_to_be(rt: HostRuntime) {
     assert!(rt; is_page(rt.alloc(), &template, &["a\""], "<p title=\"a&quot;\">"));
     assert!(rt; is_page(rt.alloc(), &template, &["\">"], "<p title=\"&quot;&gt;\">"));
     let parts = [Part::Markup("<p "), Part::Slot, Part::Markup(">")];
-    assert!(rt; Template::new(rt.alloc(), &parts).err() == Some(TemplateFault::NoPlace(1)));
+    assert!(rt;
+        Template::new(rt.alloc(), &parts).err() == Some(TemplateFault::Part(1, PartFault::NoPlace))
+    );
 }
 
 #[test]
@@ -74,7 +77,7 @@ fn a_source_is_parsed_and_filled_as_it_is_said_to_be(rt: HostRuntime) {
     assert!(rt; template.append(&mut page, &[("name", "a<b")]) == Ok(()));
     assert!(rt; page.as_str() == "<p>a&lt;b</p>");
     let fault = NamedTemplate::parse(rt.alloc(), "<p {{name}}>").err();
-    assert!(rt; fault == Some(SourceFault::NoTemplate(TemplateFault::NoPlace(1))));
+    assert!(rt; fault == Some(SourceFault::NoTemplate(TemplateFault::Part(1, PartFault::NoPlace))));
 }
 
 // How many tags a page of plain tags has.
@@ -128,9 +131,31 @@ fn a_page_has_the_urls_that_the_law_says(rt: HostRuntime) -> Result<(), Fail> {
         panic!(rt; "the text fills the slot");
     };
     let base = Url::parse(rt.alloc(), "https://h.example/")?;
-    let url = url_of_page(&rt, rt.alloc(), &base, page.as_str(), "\"")?;
+    assert!(rt; page.as_str() == "<a href=\"/?q=b%26p%3D2&amp;p=1\">");
+    let url = base.join("/?q=b%26p%3D2&p=1")?;
     assert!(rt; url.as_str() == "https://h.example/?q=b%26p%3D2&p=1");
     Ok(())
+}
+
+static UNQUOTED: [Part; 3] = [Part::Markup("<p title="), Part::Slot, Part::Markup(">")];
+
+#[test]
+fn faults_come_where_the_laws_say(rt: HostRuntime) {
+    laws::fill_faults_law();
+    source_laws::bind_faults_law();
+    let Ok(template) = Template::new(rt.alloc(), &UNQUOTED) else {
+        panic!(rt; "the slot stands in a value");
+    };
+    let mut page = String::new(rt.alloc());
+    let empty = FillFault::Text(0, TextFault::EmptyUnquoted);
+    assert!(rt; template.append(&mut page, &[""]) == Err(empty));
+    assert!(rt; template.append(&mut page, &["", "a"]) == Err(empty));
+    assert!(rt; template.append(&mut page, &["a", ""]) == Err(FillFault::WrongCount));
+    let Ok(named) = NamedTemplate::parse(rt.alloc(), "<p>{{a}}</p>") else {
+        panic!(rt; "the slot stands in text");
+    };
+    let unknown = [("b", ""), ("a", "")];
+    assert!(rt; named.append(&mut page, &unknown) == Err(BindFault::Unknown(0)));
 }
 
 #[test]
@@ -163,5 +188,19 @@ fn a_reader_stands_where_it_is_said_to_stand(rt: HostRuntime) -> Result<(), Allo
     assert!(rt; !in_a_tag.may_end());
     assert!(rt; in_a_tag.slot() == Standing::Nowhere);
     assert!(rt; reader_after(rt.alloc(), b"<xmp>")?.is_refused());
+    Ok(())
+}
+
+#[test]
+fn readers_are_copied_and_compared(rt: HostRuntime) -> Result<(), AllocError> {
+    let open = reader_after(rt.alloc(), b"<p title=\"")?;
+    let mut copy = open.copy(rt.alloc())?;
+    assert!(rt; copy.is_same(&open));
+    copy.read(b"a\">")?;
+    assert!(rt; copy.may_end() && !copy.is_same(&open));
+    let empty = reader_after(rt.alloc(), b"<p></p>")?;
+    assert!(rt; empty.is_same(&reader_after(rt.alloc(), b"<p>")?));
+    assert!(rt; reader_after(rt.alloc(), b"<a href=\"")?.is_in_url());
+    assert!(rt; !reader_after(rt.alloc(), b"<a title=\"")?.is_in_url());
     Ok(())
 }

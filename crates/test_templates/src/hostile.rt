@@ -1,6 +1,6 @@
 //! Hostile texts in every place.
 use crate::pages::{PLACES, parts, put, stay};
-use html_template::{FillFault, Template};
+use html_template::{FillFault, Template, TextFault};
 use std::alloc::{AllocError, Global};
 use std::process::Abort;
 use std::test::Fail;
@@ -198,7 +198,9 @@ fn an_empty_text_stays_but_without_quotes(rt: HostRuntime) -> Result<(), Fail> {
     };
     let mut texts = [""; PLACES];
     let mut page = String::new(rt.alloc());
-    assert!(rt; template.append(&mut page, &texts) == Err(FillFault::EmptyUnquoted(4)));
+    assert!(rt;
+        template.append(&mut page, &texts) == Err(FillFault::Text(4, TextFault::EmptyUnquoted))
+    );
     put(&mut texts, 4, "x");
     assert!(rt; stay(rt.alloc(), &template, &texts)?);
     Ok(())

@@ -1,6 +1,6 @@
-//! Tests of templates: which are taken and which refused, memory that is refused, and hostile texts in
-//! every place and part of a URL, read back by the grammars of places and the parser of URLs. The examples
-//! of the documents are here too.
+//! Tests of templates: memory that is refused, and hostile texts in every place and part of a URL, read
+//! back by the grammars of places and the parser of URLs. The examples of the documents are here too. Which
+//! templates are taken, and which refused, is data: `test_markup`.
 #![tactic(auto)]
 
 #[cfg(test)]

@@ -1,10 +1,4 @@
-//! Slots in URLs: which templates and texts are refused, and hostile texts in each part of a URL and as a
-//! whole link, read back by the running parser of the URL Standard.
-mod attributes;
-mod faults;
+//! Slots in URLs: what is made of several in one URL, the fault of parts, and the first fault of texts. What
+//! is read of them is data: `test_links`.
 mod fills;
-mod hostile;
-mod parts;
-pub(crate) mod read;
 mod several;
-mod whole;

@@ -4,7 +4,7 @@
 //! A reader asks for what it holds alone, and what makes a template for its lists.
 use crate::named::{self, bindings, names};
 use crate::pages::{PLACES, parts};
-use html_template::{FillFault, Part, Template, TemplateFault};
+use html_template::{FillFault, Part, Template, TemplateFault, TextFault};
 use html_template_source::{BindFault, NamedTemplate, SourceFault};
 use html_tokenizer::Reader;
 use std::alloc::Global;
@@ -192,7 +192,7 @@ fn a_fault_is_told_before_memory_is_asked_for(rt: HostRuntime) {
         panic!(rt; "the source is a template");
     };
     let empty = [("title", ""), ("body", "")];
-    let fault = BindFault::Fill(FillFault::EmptyUnquoted(0));
+    let fault = BindFault::Fill(FillFault::Text(0, TextFault::EmptyUnquoted));
     assert!(rt; is_told(&heap, &template, &empty, fault));
     let empty = [("body", ""), ("title", "")];
     assert!(rt; is_told(&heap, &template, &empty, fault));
@@ -246,8 +246,25 @@ fn a_named_append_asks_for_its_page(rt: HostRuntime) -> Result<(), Fail> {
     Ok(())
 }
 
+/// Whether this is the fault and the output stays as it was, whether or not memory is refused.
+fn is_answered<'h>(
+    heap: &'h Refusing<Global>,
+    template: &NamedTemplate<'_, &'h Refusing<Global>>,
+    bindings: &[(&str, &str)],
+    fault: BindFault,
+) -> bool {
+    for refused in 0..2 {
+        let mut output = String::new(heap);
+        heap.refuse(refused);
+        if template.append(&mut output, bindings) != Err(fault) || !output.as_str().is_empty() {
+            return false;
+        }
+    }
+    true
+}
+
 #[test]
-fn a_fault_of_many_names_is_told_before_memory_is_asked_for(rt: HostRuntime) -> Result<(), Fail> {
+fn a_fault_of_many_names_is_told_with_memory_and_without(rt: HostRuntime) -> Result<(), Fail> {
     let heap = Refusing::new(rt.alloc(), 0);
     let names = names(rt.alloc(), 600)?;
     let source = named::source(rt.alloc(), &names)?;
@@ -259,11 +276,15 @@ fn a_fault_of_many_names_is_told_before_memory_is_asked_for(rt: HostRuntime) -> 
         bindings.push(("n599", ""))?;
         bindings.push(("n300", ""))?;
         let first = if is_reversed { 0 } else { 300 };
-        assert!(rt; is_told(&heap, &template, &bindings, BindFault::Doubled(first)));
+        let doubled = BindFault::Doubled(first);
+        assert!(rt; is_answered(&heap, &template, &bindings, doubled));
         let last = bindings.len().saturating_sub(3);
         bindings.truncate(last);
-        let missing = if is_reversed { 0 } else { 599 };
-        assert!(rt; is_told(&heap, &template, &bindings, BindFault::Missing(missing)));
+        let missing = BindFault::Missing(if is_reversed { 0 } else { 599 });
+        assert!(rt; is_answered(&heap, &template, &bindings, missing));
+        bindings.push(("none", ""))?;
+        let unknown = BindFault::Unknown(bindings.len().saturating_sub(1));
+        assert!(rt; is_answered(&heap, &template, &bindings, unknown));
     }
     Ok(())
 }

@@ -1,5 +1,5 @@
-//! Texts that are bound to many names, and the fault that stands first. Bindings are looked at in
-//! blocks of 256 names: what is expected comes from the places alone.
+//! Texts that are bound to many names, and the fault that stands first. Of up to 256
+//! names the bindings are placed on the stack: what is expected comes from the places alone.
 use html_template_source::{BindFault, NamedTemplate};
 use std::alloc::{AllocError, Global};
 use std::process::Abort;

@@ -1,7 +1,7 @@
 //! Pages that are written: to any writer the same bytes go out as are appended, on its own fault a
 //! beginning of them, and nothing where the texts do not fill the template.
 use crate::pages::{PLACES, parts};
-use html_template::{FillFault, Template, WriteFault};
+use html_template::{FillFault, Template, TextFault, WriteFault};
 use html_template_source::{BindFault, NamedTemplate};
 use std::alloc::Global;
 use std::io::{self, ErrorKind};
@@ -80,7 +80,7 @@ fn texts_that_do_not_fill_write_nothing(rt: HostRuntime) -> Result<(), Fail> {
     let mut empty = TEXTS;
     empty[4] = "";
     let cases: [(&[&str], FillFault); 3] = [
-        (&empty, FillFault::EmptyUnquoted(4)),
+        (&empty, FillFault::Text(4, TextFault::EmptyUnquoted)),
         (&TEXTS[..PLACES - 1], FillFault::WrongCount),
         (&[], FillFault::WrongCount),
     ];
@@ -122,7 +122,7 @@ fn bindings_that_do_not_fill_write_nothing(rt: HostRuntime) -> Result<(), Fail> 
         (&[("b", "1"), ("b", "2"), ("a", "3")], BindFault::Doubled(0)),
         (
             &[("b", "1"), ("a", "")],
-            BindFault::Fill(FillFault::EmptyUnquoted(0)),
+            BindFault::Fill(FillFault::Text(0, TextFault::EmptyUnquoted)),
         ),
     ];
     for &(bindings, expected) in &cases {

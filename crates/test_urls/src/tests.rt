@@ -1,12 +1,8 @@
-//! What no contract says of texts in URLs: that another program encodes them so, that the running
-//! parser reads them where the laws say, and that a front which the laws leave out is a trap.
+//! What no contract says of texts in URLs: that another program encodes them so in each form, where the
+//! slots of a URL stand, and how often memory is asked for. What is read of URLs is data: `test_links`.
 mod blocks;
 mod components;
 mod hostile;
 mod laws;
-mod links;
 mod memory;
-mod parts;
-mod shapes;
 mod slots;
-mod traps;

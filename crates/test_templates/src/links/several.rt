@@ -1,12 +1,8 @@
 //! Several slots in one URL, and several URLs in one template.
-use crate::links::hostile::TEXTS;
-use crate::links::read::{as_text, url_of_page};
-use html_template::TemplateFault::{AfterLink, DotSegment, NotFixed, NotPlain};
+use html_template::PartFault::{AfterLink, DotSegment, NotFixed, NotPlain};
+use html_template::TemplateFault::Part as At;
 use html_template::{Part, Template, TemplateFault};
-use std::alloc::Global;
 use std::process::Abort;
-use std::test::Fail;
-use url::Url;
 
 static PAGE: [Part; 13] = [
     Part::Markup("<form action=\"/s/"),
@@ -38,65 +34,30 @@ fn each_slot_is_written_for_its_part(rt: HostRuntime) {
     );
 }
 
-static IN_TURN: [Part; 7] = [
-    Part::Markup("<a href=\"/items/"),
-    Part::Slot,
-    Part::Markup("/edit?q="),
-    Part::Slot,
-    Part::Markup("&amp;r=1#"),
-    Part::Slot,
-    Part::Markup("\">"),
-];
-
-// Whether each text is read in its slots of the URL.
-fn are_read(
-    rt: &impl Abort,
-    alloc: Global,
-    template: &Template,
-    base: &Url,
-    first: &str,
-    second: &str,
-) -> Result<bool, Fail> {
-    let mut page = String::new(alloc);
-    if template.append(&mut page, &[first, second, first]) != Ok(()) {
-        return Ok(false);
-    }
-    let url = url_of_page(rt, alloc, base, page.as_str(), "\"")?;
-    let read = as_text(alloc, &url)?;
-    let wanted = format!(in alloc;
-        "https h.example\n/items\n/{first}\n/edit\n?q={second}\n?r=1\n#{first}\n"
-    )?;
-    Ok(read.as_str() == wanted.as_str())
-}
-
-#[test]
-fn no_text_reaches_another_slot_of_its_url(rt: HostRuntime) -> Result<(), Fail> {
-    let Ok(template) = Template::new(rt.alloc(), &IN_TURN) else {
-        panic!(rt; "each slot stands in its part");
-    };
-    let base = Url::parse(rt.alloc(), "https://h.example/d")?;
-    for &first in &TEXTS {
-        for &second in &TEXTS {
-            let is_read = are_read(&rt, rt.alloc(), &template, &base, first, second)?;
-            assert!(rt; is_read, "{first:?} {second:?}");
-        }
-    }
-    Ok(())
-}
-
 // Parts, and the fault of each.
-static FAULTS: [(&[Part], Option<TemplateFault>); 13] = [
+static FAULTS: [(&[Part], Option<TemplateFault>); 14] = [
+    (
+        &[
+            Part::Markup("<a href=\"/u/"),
+            Part::Slot,
+            Part::Markup("/b%"),
+            Part::Markup(""),
+            Part::Slot,
+            Part::Markup("\">"),
+        ],
+        Some(At(2, NotPlain)),
+    ),
     (
         &[Part::Markup("<a href=\"/a"), Part::Markup("/"), Part::Slot],
-        Some(NotFixed(2)),
+        Some(At(2, NotFixed)),
     ),
     (
         &[Part::Markup("<a href=\""), Part::Markup(""), Part::Slot],
-        Some(NotFixed(2)),
+        Some(At(2, NotFixed)),
     ),
     (
         &[Part::Markup("<a href=\""), Part::Slot, Part::Slot],
-        Some(AfterLink(2)),
+        Some(At(2, AfterLink)),
     ),
     (
         &[
@@ -105,7 +66,7 @@ static FAULTS: [(&[Part], Option<TemplateFault>); 13] = [
             Part::Markup(""),
             Part::Slot,
         ],
-        Some(AfterLink(3)),
+        Some(At(3, AfterLink)),
     ),
     (
         &[
@@ -161,7 +122,7 @@ static FAULTS: [(&[Part], Option<TemplateFault>); 13] = [
             Part::Markup("/."),
             Part::Markup("./"),
         ],
-        Some(DotSegment(3)),
+        Some(At(3, DotSegment)),
     ),
     (
         &[
@@ -170,7 +131,7 @@ static FAULTS: [(&[Part], Option<TemplateFault>); 13] = [
             Part::Markup("&am"),
             Part::Markup("p;c=\">"),
         ],
-        Some(NotPlain(2)),
+        Some(At(2, NotPlain)),
     ),
     (
         &[
@@ -180,7 +141,7 @@ static FAULTS: [(&[Part], Option<TemplateFault>); 13] = [
             Part::Slot,
             Part::Markup("\">"),
         ],
-        Some(NotFixed(3)),
+        Some(At(3, NotFixed)),
     ),
     (
         &[
@@ -190,7 +151,7 @@ static FAULTS: [(&[Part], Option<TemplateFault>); 13] = [
             Part::Slot,
             Part::Markup("\">"),
         ],
-        Some(NotFixed(1)),
+        Some(At(1, NotFixed)),
     ),
 ];
 

@@ -2,10 +2,11 @@
 use hesc_engine::{Counter, StackSink};
 use html_urls::{
     COMPONENT, append_component, append_component_to_vec, component_length, encode_component,
-    is_unreserved, put_component,
+    put_component,
 };
 use percent_encoding::utf8_percent_encode;
 use std::alloc::Global;
+use std::borrow::CowStr;
 use std::test::Fail;
 
 // Of one byte that stays as it is and of one that does not, and of two, three and four bytes.
@@ -48,7 +49,8 @@ fn is_encoded(alloc: Global, text: &str) -> Result<bool, Fail> {
             && encode_component(alloc, text)?.as_str() == expected.as_str()
             && counter.count() == expected.len()
             && component_length(text) == Some(expected.len())
-            && is_unreserved(text) == (text == expected.as_str()),
+            && matches!(&encode_component(alloc, text)?, CowStr::Borrowed(_))
+                == (text == expected.as_str()),
     )
 }
 

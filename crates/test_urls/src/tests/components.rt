@@ -4,8 +4,7 @@ use hesc_engine::Counter;
 use hesc_engine::forms::Parts;
 use html_urls::{
     Component, append_component, append_component_to_vec, component_length, encode_component,
-    encode_component_to_string, encode_component_to_vec, encode_component_to_writer, is_unreserved,
-    put_component,
+    encode_component_to_string, encode_component_to_vec, encode_component_to_writer, put_component,
 };
 use std::borrow::CowStr;
 use std::test::Fail;
@@ -18,7 +17,6 @@ fn a_component_is_what_another_program_gives(rt: HostRuntime) -> Result<(), Fail
         assert!(rt; made.as_str() == component, "{text:?}");
         let is_borrowed = matches!(&made, CowStr::Borrowed(_));
         assert!(rt; is_borrowed == (text == component), "{text:?}");
-        assert!(rt; is_unreserved(text) == (text == component), "{text:?}");
         assert!(rt; component_length(text) == Some(component.len()), "{text:?}");
     }
     Ok(())

@@ -1,12 +1,9 @@
-//! URLs with several slots: where each stands, which parts are refused, and hostile texts in two slots,
-//! read back by the running parser.
-use crate::tests::hostile::ROWS;
+//! URLs with several slots: where each stands, which parts are refused, and what is appended.
 use html_urls::UrlPart::{Markup, Slot};
 use html_urls::{
     OpenPart, UrlFault, UrlPart, UrlPlace, UrlSlot, UrlTextFault, after_markup, after_text,
     append_component, append_url, is_plain, may_be_dots, may_fill, open_of, slot_at, slots_of,
 };
-use percent_encoding::percent_decode_str;
 use std::alloc::Global;
 use std::test::Fail;
 use test_support::Refusing;
@@ -43,7 +40,7 @@ const IN_FRAGMENT: UrlSlot = UrlSlot {
 };
 
 // A front, and the fault of a slot behind it.
-const FRONTS: [(&str, UrlFault); 29] = [
+const FRONTS: [(&str, UrlFault); 34] = [
     ("", UrlFault::NotFixed(1)),
     ("//", UrlFault::NotFixed(1)),
     ("//x", UrlFault::NotFixed(1)),
@@ -70,9 +67,14 @@ const FRONTS: [(&str, UrlFault); 29] = [
     ("/\t/", UrlFault::NotPlain(0)),
     ("/\\", UrlFault::NotPlain(0)),
     ("\\a/", UrlFault::NotPlain(0)),
+    ("/a?q=%", UrlFault::NotPlain(0)),
+    ("/a?q=%4", UrlFault::NotPlain(0)),
+    ("#%f", UrlFault::NotPlain(0)),
+    ("/a-%E", UrlFault::NotPlain(0)),
+    ("/a/%2", UrlFault::NotPlain(0)),
     ("a.html/..", UrlFault::DotSegment(1)),
     ("/a/.", UrlFault::DotSegment(1)),
-    ("/a/%2", UrlFault::DotSegment(1)),
+    ("/a/%2e", UrlFault::DotSegment(1)),
 ];
 
 // What stands behind `/a/` and a slot, and its fault.
@@ -228,9 +230,38 @@ fn each_fault_names_its_part(rt: HostRuntime) -> Result<(), Fail> {
     Ok(())
 }
 
+// A text behind `%`, or behind `%` and a hexadecimal digit, would be a part of an escape.
+#[test]
+fn no_escape_is_open_before_a_slot(rt: HostRuntime) -> Result<(), Fail> {
+    for open in ["?q=%", "?q=%4", "?q=%f", "?q=%4%"] {
+        let parts = [Markup("/a/"), Slot, Markup(open), Slot];
+        assert!(rt;
+            is_fault(rt.alloc(), &parts, UrlFault::NotPlain(2)),
+            "{open}"
+        );
+        let parts = [Markup("/a/"), Slot, Markup(open)];
+        assert!(rt; are_slots(rt.alloc(), &parts, &[BEGINS]), "{open}");
+        assert!(rt; are_slots(rt.alloc(), &[Markup(open)], &[]), "{open}");
+        let parts = [Markup(open), Markup("1"), Slot];
+        assert!(rt;
+            is_fault(rt.alloc(), &parts, UrlFault::NotPlain(0)),
+            "{open}"
+        );
+    }
+    for shut in ["?q=%41", "?q=%g", "?q=%4x", "?q=%25", "?q=4"] {
+        assert!(rt;
+            are_slots(rt.alloc(), &[Markup(shut), Slot], &[IN_QUERY]),
+            "{shut}"
+        );
+    }
+    Ok(())
+}
+
 #[test]
 fn slots_are_told_part_by_part(rt: HostRuntime) -> Result<(), Fail> {
-    assert!(rt; is_plain(b"/items/") && !is_plain(b"/a b") && !is_plain(b"/\\"));
+    assert!(rt; is_plain(b"/items/", false) && !is_plain(b"/a b", true));
+    assert!(rt; !is_plain(b"/\\", true));
+    assert!(rt; !is_plain(b"?q=%4", false) && is_plain(b"?q=%4", true));
     assert!(rt; open_of(b"/items/") == Some(OpenPart::NewSegment));
     assert!(rt; open_of(b"mailto:a@b.example?subject=") == Some(OpenPart::Query));
     assert!(rt; open_of(b"//").is_none() && open_of(b"javascript:x?").is_none());
@@ -278,42 +309,6 @@ fn texts_fill_slots_by_their_place(rt: HostRuntime) -> Result<(), Fail> {
     }
     for &text in &["...", "%2e", "a/../b"] {
         assert!(rt; may_fill(BEGINS, text), "{text:?}");
-    }
-    Ok(())
-}
-
-#[test]
-fn hostile_texts_in_two_slots_are_read_back(rt: HostRuntime) -> Result<(), Fail> {
-    for &(first, component) in &ROWS {
-        if !may_fill(BEGINS, first) {
-            continue;
-        }
-        for &(second, _) in &ROWS {
-            let url = url_of(rt.alloc(), &ITEM, &[first, second])?;
-            assert!(rt;
-                url.scheme() == "https" && url.authority() == "h:8080",
-                "{first:?} {second:?}"
-            );
-            let Some(mut segments) = url.path_segments() else {
-                panic!(rt; "{first:?} has a path");
-            };
-            assert!(rt; segments.next() == Some("items"), "{first:?}");
-            assert!(rt; segments.next() == Some(component), "{first:?}");
-            assert!(rt;
-                segments.next() == Some("edit") && segments.next().is_none(),
-                "{first:?}"
-            );
-            assert!(rt; url.fragment() == Some("s"), "{second:?}");
-            let Some(query) = url.query() else {
-                panic!(rt; "{second:?} has a query");
-            };
-            let value = query
-                .strip_prefix("q=")
-                .and_then(|rest| rest.strip_suffix("&r=1"));
-            let mut bytes = Vec::new(rt.alloc());
-            percent_decode_str(value.unwrap_or("-")).append_to(&mut bytes)?;
-            assert!(rt; bytes.as_slice() == second.as_bytes(), "{second:?}");
-        }
     }
     Ok(())
 }
