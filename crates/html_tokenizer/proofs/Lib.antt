@@ -9,3 +9,4 @@ pub mod Stretches
 pub mod Slots
 pub mod Agreement
 pub mod UrlValues
+pub mod Same

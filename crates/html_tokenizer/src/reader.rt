@@ -1,8 +1,9 @@
 //! The running tokenizer.
 pub(crate) mod names;
+pub(crate) mod same;
 pub(crate) mod stretches;
 
-ghost use Rattle.std.specs.Prelude.{◌≡◌, ◌≤◌, ◌↔◌, [], OnOk, IsTrue, length};
+ghost use Rattle.std.specs.Prelude.{◌≡◌, ◌≤◌, ◌↔◌, [], IfOk, OnOk, IsTrue, length};
 ghost use Rattle.html_tokenizer.specs.Standing.{AfterStanding, is_refused, may_end, standing};
 ghost use Rattle.html_tokenizer.specs.Tokenizer.Attributes.{reference_read};
 ghost use Rattle.html_tokenizer.specs.Tokenizer.Code.Strings.{script_escape_byte};
@@ -10,6 +11,7 @@ ghost use Rattle.html_tokenizer.specs.Tokenizer.Phases.{HoldsLetters, IsBeforeNa
 ghost use Rattle.html_tokenizer.specs.Tokenizer.States.{at, data_state};
 ghost use Rattle.html_tokenizer.specs.Tokenizer.Stretches.{IsSettled};
 ghost use Rattle.html_tokenizer.specs.Tokenizer.Tokenization.{consume, state_after};
+ghost use Rattle.html_tokenizer.specs.UrlValues.{is_url};
 ghost use Rattle.html_tokenizer.specs.declared.states.Kind.TheVariants as kind;
 ghost use Rattle.html_tokenizer.specs.declared.states.Phase.TheVariants as phase;
 
@@ -18,6 +20,7 @@ use crate::code::strings::script_escape_byte;
 use crate::consume::{byte_in, first_byte, name_byte, text_or_value_byte};
 use crate::elements::{Content, OpenElement};
 use crate::reader::names::{MOST_LETTERS, begun_name, read_letters};
+use crate::reader::same::{holds_word, is_same_content, is_same_kind, is_same_phase};
 use crate::reader::stretches::{script_words, stretch, text_stretch};
 use crate::slot_place::SlotPlace;
 use crate::states::{Code, Kind, Move, Phase, Word, goes, refuses};
@@ -356,6 +359,56 @@ impl<A: Allocator> Reader<A> {
             && self.content.element == OpenElement::Normal
             && self.content.templates == 0
             && self.kind == Kind::Ordinary
+    }
+
+    /// The same tokenizer once more.
+    ///
+    /// Of one after `<p title="`, the copy reads on in the value.
+    pub fn copy(&self, alloc: A) -> Result<Reader<A>, AllocError>
+        ensures { IfOk result (λ copy. tokenizer_of copy ≡ tokenizer_of self.now) }
+    {
+        let mut word = Vec::new(alloc);
+        word.extend_from_slice(&self.word)?;
+        Ok(Reader {
+            phase: self.phase,
+            content: self.content,
+            kind: self.kind,
+            word,
+        })
+    }
+
+    /// Whether both are in the same state.
+    ///
+    /// Of two after `<p>` and after `<p></p>` it is `true`.
+    pub fn is_same(&self, other: &Reader<A>) -> bool
+        ensures { IsTrue result → tokenizer_of self.now ≡ tokenizer_of other.now }
+    {
+        if !is_same_phase(self.phase, other.phase) {
+            return false;
+        }
+        if !is_same_content(self.content, other.content) {
+            return false;
+        }
+        if !is_same_kind(self.kind, other.kind) {
+            return false;
+        }
+        if !holds_word(self.phase, self.kind) {
+            return true;
+        }
+        self.word.as_slice() == other.word.as_slice()
+    }
+
+    /// Whether the value of an attribute that holds a URL is read.
+    ///
+    /// After `<a href="` it is `true`, and after `<a title="` `false`.
+    pub fn is_in_url(&self) -> bool
+        ensures { result ≡ is_url (tokenizer_of self.now).attribute }
+    {
+        match self.kind {
+            Kind::Link | Kind::Url | Kind::FixedUrl => true,
+            Kind::Ordinary | Kind::Forbidden | Kind::Unread | Kind::Raw => false,
+            Kind::ScriptType | Kind::Encoding | Kind::Pragma | Kind::PageType => false,
+        }
     }
 
     /// Whether what was read has no reading.

@@ -129,3 +129,7 @@ IsInName other = ⊥
 abbrev pub HoldsLetters : Phase → Attribute → Type 0
 HoldsLetters (phase.Within p) attribute = reference_read attribute ≡ attribute
 HoldsLetters other attribute = attribute ≡ state.Ordinary
+
+-- the state and the attribute are the same
+abbrev pub HoldsNoWord : State → State → Attribute → Attribute → Type 0
+HoldsNoWord first second kind other = (first ≡ second) × (kind ≡ other)

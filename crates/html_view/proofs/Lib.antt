@@ -1,0 +1,10 @@
+pub mod Steps
+pub mod Runs
+pub mod Sound
+pub mod Followed
+pub mod Unrolling
+pub mod Forms
+pub mod Pages
+pub mod WaySets
+pub mod RunningWays
+pub mod Views

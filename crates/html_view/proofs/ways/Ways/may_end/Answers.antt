@@ -1,0 +1,14 @@
+use Rattle.std.proofs.Common.{rules, ◌≡◌, ◌≤◌, ◌+◌, List, length, subst, refl, arith}
+use Rattle.html_view.specs.Ways.{MayEnd}
+use Rattle.html_view.proofs.WaySets.{taken_all, taken_more}
+use Rattle.html_view.proofs.ways.Ways.may_end.Goals as goal
+
+pub loop-way-preserved : goal.loop-way-preserved
+loop-way-preserved g c =
+    taken_more MayEnd c.deref-way-items.result.now c.args.self.now.ways.items c.loop-way.way-index (c.loop-way.way-index + 1) c.way-item.result
+    c.deref-way-items.ensures.value (omega arith) (omega arith) c.way-item.is c.loop-way.invariant (c.in_ok-may_end.ensures c.if-not-branch.false)
+
+pub returns : goal.returns
+returns g c = λ so.
+    taken_all MayEnd c.args.self.now.ways.items c.loop-way.way-index
+    (subst (λ (w : List _). length w ≤ c.loop-way.way-index) c.deref-way-items.ensures.value c.loop-way-test.false) c.loop-way.invariant

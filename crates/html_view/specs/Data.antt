@@ -1,0 +1,93 @@
+-- The data of a page, and what a name means in it.
+use Rattle.std.specs.Prelude.{◌≡◌, ℕ, Bool, true, false, List, [], ◌∷◌, Option, Some, None, bytes_eq, if◌then◌else◌}
+use Rattle.std.specs.Option.{option_and_then}
+use Rattle.html_view.specs.Nodes.{Words}
+use Rattle.html_view.specs.declared.node.Times.{Times}
+use Rattle.html_view.specs.declared.node.Times.TheVariants.{Each, Once, If}
+
+mutual
+  -- nothing, a text, a flag, a list, or named values
+  pub data Datum : Type 0 where
+    Nothing : Datum
+    Text : List ℕ → Datum
+    Flag : Bool → Datum
+    Items : ItemList → Datum
+    Record : Fields → Datum
+
+  pub data ItemList : Type 0 where
+    no_items : ItemList
+    item : Datum → ItemList → ItemList
+
+  pub data Fields : Type 0 where
+    bare : Fields
+    field : List ℕ → Datum → Fields → Fields
+
+-- what is around, the innermost first
+abbrev pub Stack : Type 0
+Stack = List Datum
+
+-- ---- names
+
+-- the first value of this name
+abbrev pub field_of : List ℕ → Fields → Option Datum
+field_of word bare = None
+field_of word (field name value fields) = if bytes_eq name word then Some value else field_of word fields
+
+abbrev pub member_of : List ℕ → Datum → Option Datum
+member_of word (Record fields) = field_of word fields
+member_of word other = None
+
+-- the first word is looked up from inside out, and each other one in what was found
+abbrev pub first_of : Option Datum → Option Datum → Option Datum
+first_of (Some found) other = Some found
+first_of None other = other
+
+abbrev pub around : List ℕ → Stack → Option Datum
+around word [] = None
+around word (value ∷ stack) = first_of (member_of word value) (around word stack)
+
+abbrev pub within : Words → Datum → Option Datum
+within [] value = Some value
+within (word ∷ words) value = option_and_then (λ found. within words found) (member_of word value)
+
+abbrev pub innermost : Stack → Option Datum
+innermost [] = None
+innermost (value ∷ stack) = Some value
+
+abbrev pub look_up : Words → Stack → Option Datum
+look_up [] stack = innermost stack
+look_up (word ∷ words) stack = option_and_then (within words) (around word stack)
+
+-- ---- sections
+
+abbrev pub is_filled : List ℕ → Bool
+is_filled [] = false
+is_filled (b ∷ text) = true
+
+-- a list stands once for each item, with the item around
+abbrev pub item_stacks : ItemList → Stack → List Stack
+item_stacks no_items stack = []
+item_stacks (item value items) stack = (value ∷ stack) ∷ item_stacks items stack
+
+abbrev pub has_items : ItemList → Bool
+has_items no_items = false
+has_items (item value items) = true
+
+abbrev pub once : Bool → Stack → List Stack
+once true stack = stack ∷ []
+once false stack = []
+
+-- a condition only asks a list whether it is empty
+abbrev pub list_stacks : Times → ItemList → Stack → List Stack
+list_stacks If items stack = once (has_items items) stack
+list_stacks other items stack = item_stacks items stack
+
+-- what is around in the body, each time that it stands: never where its name is missing, or means nothing, `false` or an empty
+-- text or list. Named values are around in it, and so is a text
+abbrev pub stacks : Times → Option Datum → Stack → List Stack
+stacks times None stack = []
+stacks times (Some Nothing) stack = []
+stacks times (Some (Text text)) stack = once (is_filled text) (Text text ∷ stack)
+stacks times (Some (Flag flag)) stack = once flag stack
+stacks times (Some (Items items)) stack = list_stacks times items stack
+stacks times (Some (Record fields)) stack = (Record fields ∷ stack) ∷ []

@@ -1,0 +1,10 @@
+pub mod Nodes
+pub mod Names
+pub mod Unrolled
+pub mod Ways
+pub mod Takes
+pub mod Kept
+pub mod Following
+pub mod Data
+pub mod Rendered
+pub mod Forms

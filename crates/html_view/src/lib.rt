@@ -1,0 +1,20 @@
+//! Templates with sections: lists, conditions and what stands where these do not.
+//!
+//! A [`View`] is made of nodes: markup, slots and sections. A section's body stands in a page as often as
+//! the data has it, or something else stands in its place. Each such unrolling is a template of
+//! `html_template`, whichever sections stand, so that the structure of a page depends on the form of its
+//! data alone and never on what a text says: the [`laws`].
+#![tactic(auto)]
+
+mod faults;
+mod follow;
+mod heads;
+pub mod laws;
+mod node;
+mod view;
+mod way;
+mod ways;
+
+pub use crate::faults::{Position, ValueFault, ViewFault};
+pub use crate::node::{Asked, Node, Opening, Placed, Times};
+pub use crate::view::View;

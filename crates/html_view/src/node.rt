@@ -1,0 +1,48 @@
+//! The nodes of a view, as the source has them and as they are placed.
+use crate::faults::Position;
+use html_template::SlotKind;
+use html_tokenizer::SlotPlace;
+use std::alloc::Allocator;
+
+/// How often the body of a section may stand.
+#[derive(Clone, Copy, Debug, PartialEq, Eq)]
+pub enum Times {
+    /// Once for each item of a list: `{{#x}}`.
+    Each,
+    /// Once: `{{#x}}` whose body cannot be repeated. A list of two items is a fault.
+    Once,
+    /// Once, if the condition holds: `{{?x}}` and `{{^x}}`.
+    If,
+}
+
+/// The tag that opens a section.
+#[derive(Clone, Copy)]
+pub struct Opening<'a> {
+    pub name: &'a str,
+    pub position: Position,
+    pub times: Times,
+}
+
+/// A slot, as it is written.
+#[derive(Clone, Copy)]
+pub struct Asked<'a> {
+    pub name: &'a str,
+    pub position: Position,
+}
+
+/// A slot, where it stands in the page, and what its text is.
+#[derive(Clone, Copy)]
+pub struct Placed<'a> {
+    pub asked: Asked<'a>,
+    pub place: SlotPlace,
+    pub kind: SlotKind,
+}
+
+/// A node, where this is known of each slot.
+#[derive(Drop)]
+pub enum Node<'a, S, A: Allocator> {
+    Markup(&'a str, Position),
+    Slot(S),
+    /// A body, and what stands where it does not.
+    Section(Opening<'a>, Vec<Node<'a, S, A>, A>, Vec<Node<'a, S, A>, A>),
+}

@@ -1,0 +1,128 @@
+//! A way: what may have been read where a node stands.
+ghost use Rattle.std.specs.Prelude.{◌≡◌, IfOk, IsTrue};
+ghost use Rattle.html_view.specs.Following.{Moves, MovesPast, way_of};
+ghost use Rattle.html_view.specs.Ways.{MayEnd, first_way, way_behind};
+
+use html_template::{OpenUrl, PartFault, PlacedSlot, placed, url_markup};
+use html_tokenizer::Reader;
+use std::alloc::{AllocError, Allocator};
+
+/// The tokenizer, in a URL the markup since the last slot, and what was open of a URL at that slot.
+#[derive(Drop)]
+pub(crate) struct Way<A: Allocator> {
+    alloc: A,
+    reader: Reader<A>,
+    markup: Vec<u8, A>,
+    url: OpenUrl,
+}
+
+fn is_same_url(first: OpenUrl, second: OpenUrl) -> bool
+    ensures { IsTrue result → first ≡ second }
+{
+    match (first, second) {
+        (OpenUrl::Outside, OpenUrl::Outside) => true,
+        (OpenUrl::Within(place, part), OpenUrl::Within(other, another)) => {
+            place == other && part == another
+        }
+        (OpenUrl::Whole(place), OpenUrl::Whole(other)) => place == other,
+        _ => false,
+    }
+}
+
+impl<A: Allocator + Copy> Way<A> {
+    /// At the beginning of a page.
+    pub(crate) fn first(alloc: A) -> Way<A>
+        ensures { way_of result ≡ first_way }
+    {
+        Way {
+            alloc,
+            reader: Reader::new(alloc),
+            markup: Vec::new(alloc),
+            url: OpenUrl::Outside,
+        }
+    }
+
+    /// The same way once more.
+    pub(crate) fn copy(&self) -> Result<Way<A>, AllocError>
+        ensures { IfOk result (λ copy. way_of copy ≡ way_of self.now) }
+    {
+        let mut markup = Vec::new(self.alloc);
+        markup.extend_from_slice(&self.markup)?;
+        let reader = self.reader.copy(self.alloc)?;
+        Ok(Way {
+            alloc: self.alloc,
+            reader,
+            markup,
+            url: self.url,
+        })
+    }
+
+    /// Whether both are one way.
+    pub(crate) fn is_same(&self, other: &Way<A>) -> bool
+        ensures { IsTrue result → way_of self.now ≡ way_of other.now }
+    {
+        if !self.reader.is_same(&other.reader) {
+            return false;
+        }
+        if !is_same_url(self.url, other.url) {
+            return false;
+        }
+        self.markup.as_slice() == other.markup.as_slice()
+    }
+
+    /// Reads markup. A refusal of memory leaves no way.
+    pub(crate) fn take_markup(&mut self, bytes: &[u8]) -> Result<Result<(), PartFault>, AllocError>
+        ensures { IfOk result (Moves (way_behind (way_of self.old) bytes.now) (way_of self.new)) }
+    {
+        self.reader.read(bytes)?;
+        if self.reader.is_refused() {
+            return Ok(Err(PartFault::Malformed));
+        }
+        self.markup.extend_from_slice(bytes)?;
+        if self.reader.is_in_url() {
+            return Ok(Ok(()));
+        }
+        match url_markup(self.alloc, self.url, &self.markup)? {
+            Ok(OpenUrl::Outside) => {
+                self.markup.clear();
+                self.url = OpenUrl::Outside;
+                Ok(Ok(()))
+            }
+            Ok(_) => Ok(Ok(())),
+            Err(why) => Ok(Err(why)),
+        }
+    }
+
+    /// Reads a slot.
+    pub(crate) fn take_slot(&mut self) -> Result<Result<PlacedSlot, PartFault>, AllocError>
+        ensures { IfOk result (MovesPast (way_of self.old) (way_of self.new)) }
+    {
+        if self.reader.is_refused() {
+            return Ok(Err(PartFault::Malformed));
+        }
+        let url = match url_markup(self.alloc, self.url, &self.markup)? {
+            Ok(url) => url,
+            Err(why) => return Ok(Err(why)),
+        };
+        let standing = self.reader.slot();
+        match placed(self.alloc, &self.markup, url, standing)? {
+            Ok(slot) => {
+                self.markup.clear();
+                self.url = slot.url;
+                Ok(Ok(slot))
+            }
+            Err(why) => Ok(Err(why)),
+        }
+    }
+
+    /// Whether a page may end here, with no fault of the markup since the last slot.
+    pub(crate) fn may_end(&self) -> Result<bool, AllocError>
+        ensures { IfOk result (λ may. IsTrue may → MayEnd (way_of self.now)) }
+    {
+        if self.reader.is_refused() || !self.reader.may_end() {
+            return Ok(false);
+        }
+        let url = url_markup(self.alloc, self.url, &self.markup)?;
+        Ok(url.is_ok())
+    }
+}
