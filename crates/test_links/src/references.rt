@@ -104,7 +104,9 @@ fn is_value(
     let is_refused = row.is_segment && matches!(first, "" | "." | "..");
     match link.strip_prefix("value ") {
         Some(value) if !is_refused => Ok(read_on(alloc, row.page, value)?.1.as_str() == read),
-        None if is_refused && first.is_empty() => Ok(link.as_str() == "Fill(Text(0, EmptySegment))"),
+        None if is_refused && first.is_empty() => Ok(
+            link.as_str() == "Fill(Text(0, EmptySegment))",
+        ),
         None if is_refused => Ok(link.as_str() == "Fill(Text(0, DotSegment))"),
         _ => Ok(false),
     }
