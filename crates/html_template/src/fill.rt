@@ -35,8 +35,8 @@ fn segment_fault(slot: UrlSlot, text: &str) -> Option<TextFault>
     }
 }
 
-// The fault of the text in the slot.
-fn text_fault(slot: &StoredSlot, text: &str) -> Option<TextFault>
+/// The fault of a text in its slot.
+pub fn text_fault(slot: &StoredSlot, text: &str) -> Option<TextFault>
     ensures { result ≡ text_fault slot.now.place slot.now.kind text.now }
 {
     match slot.kind {
@@ -120,7 +120,7 @@ pub(crate) fn check<T: Texts>(
 
 /// The lengths of the texts together.
 #[inline(always)]
-pub(crate) fn total_length<T: Texts>(texts: &T) -> usize
+pub fn total_length<T: Texts>(texts: &T) -> usize
     ensures { AllByRecursion IsUtf8 (T.list texts.now) }
 {
     let mut sum: usize = 0;

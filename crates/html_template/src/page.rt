@@ -1,4 +1,4 @@
-//! The page of a template and texts, as parts that are put.
+//! The page of pieces and texts, as parts that are put.
 ghost use Rattle.std.specs.Prelude.{◌≡◌, [], ◌<◌, ◌≤◌, ◌+◌, ◌^◌, ◌++◌, length, map, IfSome, IsOk, IsSome, OnErr, OnOk};
 ghost use Rattle.hesc_specs.specs.Text.Beginning.{TookBeginning};
 ghost use Rattle.hesc_specs.specs.Text.Escaped.{escaped};
@@ -21,11 +21,11 @@ use std::io::{self, Write};
 
 /// The page of these texts. Whether they fill the pieces is the caller's to know.
 #[derive(Clone, Copy)]
-pub(crate) struct Page<'p, T: Texts> {
-    pub(crate) pieces: &'p [Stored<'p>],
-    pub(crate) texts: T,
-    // The length of all markup.
-    pub(crate) markup: usize,
+pub struct Page<'p, T: Texts> {
+    pub pieces: &'p [Stored<'p>],
+    pub texts: T,
+    /// About the length of all markup, in bytes.
+    pub markup: usize,
 }
 
 impl<T: Texts> Parts for Page<'_, T> {
@@ -58,7 +58,7 @@ impl<T: Texts> Parts for Page<'_, T> {
 }
 
 /// Writes the page, or a beginning of it and then the writer's fault.
-pub(crate) fn write_page<T: Texts, W: Write>(
+pub fn write_page<T: Texts, W: Write>(
     output: &mut W,
     made: &Page<'_, T>,
 ) -> Result<(), io::Error>

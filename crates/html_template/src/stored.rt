@@ -10,14 +10,14 @@ use html_tokenizer::SlotPlace;
 
 /// A piece, as a template stores it.
 #[derive(Clone, Copy)]
-pub(crate) enum Stored<'a> {
+pub enum Stored<'a> {
     Markup(StoredMarkup<'a>),
     Slot(StoredSlot),
 }
 
 /// Markup, and its first bytes as a block: short markup is put by one copy of the block.
 #[derive(Clone, Copy)]
-pub(crate) struct StoredMarkup<'a> {
+pub struct StoredMarkup<'a> {
     pub(crate) text: &'a str,
     // The first bytes of a short text, and zeros.
     block: [u8; 16],
@@ -28,7 +28,7 @@ impl<'a> StoredMarkup<'a> {
     ghost use Rattle.std.specs.Prelude.{IfSome};
 
     /// The markup of this text.
-    pub(crate) fn new(text: &'a str) -> StoredMarkup<'a>
+    pub fn new(text: &'a str) -> StoredMarkup<'a>
         ensures { result.text.now ≡ text.now }
     {
         let mut block = [0; 16];
@@ -57,7 +57,7 @@ impl<'a> StoredMarkup<'a> {
 
 /// A slot, and the class of the encoder for its place.
 #[derive(Clone, Copy)]
-pub(crate) struct StoredSlot {
+pub struct StoredSlot {
     pub(crate) place: SlotPlace,
     pub(crate) kind: SlotKind,
     pub(crate) class: Class,
@@ -66,7 +66,7 @@ pub(crate) struct StoredSlot {
 
 impl StoredSlot {
     /// A slot of this kind at this place.
-    pub(crate) fn new(place: SlotPlace, kind: SlotKind) -> StoredSlot
+    pub fn new(place: SlotPlace, kind: SlotKind) -> StoredSlot
         ensures place { result.place ≡ place }
         ensures kind { result.kind ≡ kind }
     {
