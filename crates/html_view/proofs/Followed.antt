@@ -150,7 +150,7 @@ asked_section : {A : Type 0} (opening : Opening) (body otherwise : Vec (Node Ask
     ≡ node.Section (written_opening (opening_of opening)) (asked_nodes body.items node.End) (asked_nodes otherwise.items node.End) rest
 asked_section opening body otherwise rest = search (rules, the_lemmas)
 
-placed_section : {A : Type 0} (opening : Opening) (body otherwise : Vec (Node Placed A) A) (rest : Nodes node.Placed) →
+pub placed_section : {A : Type 0} (opening : Opening) (body otherwise : Vec (Node Placed A) A) (rest : Nodes node.Placed) →
     placed_node (Section opening body otherwise) rest
     ≡ node.Section (opening_of opening) (placed_nodes body.items node.End) (placed_nodes otherwise.items node.End) rest
 placed_section opening body otherwise rest = search (rules, the_lemmas)

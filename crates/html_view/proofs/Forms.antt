@@ -11,7 +11,7 @@ use Rattle.html_tokenizer.specs.Tokenizer.Tokenization.{actions_of}
 use Rattle.html_template.proofs.Pieces.{sound_told}
 use Rattle.html_template.proofs.Structure.{structure_of_page}
 use Rattle.html_view.specs.Data as data_of
-use Rattle.html_view.specs.Data.{Datum, Fields, Flag, ItemList, Items, Record, Stack, Text, around, bare, field, field_of, first_of, has_items, innermost, is_filled, item, item_stacks, list_stacks, look_up, member_of, no_items, once, stacks, within}
+use Rattle.html_view.specs.Data.{Datum, Fields, Flag, ItemList, Items, Record, Stack, Text, around, bare, field, field_of, first_of, has_items, innermost, inside, is_filled, item, item_stacks, list_stacks, look_up, member_of, no_items, once, stacks, within}
 use Rattle.html_view.specs.Forms.{SameFields, SameForm, SameItems}
 use Rattle.html_view.specs.Nodes as node
 use Rattle.html_view.specs.Nodes.{Nodes, Opening, Placed, Words}
@@ -19,7 +19,7 @@ use Rattle.html_view.specs.Rendered.{Unrolled, Unrolling, no_unrolling, put_fron
 use Rattle.html_view.specs.Unrolled.{AreTemplates, joined}
 use Rattle.html_view.specs.Ways.{on_ok}
 use Rattle.html_view.specs.declared.node.Times.{Times}
-use Rattle.html_view.specs.declared.node.Times.TheVariants.{Each, Once, If}
+use Rattle.html_view.specs.declared.node.Times.TheVariants.{Each, Once, If, Whether}
 use Rattle.html_view.proofs.Sound.{joined_fill, joined_page}
 use Rattle.html_view.proofs.Unrolling.{found_in, is_unrolling}
 
@@ -121,16 +121,27 @@ same_list Each items others stack around_other same around = same_items items ot
 same_list Once items others stack around_other same around = same_items items others stack around_other same around
 same_list If items others stack around_other same around =
     same_once (has_items items) (has_items others) stack around_other (same_has_items items others same) around
+same_list Whether items others stack around_other same around =
+    same_once (has_items items) (has_items others) stack around_other (same_has_items items others same) around
+
+same_inside : (times : Times) (value other : Datum) (stack others : Stack) → SameForm value other → SameStack stack others →
+    SameStack (inside times value stack) (inside times other others)
+same_inside Each value other stack others same around = (same, around)
+same_inside Once value other stack others same around = (same, around)
+same_inside If value other stack others same around = (same, around)
+same_inside Whether value other stack others same around = around
 
 same_stacks : (times : Times) (a b : Option Datum) (stack others : Stack) → SameOption a b → SameStack stack others →
     SameStacks (stacks times a stack) (stacks times b others)
 same_stacks times None None stack others same around = tt
 same_stacks times (Some data_of.Nothing) (Some data_of.Nothing) stack others same around = tt
 same_stacks times (Some (Text text)) (Some (Text other)) stack others same around =
-    same_once (is_filled text) (is_filled other) (Text text ∷ stack) (Text other ∷ others) same (same, around)
+    same_once (is_filled text) (is_filled other) (inside times (Text text) stack) (inside times (Text other) others) same
+    (same_inside times (Text text) (Text other) stack others same around)
 same_stacks times (Some (Flag flag)) (Some (Flag other)) stack others same around = same_once flag other stack others same around
 same_stacks times (Some (Items items)) (Some (Items more)) stack others same around = same_list times items more stack others same around
-same_stacks times (Some (Record fields)) (Some (Record more)) stack others same around = ((same, around), tt)
+same_stacks times (Some (Record fields)) (Some (Record more)) stack others same around =
+    (same_inside times (Record fields) (Record more) stack others same around, tt)
 same_stacks times a b stack others same around = absurd same
 
 -- ---- pieces
@@ -185,6 +196,9 @@ same_times opening Once body each stack other stacks others same more = absurd m
 same_times opening If body each stack other [] [] same more = each stack other same
 same_times opening If body each stack other (a ∷ stacks) (b ∷ others) same more = λ first second told_first told_second. absurd (cc)
 same_times opening If body each stack other stacks others same more = absurd more
+same_times opening Whether body each stack other [] [] same more = each stack other same
+same_times opening Whether body each stack other (a ∷ stacks) (b ∷ others) same more = λ first second told_first told_second. absurd (cc)
+same_times opening Whether body each stack other stacks others same more = absurd more
 
 same_section : (opening : Opening) (body : Stack → Unrolled) (otherwise again : Unrolled) →
     ((stack other : Stack) → SameStack stack other → Agree (body stack) (body other)) → Agree otherwise again →

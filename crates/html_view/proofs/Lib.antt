@@ -3,8 +3,12 @@ pub mod Runs
 pub mod Sound
 pub mod Followed
 pub mod Unrolling
+pub mod Names
+pub mod Adding
+pub mod Sections
 pub mod Forms
 pub mod Pages
+pub mod DataPages
 pub mod WaySets
 pub mod RunningWays
 pub mod Views

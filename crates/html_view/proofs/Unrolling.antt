@@ -23,7 +23,7 @@ use Rattle.html_view.specs.Rendered.{Unrolled, Unrolling, fitting, flag_text, no
 use Rattle.html_view.specs.Unrolled.{AreTemplates, Stands, Unrolls, all_of, joined}
 use Rattle.html_view.specs.Ways.{on_ok}
 use Rattle.html_view.specs.declared.node.Times.{Times}
-use Rattle.html_view.specs.declared.node.Times.TheVariants.{Each, Once, If}
+use Rattle.html_view.specs.declared.node.Times.TheVariants.{Each, Once, If, Whether}
 use Rattle.html_view.proofs.Sound.{is_page_of}
 
 -- ---- a text that has no fault may fill its slot
@@ -152,6 +152,9 @@ are_some opening Once body otherwise rendering each stack (another ∷ stacks) f
 are_some opening If body otherwise rendering each stack [] found told =
     let here = each stack found told in record { either = inl here.unrolls; full = here.full }
 are_some opening If body otherwise rendering each stack (another ∷ stacks) found told = absurd (cc)
+are_some opening Whether body otherwise rendering each stack [] found told =
+    let here = each stack found told in record { either = inl here.unrolls; full = here.full }
+are_some opening Whether body otherwise rendering each stack (another ∷ stacks) found told = absurd (cc)
 
 are_either : (opening : Opening) (body otherwise : Nodes Placed) (rendering : Stack → Unrolled) (other : Unrolled) →
     ((inner : Stack) (found : Unrolling) → rendering inner ≡ Ok found → IsUnrolling body found) →

@@ -3,7 +3,7 @@ use Rattle.std.specs.Prelude.{◌≡◌, ℕ, Bool, true, false, List, [], ◌�
 use Rattle.std.specs.Option.{option_and_then}
 use Rattle.html_view.specs.Nodes.{Words}
 use Rattle.html_view.specs.declared.node.Times.{Times}
-use Rattle.html_view.specs.declared.node.Times.TheVariants.{Each, Once, If}
+use Rattle.html_view.specs.declared.node.Times.TheVariants.{Each, Once, If, Whether}
 
 mutual
   -- nothing, a text, a flag, a list, or named values
@@ -80,14 +80,20 @@ once false stack = []
 -- a condition only asks a list whether it is empty
 abbrev pub list_stacks : Times → ItemList → Stack → List Stack
 list_stacks If items stack = once (has_items items) stack
+list_stacks Whether items stack = once (has_items items) stack
 list_stacks other items stack = item_stacks items stack
 
+-- named values and a text are around in the body
+abbrev pub inside : Times → Datum → Stack → Stack
+inside Whether value stack = stack
+inside other value stack = value ∷ stack
+
 -- what is around in the body, each time that it stands: never where its name is missing, or means nothing, `false` or an empty
--- text or list. Named values are around in it, and so is a text
+-- text or list
 abbrev pub stacks : Times → Option Datum → Stack → List Stack
 stacks times None stack = []
 stacks times (Some Nothing) stack = []
-stacks times (Some (Text text)) stack = once (is_filled text) (Text text ∷ stack)
+stacks times (Some (Text text)) stack = once (is_filled text) (inside times (Text text) stack)
 stacks times (Some (Flag flag)) stack = once flag stack
 stacks times (Some (Items items)) stack = list_stacks times items stack
-stacks times (Some (Record fields)) stack = (Record fields ∷ stack) ∷ []
+stacks times (Some (Record fields)) stack = inside times (Record fields) stack ∷ []

@@ -6,5 +6,9 @@ pub mod Takes
 pub mod Kept
 pub mod Following
 pub mod Data
+pub mod JsonData
+pub mod Values
 pub mod Rendered
+pub mod Adding
+pub mod Views
 pub mod Forms

@@ -11,9 +11,34 @@ pub struct Position {
     pub byte: usize,
 }
 
+/// Why a tag is refused.
+#[derive(Clone, Copy, Debug, PartialEq, Eq)]
+pub enum TagFault {
+    /// No `}}` follows.
+    Unclosed,
+    /// A slot, a section or a block has no such name: words of ASCII letters, digits, `_` and `-` with dots
+    /// between them, or `.` alone. A partial or a layout has none with white space or a brace, and none that
+    /// is empty.
+    BadName,
+    /// `{{{` or `{{&`: no text stands in a page as it is.
+    Raw,
+    /// Another sign, with which no tag begins.
+    BadTag,
+    /// No section, layout or block of this name is to be ended here.
+    Unopened,
+    /// This section, layout or block has no end.
+    Unended,
+    /// No partial of this name stands before the text that asks for it.
+    NoPartial,
+    /// Sections, partials, layouts and blocks stand in one another more than 32 deep.
+    TooDeep,
+}
+
 /// Why nodes are no view.
 #[derive(Clone, Copy, Debug, PartialEq, Eq)]
 pub enum ViewFault {
+    /// This tag is refused, and why.
+    Tag(Position, TagFault),
     /// This markup or this slot is refused in one of the unrollings, and why.
     Part(Position, PartFault),
     /// This slot stands in two places, or its text has two meanings, by what stands before it.
@@ -48,4 +73,24 @@ pub enum ValueFault {
     Repeated,
     /// The text may not stand in its slot.
     Unfit(TextFault),
+}
+
+/// Why data has no page.
+#[derive(Clone, Copy, Debug, PartialEq, Eq)]
+pub enum DataFault {
+    /// The value for the tag here, in the order of the page the first that is refused, and why.
+    Value(Position, ValueFault),
+    /// A growth was refused.
+    Memory,
+}
+
+impl From<AllocError> for DataFault {
+    ghost use Rattle.std.specs.Prelude.{◌≡◌};
+    ghost use Rattle.html_view.specs.declared.faults.DataFault.TheVariants.{Memory};
+
+    ghost from_gives = { λ _ fault. fault ≡ Memory };
+
+    fn from(_refusal: AllocError) -> DataFault {
+        DataFault::Memory
+    }
 }

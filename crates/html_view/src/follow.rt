@@ -3,7 +3,7 @@ ghost use Rattle.std.specs.Prelude.{◌≡◌, ◌≢◌, IfOk, IfSome};
 ghost use Rattle.html_view.specs.Following.{Follows, FollowsBody, ways_of};
 ghost use Rattle.html_view.specs.Kept.{asked_node, asked_nodes, placed_node, placed_nodes};
 ghost use Rattle.html_view.specs.Nodes.{written_times};
-ghost use Rattle.html_view.specs.declared.node.Times.TheVariants.{Each, If};
+ghost use Rattle.html_view.specs.declared.node.Times.TheVariants.{Each};
 
 use crate::faults::{Position, ViewFault};
 use crate::heads::{Heads, Known};
@@ -123,8 +123,10 @@ fn follow_body<'a, A: Allocator + Copy>(
         (placed_nodes f.nodes.items) f.times (ways_of ways.now) (ways_of f.ways)) }
 {
     let number = heads.open()?;
-    if opening.times == Times::If {
-        return follow_once(alloc, Times::If, body, ways, heads);
+    match opening.times {
+        Times::If => return follow_once(alloc, Times::If, body, ways, heads),
+        Times::Whether => return follow_once(alloc, Times::Whether, body, ways, heads),
+        Times::Each | Times::Once => {}
     }
     match heads.known(number) {
         Known::Nothing => follow_new(alloc, opening.position, number, body, ways, heads),
@@ -165,7 +167,7 @@ fn follow_new<'a, A: Allocator + Copy>(
     ways: &Ways<A>,
     heads: &mut Heads<A>,
 ) -> Result<FollowedBody<'a, A>, ViewFault>
-    ensures times { IfOk result (λ f. f.times ≢ If) }
+    ensures times { IfOk result (λ f. written_times f.times ≡ Each) }
     ensures body { IfOk result (λ f. FollowsBody (asked_nodes body.now.items)
         (placed_nodes f.nodes.items) f.times (ways_of ways.now) (ways_of f.ways)) }
 {
@@ -210,7 +212,7 @@ fn follow_again<'a, A: Allocator + Copy>(
     ways: &Ways<A>,
     heads: &mut Heads<A>,
 ) -> Result<FollowedBody<'a, A>, ViewFault>
-    ensures times { IfOk result (λ f. f.times ≢ If) }
+    ensures times { IfOk result (λ f. written_times f.times ≡ Each) }
     ensures body { IfOk result (λ f. FollowsBody (asked_nodes body.now.items)
         (placed_nodes f.nodes.items) f.times (ways_of ways.now) (ways_of f.ways)) }
 {

@@ -6,15 +6,19 @@
 //! data alone and never on what a text says: the [`laws`].
 #![tactic(auto)]
 
+mod data;
 mod faults;
 mod follow;
 mod heads;
 pub mod laws;
 mod node;
+mod source;
+mod unroll;
 mod view;
 mod way;
 mod ways;
 
-pub use crate::faults::{Position, ValueFault, ViewFault};
+pub use crate::data::Value;
+pub use crate::faults::{DataFault, Position, TagFault, ValueFault, ViewFault};
 pub use crate::node::{Asked, Node, Opening, Placed, Times};
 pub use crate::view::View;

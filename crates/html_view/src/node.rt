@@ -13,6 +13,8 @@ pub enum Times {
     Once,
     /// Once, if the condition holds: `{{?x}}` and `{{^x}}`.
     If,
+    /// The same, with nothing more around in the body than around the section.
+    Whether,
 }
 
 /// The tag that opens a section.

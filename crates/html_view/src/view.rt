@@ -1,31 +1,45 @@
 //! Views.
-ghost use Rattle.std.specs.Prelude.{◌≡◌, IfOk};
+ghost use Rattle.std.specs.Prelude.{◌≡◌, IfErr, IfOk, OnOk};
+ghost use Rattle.std.specs.List.{AllByRecursion};
+ghost use Rattle.std.specs.Str.{IsUtf8};
+ghost use Rattle.std.specs.String.{string_bytes};
+ghost use Rattle.html_view.specs.Adding.{Answers, unrolling_of};
 ghost use Rattle.html_view.specs.Kept.{asked_nodes, nodes_of};
 ghost use Rattle.html_view.specs.Nodes as node;
 ghost use Rattle.html_view.specs.Nodes.{written};
 ghost use Rattle.html_view.specs.Unrolled.{AreTemplates};
+ghost use Rattle.html_view.specs.Values.{datum_of};
 
-use crate::faults::ViewFault;
+use crate::data::{Around, Value};
+use crate::faults::{DataFault, ViewFault};
 use crate::follow::follow;
 use crate::heads::Heads;
 use crate::node::{Asked, Node, Placed};
+use crate::source::read;
+use crate::unroll::{Made, add_nodes};
 use crate::ways::Ways;
+use hesc_core::forms::append_parts;
+use html_template::{Page, WriteFault, total_length, write_page};
 use std::alloc::{Allocator, Global};
+use std::io::Write;
 
 /// Markup, slots and sections, of which each unrolling is a template.
 #[derive(Drop)]
 pub struct View<'a, A: Allocator = Global> {
+    alloc: A,
     nodes: Vec<Node<'a, Placed<'a>, A>, A>,
     ghost sound: { AreTemplates (nodes_of nodes.items) },
 }
 
 impl<'a, A: Allocator + Copy> View<'a, A> {
+    ghost use Rattle.html_view.specs.Views.{AddsPage, IsOfTexts, Renders, Writes, WritesPage, nodes_in, unrolled_by};
+
     /// The view of these nodes. Each slot is placed by what stands before it, whichever sections stand.
     /// The body of a section of [`Times::Each`](crate::Times::Each) that cannot be repeated stands once.
     ///
     /// Of `<ul>`, a section with the body `<li>`, a slot and `</li>`, and `</ul>` the slot stands in text.
     pub fn new(alloc: A, nodes: &Vec<Node<'a, Asked<'a>, A>, A>) -> Result<View<'a, A>, ViewFault>
-        ensures { IfOk result (λ view. written (nodes_of view.nodes.items)
+        ensures { IfOk result (λ view. written (nodes_in view)
             ≡ asked_nodes nodes.now.items node.End) }
     {
         let first = Ways::first(alloc)?;
@@ -35,8 +49,21 @@ impl<'a, A: Allocator + Copy> View<'a, A> {
             return Err(ViewFault::Unfinished);
         }
         Ok(View {
+            alloc,
             nodes: followed.nodes,
         })
+    }
+
+    /// The view of a source, and of partials, each a name and a source. A partial may ask for those before it.
+    ///
+    /// Of `<ul>{{#items}}<li>{{name}}</li>{{/items}}</ul>` it has one section, `items`, with one slot, `name`.
+    pub fn parse(
+        alloc: A,
+        source: &'a str,
+        partials: &[(&str, &'a str)],
+    ) -> Result<View<'a, A>, ViewFault> {
+        let nodes = read(alloc, source, partials)?;
+        View::new(alloc, &nodes)
     }
 
     /// The nodes, each slot placed.
@@ -44,5 +71,72 @@ impl<'a, A: Allocator + Copy> View<'a, A> {
         ensures { result.now ≡ self.now.nodes }
     {
         &self.nodes
+    }
+
+    // What data makes of the nodes.
+    fn unroll<'p>(&self, value: Value<'p>) -> Result<Made<'p, A>, DataFault>
+    where
+        'a: 'p,
+        ensures told { Answers (unrolled_by self.now (datum_of value.entry)) unrolling_of result }
+        ensures utf8 { IfOk result (λ made. AllByRecursion IsUtf8 (unrolling_of made).texts) }
+    {
+        let mut made = Made::new(self.alloc);
+        let outermost = Around::Nothing;
+        let around = Around::Inside(value, &outermost);
+        add_nodes(&self.nodes, &around, &mut made)?;
+        // For the proof alone: no code is left of a sum that no one reads.
+        let _length = total_length(&made.texts.as_slice());
+        Ok(made)
+    }
+
+    /// Appends the page of this data. On a fault `output` is as it was.
+    ///
+    /// The page is one of the unrolled template, so all laws of `html_template` hold of it. Behind a page
+    /// it makes a page of the joined parts.
+    ///
+    /// Of `<p>`, a slot named `a` and `</p>`, the page of a record whose `a` is `x<y` is `<p>x&lt;y</p>`.
+    pub fn append<'p, B: Allocator>(
+        &self,
+        output: &mut String<B>,
+        value: Value<'p>,
+    ) -> Result<(), DataFault>
+    where
+        'a: 'p,
+        ensures appended { Renders (unrolled_by self.now (datum_of value.entry))
+            (string_bytes output.old) (string_bytes output.new) result }
+        ensures page { OnOk result (AddsPage (unrolled_by self.now (datum_of value.entry))
+            (string_bytes output.old) (string_bytes output.new)) }
+    {
+        let made = self.unroll(value)?;
+        append_parts(output, &made.page())?;
+        Ok(())
+    }
+
+    /// Writes the page of this data: markup as it stands, and each text as it is encoded. No page is made
+    /// in memory, and nothing is flushed. Where the data has no page nothing is written. On the writer's
+    /// own fault a beginning of the page was.
+    ///
+    /// Of `<p>`, a slot named `a` and `</p>`, the page of a record whose `a` is `x<y` is `<p>x&lt;y</p>`.
+    pub fn append_to_writer<'p, W: Write>(
+        &self,
+        output: &mut W,
+        value: Value<'p>,
+    ) -> Result<(), WriteFault<DataFault>>
+    where
+        'a: 'p,
+        ensures written { Writes (unrolled_by self.now (datum_of value.entry))
+            (W.contents output.old) (W.contents output.new) result }
+        ensures kept { IfErr result (λ fault. IsOfTexts fault → output.new ≡ output.old) }
+        ensures page { OnOk result (WritesPage (unrolled_by self.now (datum_of value.entry))
+            (W.contents output.old) (W.contents output.new)) }
+    {
+        let made = match self.unroll(value) {
+            Ok(made) => made,
+            Err(fault) => return Err(WriteFault::Texts(fault)),
+        };
+        match write_page(output, &made.page()) {
+            Ok(()) => Ok(()),
+            Err(fault) => Err(WriteFault::Writer(fault)),
+        }
     }
 }

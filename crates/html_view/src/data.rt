@@ -1,0 +1,173 @@
+//! The data of a page, and what a name means in it.
+ghost use Rattle.std.specs.Prelude.{◌≡◌, ◌<◌, option_map, [], ◌∷◌, IfNone, IfSome, length};
+ghost use Rattle.json.specs.Value.{members_view, value_view};
+ghost use Rattle.html_view.specs.Data as data_of;
+ghost use Rattle.html_view.specs.JsonData.{datum_of_json, fields_of_json};
+ghost use Rattle.html_view.specs.Names.{words_behind, words_of};
+ghost use Rattle.html_view.specs.Values.{datum_of, fields_of, items_in, stack_of};
+
+/// A value: nothing, a text, a flag, a list, or named values, also as JSON has them. Of two values with
+/// one name the first counts.
+#[derive(Clone, Copy)]
+pub enum Value<'a> {
+    Null,
+    Text(&'a str),
+    Flag(bool),
+    List(&'a [Value<'a>]),
+    Record(&'a [(&'a str, Value<'a>)]),
+    Array(&'a [json::Value<'a>]),
+    Object(&'a [(&'a str, json::Value<'a>)]),
+}
+
+impl<'a> Value<'a> {
+    /// The value of JSON. A number is its text, as it is written.
+    ///
+    /// Of `[1.50]` the first item is the text `1.50`.
+    pub fn of_json(json: &'a json::Value<'a>) -> Value<'a>
+        ensures { datum_of result ≡ datum_of_json (value_view json.now) }
+    {
+        match json {
+            json::Value::Null => Value::Null,
+            json::Value::Bool(flag) => Value::Flag(*flag),
+            json::Value::Number(text) => Value::Text(*text),
+            json::Value::String(text) => Value::Text(*text),
+            json::Value::Array(items) => Value::Array(items),
+            json::Value::Object(members) => Value::Object(members),
+        }
+    }
+}
+
+/// The items of a list.
+#[derive(Clone, Copy)]
+pub(crate) enum Items<'a> {
+    List(&'a [Value<'a>]),
+    Array(&'a [json::Value<'a>]),
+}
+
+impl<'a> Items<'a> {
+    /// The first item and the others.
+    pub(crate) fn take_first(self) -> Option<(Value<'a>, Items<'a>)>
+        ensures some { IfSome result (λ r. items_in self.entry
+            ≡ data_of.item (datum_of r.0) (items_in r.1)) }
+        ensures none { IfNone result (items_in self.entry ≡ data_of.no_items) }
+    {
+        match self {
+            Items::List([]) => None,
+            Items::List([value, others @ ..]) => Some((*value, Items::List(others))),
+            Items::Array([]) => None,
+            Items::Array([json, others @ ..]) => {
+                Some((Value::of_json(json), Items::Array(others)))
+            }
+        }
+    }
+}
+
+/// A value and what is around it, or nothing.
+#[derive(Clone, Copy)]
+pub(crate) enum Around<'s, 'p> {
+    Nothing,
+    Inside(Value<'p>, &'s Around<'s, 'p>),
+}
+
+// The first value of this name.
+fn field_of<'p>(fields: &'p [(&'p str, Value<'p>)], word: &str) -> Option<Value<'p>>
+    ensures { option_map datum_of result ≡ data_of.field_of word.now (fields_of fields.now) }
+{
+    let mut rest = fields;
+    'fields: while let [(name, value), others @ ..] = rest {
+        if *name == word {
+            return Some(*value);
+        }
+        rest = others;
+    }
+    None
+}
+
+// The first member of this name.
+fn member_in<'p>(members: &'p [(&'p str, json::Value<'p>)], word: &str) -> Option<Value<'p>>
+    ensures { option_map datum_of result
+        ≡ data_of.field_of word.now (fields_of_json (members_view members.now)) }
+{
+    let mut rest = members;
+    'members: while let [(name, json), others @ ..] = rest {
+        if *name == word {
+            return Some(Value::of_json(json));
+        }
+        rest = others;
+    }
+    None
+}
+
+fn member_of<'p>(value: Value<'p>, word: &str) -> Option<Value<'p>>
+    ensures { option_map datum_of result ≡ data_of.member_of word.now (datum_of value.entry) }
+{
+    match value {
+        Value::Record(fields) => field_of(fields, word),
+        Value::Object(members) => member_in(members, word),
+        Value::Null | Value::Text(_) | Value::Flag(_) => None,
+        Value::List(_) | Value::Array(_) => None,
+    }
+}
+
+// The value of a word, from inside out.
+fn find<'s, 'p>(around: &Around<'s, 'p>, word: &str) -> Option<Value<'p>>
+    ensures { option_map datum_of result ≡ data_of.around word.now (stack_of around.now) }
+{
+    match around {
+        Around::Nothing => None,
+        Around::Inside(value, outer) => match member_of(*value, word) {
+            Some(found) => Some(found),
+            None => find(*outer, word),
+        },
+    }
+}
+
+fn innermost<'s, 'p>(around: &Around<'s, 'p>) -> Option<Value<'p>>
+    ensures { option_map datum_of result ≡ data_of.innermost (stack_of around.now) }
+{
+    match around {
+        Around::Nothing => None,
+        Around::Inside(value, _) => Some(*value),
+    }
+}
+
+// The first word of a name and its other words, `None` where it is one word.
+fn cut_word(words: &str) -> Option<(&str, &str)>
+    ensures some { IfSome result (λ r. words_behind [] words.now
+        ≡ r.0.now ∷ words_behind [] r.1.now) }
+    ensures none { IfNone result (words_behind [] words.now ≡ words.now ∷ []) }
+    ensures shorter { IfSome result (λ r. length r.1.now < length words.now) }
+{
+    words.split_once('.')
+}
+
+/// What a name means: the innermost value of its first word, and in that what its other words mean.
+pub(crate) fn look_up<'s, 'p>(name: &str, around: &Around<'s, 'p>) -> Option<Value<'p>>
+    ensures { option_map datum_of result
+        ≡ data_of.look_up (words_of name.now) (stack_of around.now) }
+{
+    if name == "." {
+        return innermost(around);
+    }
+    match cut_word(name) {
+        None => find(around, name),
+        Some((word, others)) => match find(around, word) {
+            None => None,
+            Some(found) => within(others, found),
+        },
+    }
+}
+
+// What these words mean in a value.
+fn within<'p>(words: &str, value: Value<'p>) -> Option<Value<'p>>
+    ensures { option_map datum_of result
+        ≡ data_of.within (words_behind [] words.now) (datum_of value.entry) }
+{
+    match cut_word(words) {
+        None => member_of(value, words),
+        Some((word, others)) => match member_of(value, word) {
+            None => None,
+            Some(found) => within(others, found),
+        },
+    }
+}

@@ -1,0 +1,55 @@
+//! What is around nodes that are read.
+ghost use Rattle.std.specs.Prelude.{◌≡◌, ◌+◌, IfOk};
+
+use crate::faults::{TagFault, ViewFault};
+use crate::source::blocks::Given;
+use crate::source::cursor::Tag;
+use std::alloc::Allocator;
+
+/// Sections, partials, layouts and blocks stand in one another so deep.
+pub(crate) const MOST_LEVELS: usize = 32;
+
+/// What is around nodes.
+#[derive(Clone, Copy)]
+pub(crate) struct Around<'a, 'g, A: Allocator> {
+    /// The tag that has to end. None is where the nodes are those of a whole text.
+    pub(crate) open: Option<Tag<'a>>,
+    /// The blocks that are given.
+    pub(crate) given: &'g Given<'a, 'g, A>,
+    /// How many levels may still come.
+    pub(crate) levels: usize,
+}
+
+impl<'a, 'g, A: Allocator + Copy> Around<'a, 'g, A> {
+    /// The same, one level deeper, where this tag has to end.
+    pub(crate) fn within(self, tag: Tag<'a>) -> Result<Around<'a, 'g, A>, ViewFault>
+        ensures { IfOk result (λ around. around.levels + 1 ≡ self.entry.levels) }
+    {
+        let levels = deeper(self.levels, tag)?;
+        Ok(Around {
+            open: Some(tag),
+            given: self.given,
+            levels,
+        })
+    }
+}
+
+/// How many levels may still come within what this tag opens.
+pub(crate) fn deeper(levels: usize, tag: Tag<'_>) -> Result<usize, ViewFault>
+    ensures { IfOk result (λ left. left + 1 ≡ levels) }
+{
+    match levels.checked_sub(1) {
+        Some(levels) => Ok(levels),
+        None => Err(ViewFault::Tag(tag.position, TagFault::TooDeep)),
+    }
+}
+
+/// Whether what was found ends what is open: a tag, or the text.
+pub(crate) fn end(found: Option<Tag<'_>>, open: Option<Tag<'_>>) -> Result<(), ViewFault> {
+    match (found, open) {
+        (None, None) => Ok(()),
+        (None, Some(open)) => Err(ViewFault::Tag(open.position, TagFault::Unended)),
+        (Some(end), Some(open)) if end.name == open.name => Ok(()),
+        (Some(end), _) => Err(ViewFault::Tag(end.position, TagFault::Unopened)),
+    }
+}

@@ -1,0 +1,151 @@
+//! A cursor over one text: the next tag, and the markup before it.
+ghost use Rattle.std.specs.Prelude.{◌≡◌, ◌+◌, ◌<◌, ◌≤◌, ◌^◌, IfOk, IfSome, IsSome, length};
+
+use crate::faults::{Position, TagFault, ViewFault};
+use crate::source::tag::{Sign, signed_name};
+
+/// What stands between `{{` and `}}`, and where.
+#[derive(Clone, Copy)]
+pub(crate) struct Tag<'a> {
+    pub(crate) sign: Sign,
+    pub(crate) name: &'a str,
+    pub(crate) position: Position,
+}
+
+/// Markup, and the tag behind it. None is behind the last markup of a text.
+#[derive(Clone, Copy)]
+pub(crate) struct Piece<'a> {
+    pub(crate) markup: &'a str,
+    pub(crate) position: Position,
+    pub(crate) tag: Option<Tag<'a>>,
+}
+
+/// What is left of a text.
+#[derive(Clone, Copy)]
+pub(crate) struct Cursor<'a> {
+    text: usize,
+    // How many bytes were read.
+    byte: usize,
+    rest: &'a str,
+    // Whether a line begins here.
+    begins_line: bool,
+    ghost fits: { byte + length rest.now < 2 ^ 64 },
+}
+
+impl<'a> Cursor<'a> {
+    /// At the beginning of the text with this number.
+    pub(crate) fn new(text: usize, source: &'a str) -> Cursor<'a> {
+        Cursor {
+            text,
+            byte: 0,
+            rest: source,
+            begins_line: true,
+        }
+    }
+
+    /// The number of the text.
+    pub(crate) fn text(&self) -> usize {
+        self.text
+    }
+
+    /// Reads the next tag and the markup before it. A tag that is all of its line takes the line with it.
+    pub(crate) fn next(&mut self) -> Result<Piece<'a>, ViewFault>
+        ensures left { length self.new.rest.now ≤ length self.old.rest.now }
+        ensures less { IfOk result (λ piece. IsSome piece.tag
+            → length self.new.rest.now < length self.old.rest.now) }
+    {
+        let position = self.position();
+        let Some((markup, opened)) = self.rest.split_once("{{") else {
+            let markup = self.rest;
+            self.move_to("", false);
+            return Ok(Piece {
+                markup,
+                position,
+                tag: None,
+            });
+        };
+        let place = Position {
+            text: self.text,
+            byte: self.byte + markup.len(),
+        };
+        let Some((inside, behind)) = opened.split_once("}}") else {
+            return Err(ViewFault::Tag(place, TagFault::Unclosed));
+        };
+        let tag = match signed_name(inside) {
+            Ok(tag) => Tag {
+                sign: tag.sign,
+                name: tag.name,
+                position: place,
+            },
+            Err(fault) => return Err(ViewFault::Tag(place, fault)),
+        };
+        let markup = self.pass(markup, tag.sign, behind);
+        Ok(Piece {
+            markup,
+            position,
+            tag: Some(tag),
+        })
+    }
+
+    // Passes markup and a tag of this sign, and the line of the tag, if that is all of it. What is left
+    // of the markup is told.
+    fn pass(&mut self, markup: &'a str, sign: Sign, behind: &'a str) -> &'a str
+        requires { length behind.now ≤ length self.old.rest.now }
+        ensures { length self.new.rest.now ≤ length behind.now }
+    {
+        if sign.may_be_lone() {
+            if let Some(before) = before_line(markup, self.begins_line) {
+                if let Some(behind) = behind_line(behind) {
+                    self.move_to(behind, true);
+                    return before;
+                }
+            }
+        }
+        self.move_to(behind, false);
+        markup
+    }
+
+    fn move_to(&mut self, rest: &'a str, begins_line: bool)
+        requires { length rest.now ≤ length self.old.rest.now }
+        ensures { self.new.rest.now ≡ rest.now }
+    {
+        self.byte += self.rest.len() - rest.len();
+        self.rest = rest;
+        self.begins_line = begins_line;
+    }
+
+    fn position(&self) -> Position {
+        Position {
+            text: self.text,
+            byte: self.byte,
+        }
+    }
+}
+
+fn is_blank(letter: char) -> bool {
+    letter == ' ' || letter == '\t'
+}
+
+// What stands before the last line of markup, if that line has only blanks.
+fn before_line(markup: &str, begins_line: bool) -> Option<&str> {
+    let before = markup.trim_end_matches(is_blank);
+    if before.ends_with('\n') || (before.is_empty() && begins_line) {
+        Some(before)
+    } else {
+        None
+    }
+}
+
+// What stands behind the first line of a text, if that line has only blanks.
+fn behind_line(text: &str) -> Option<&str>
+    ensures { IfSome result (λ behind. length behind.now ≤ length text.now) }
+{
+    let rest = text.trim_start_matches(is_blank);
+    if rest.is_empty() {
+        return Some(rest);
+    }
+    match rest.strip_prefix("\r\n") {
+        Some(behind) => Some(behind),
+        None => rest.strip_prefix('\n'),
+    }
+}

@@ -1,0 +1,188 @@
+//! Reading nodes from the texts of a view.
+ghost use Rattle.std.specs.Prelude.{◌≤◌, OnOk, length};
+
+use crate::faults::{TagFault, ViewFault};
+use crate::node::{Asked, Node, Times};
+use crate::source::around::{Around, deeper, end};
+use crate::source::blocks::{Blocks, Given, skip};
+use crate::source::cursor::{Cursor, Tag};
+use crate::source::sections::{Nodes, Otherwise, add, opening};
+use crate::source::tag::Sign;
+use std::alloc::Allocator;
+
+/// What reads nodes: the name and the source of each partial.
+#[derive(Clone, Copy)]
+pub(crate) struct Reader<'a, 'p, A: Allocator> {
+    pub(crate) alloc: A,
+    pub(crate) partials: &'p [(&'p str, &'a str)],
+}
+
+impl<'a, 'p, A: Allocator + Copy> Reader<'a, 'p, A> {
+    /// Reads nodes up to the end of the tag that is open, or of the text.
+    #[cycle(read)]
+    pub(crate) fn read(
+        &self,
+        cursor: &mut Cursor<'a>,
+        around: Around<'a, '_, A>,
+        nodes: &mut Nodes<'a, A>,
+    ) -> Result<(), ViewFault>
+        ensures { OnOk result (length cursor.new.rest.now ≤ length cursor.old.rest.now) }
+    {
+        loop {
+            let piece = cursor.next()?;
+            if !piece.markup.is_empty() {
+                add(nodes, Node::Markup(piece.markup, piece.position))?;
+            }
+            match piece.tag {
+                Some(tag) if tag.sign != Sign::End => self.read_tag(cursor, tag, around, nodes)?,
+                found => return end(found, around.open),
+            }
+        }
+    }
+
+    // Reads what a tag stands for.
+    #[cycle(read)]
+    fn read_tag(
+        &self,
+        cursor: &mut Cursor<'a>,
+        tag: Tag<'a>,
+        around: Around<'a, '_, A>,
+        nodes: &mut Nodes<'a, A>,
+    ) -> Result<(), ViewFault>
+        ensures { OnOk result (length cursor.new.rest.now ≤ length cursor.old.rest.now) }
+    {
+        let name = tag.name;
+        let position = tag.position;
+        match tag.sign {
+            Sign::Comment | Sign::End => Ok(()),
+            Sign::Slot => add(nodes, Node::Slot(Asked { name, position })),
+            Sign::Quoted => add(nodes, Node::Markup("{{", position)),
+            Sign::Each => self.read_section(cursor, tag, Times::Each, around, nodes),
+            Sign::If => self.read_section(cursor, tag, Times::If, around, nodes),
+            Sign::Unless => self.read_unless(cursor, tag, around, nodes),
+            Sign::Partial => self.read_partial(cursor.text(), tag, around, nodes),
+            Sign::Layout => self.read_layout(cursor, tag, around, nodes),
+            Sign::Block => self.read_block(cursor, tag, around, nodes),
+        }
+    }
+
+    // Reads a section, and what stands where it does not.
+    #[cycle(read)]
+    fn read_section(
+        &self,
+        cursor: &mut Cursor<'a>,
+        tag: Tag<'a>,
+        times: Times,
+        around: Around<'a, '_, A>,
+        nodes: &mut Nodes<'a, A>,
+    ) -> Result<(), ViewFault>
+        ensures { OnOk result (length cursor.new.rest.now ≤ length cursor.old.rest.now) }
+    {
+        let mut body = Vec::new(self.alloc);
+        let mut others = Vec::new(self.alloc);
+        self.read(cursor, around.within(tag)?, &mut body)?;
+        match Otherwise::pass(self.alloc, cursor, tag.name)? {
+            None => add(nodes, Node::Section(opening(tag, times), body, others)),
+            Some(otherwise) => {
+                otherwise.add_space(&mut others)?;
+                self.read(cursor, around.within(otherwise.tag)?, &mut others)?;
+                let section = otherwise.section(self.alloc, opening(tag, times), body, others)?;
+                add(nodes, section)
+            }
+        }
+    }
+
+    // Reads what stands where a condition does not hold.
+    #[cycle(read)]
+    fn read_unless(
+        &self,
+        cursor: &mut Cursor<'a>,
+        tag: Tag<'a>,
+        around: Around<'a, '_, A>,
+        nodes: &mut Nodes<'a, A>,
+    ) -> Result<(), ViewFault>
+        ensures { OnOk result (length cursor.new.rest.now ≤ length cursor.old.rest.now) }
+    {
+        let body = Vec::new(self.alloc);
+        let mut others = Vec::new(self.alloc);
+        self.read(cursor, around.within(tag)?, &mut others)?;
+        add(nodes, Node::Section(opening(tag, Times::If), body, others))
+    }
+
+    // Reads a partial, which the text with this number asks for.
+    #[cycle(read)]
+    fn read_partial(
+        &self,
+        text: usize,
+        tag: Tag<'a>,
+        around: Around<'a, '_, A>,
+        nodes: &mut Nodes<'a, A>,
+    ) -> Result<(), ViewFault> {
+        let inside = Around {
+            open: None,
+            given: around.given,
+            levels: deeper(around.levels, tag)?,
+        };
+        let mut partial = self.partial(text, tag)?;
+        self.read(&mut partial, inside, nodes)
+    }
+
+    // Reads a layout, and the blocks that are given to it.
+    #[cycle(read)]
+    fn read_layout(
+        &self,
+        cursor: &mut Cursor<'a>,
+        tag: Tag<'a>,
+        around: Around<'a, '_, A>,
+        nodes: &mut Nodes<'a, A>,
+    ) -> Result<(), ViewFault>
+        ensures { OnOk result (length cursor.new.rest.now ≤ length cursor.old.rest.now) }
+    {
+        let levels = deeper(around.levels, tag)?;
+        let mut layout = self.partial(cursor.text(), tag)?;
+        let blocks = Blocks::read(self.alloc, cursor, tag, levels)?;
+        let inside = Around {
+            open: None,
+            given: &Given::Blocks(&blocks, around.given),
+            levels,
+        };
+        self.read(&mut layout, inside, nodes)
+    }
+
+    // Reads a block: what is given for it, or what stands in it.
+    #[cycle(read)]
+    fn read_block(
+        &self,
+        cursor: &mut Cursor<'a>,
+        tag: Tag<'a>,
+        around: Around<'a, '_, A>,
+        nodes: &mut Nodes<'a, A>,
+    ) -> Result<(), ViewFault>
+        ensures { OnOk result (length cursor.new.rest.now ≤ length cursor.old.rest.now) }
+    {
+        let within = around.within(tag)?;
+        let Some(found) = around.given.find(tag.name) else {
+            return self.read(cursor, within, nodes);
+        };
+        skip(cursor, tag, within.levels)?;
+        let inside = Around {
+            open: Some(found.block.tag),
+            given: found.given,
+            levels: within.levels,
+        };
+        let mut content = found.block.cursor;
+        self.read(&mut content, inside, nodes)
+    }
+
+    // The partial that a tag asks for in the text with this number: the last one of its name that stands
+    // before the text.
+    fn partial(&self, text: usize, tag: Tag<'a>) -> Result<Cursor<'a>, ViewFault> {
+        let mut found = Err(ViewFault::Tag(tag.position, TagFault::NoPartial));
+        for (number, (name, source)) in self.partials.iter().enumerate() {
+            if *name == tag.name && (text == 0 || number + 1 < text) {
+                found = Ok(Cursor::new(number + 1, source));
+            }
+        }
+        found
+    }
+}

@@ -1,0 +1,52 @@
+//! Nodes in a form that can be read.
+use html_view::{Node, Opening, Placed, Times};
+use std::alloc::{AllocError, Global};
+
+fn word_of(times: Times) -> &'static str {
+    match times {
+        Times::Each => "each",
+        Times::Once => "once",
+        Times::If => "if",
+        Times::Whether => "whether",
+    }
+}
+
+/// Appends nodes.
+#[cycle(show)]
+pub fn show_nodes(shown: &mut String, nodes: &Vec<Node<'_, Placed<'_>, Global>>) -> Result<(), AllocError> {
+    for node in nodes {
+        show_node(shown, node)?;
+    }
+    Ok(())
+}
+
+#[cycle(show)]
+fn show_node(shown: &mut String, node: &Node<'_, Placed<'_>, Global>) -> Result<(), AllocError> {
+    match node {
+        Node::Markup(text, _) => shown.push_str(*text),
+        Node::Slot(slot) => {
+            let name = slot.asked.name;
+            let place = slot.place;
+            write!(shown, "{{{name} {place:?}}}")
+        }
+        Node::Section(opening, body, others) => show_section(shown, *opening, body, others),
+    }
+}
+
+#[cycle(show)]
+fn show_section(
+    shown: &mut String,
+    opening: Opening<'_>,
+    body: &Vec<Node<'_, Placed<'_>, Global>>,
+    others: &Vec<Node<'_, Placed<'_>, Global>>,
+) -> Result<(), AllocError> {
+    let word = word_of(opening.times);
+    let name = opening.name;
+    write!(shown, "[{word} {name}: ")?;
+    show_nodes(shown, body)?;
+    if !others.is_empty() {
+        shown.push('|')?;
+        show_nodes(shown, others)?;
+    }
+    shown.push(']')
+}
