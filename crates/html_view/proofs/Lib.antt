@@ -3,7 +3,7 @@ pub mod Runs
 pub mod Sound
 pub mod Followed
 pub mod Unrolling
-pub mod Names
+pub mod CutNames
 pub mod Adding
 pub mod Sections
 pub mod Forms

@@ -11,4 +11,5 @@ pub mod Values
 pub mod Rendered
 pub mod Adding
 pub mod Views
+pub mod AskedNames
 pub mod Forms

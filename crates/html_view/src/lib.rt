@@ -11,6 +11,7 @@ mod faults;
 mod follow;
 mod heads;
 pub mod laws;
+mod names;
 mod node;
 mod source;
 mod unroll;
@@ -20,5 +21,6 @@ mod ways;
 
 pub use crate::data::Value;
 pub use crate::faults::{DataFault, Position, TagFault, ValueFault, ViewFault};
+pub use crate::names::Name;
 pub use crate::node::{Asked, Node, Opening, Placed, Times};
 pub use crate::view::View;

@@ -1,5 +1,6 @@
 //! Views.
-ghost use Rattle.std.specs.Prelude.{◌≡◌, IfErr, IfOk, OnOk};
+ghost use Rattle.std.specs.Prelude.{◌≡◌, IfErr, IfOk, OnOk, map};
+ghost use Rattle.html_view.specs.AskedNames.{asked_name, names_in};
 ghost use Rattle.std.specs.List.{AllByRecursion};
 ghost use Rattle.std.specs.Str.{IsUtf8};
 ghost use Rattle.std.specs.String.{string_bytes};
@@ -14,13 +15,14 @@ use crate::data::{Around, Value};
 use crate::faults::{DataFault, ViewFault};
 use crate::follow::follow;
 use crate::heads::Heads;
+use crate::names::{Name, add_names};
 use crate::node::{Asked, Node, Placed};
 use crate::source::read;
 use crate::unroll::{Made, add_nodes};
 use crate::ways::Ways;
 use hesc_core::forms::append_parts;
 use html_template::{Page, WriteFault, total_length, write_page};
-use std::alloc::{Allocator, Global};
+use std::alloc::{AllocError, Allocator, Global};
 use std::io::Write;
 
 /// Markup, slots and sections, of which each unrolling is a template.
@@ -71,6 +73,18 @@ impl<'a, A: Allocator + Copy> View<'a, A> {
         ensures { result.now ≡ self.now.nodes }
     {
         &self.nodes
+    }
+
+    /// The names that the view asks for, as often as they stand, in its order: a program can compare them
+    /// with its data when it starts.
+    ///
+    /// Of `<ul>{{#items}}<li>{{name}}</li>{{/items}}</ul>` they are the section `items` and the slot `name`.
+    pub fn names(&self) -> Result<Vec<Name<'a>, A>, AllocError>
+        ensures { IfOk result (λ names. map asked_name names.items ≡ names_in (nodes_in self.now)) }
+    {
+        let mut names = Vec::new(self.alloc);
+        add_names(&self.nodes, &mut names)?;
+        Ok(names)
     }
 
     // What data makes of the nodes.

@@ -1,7 +1,7 @@
 use Rattle.std.proofs.Common.{arith}
 use Rattle.std.proofs.lemmas.Str.Pattern.{split_parts}
 use Rattle.html_view.specs.Names.{dot}
-use Rattle.html_view.proofs.Names.{none_cut, shorter_cut, some_cut}
+use Rattle.html_view.proofs.CutNames.{none_cut, shorter_cut, some_cut}
 use Rattle.html_view.proofs.data.cut_word.Goals as goal
 
 pub returns-clause-some : goal.returns-clause-some
