@@ -5,6 +5,7 @@ mod pages;
 mod readers;
 mod templates;
 mod urls;
+mod views;
 mod writers;
 
 pub use crate::pages::{card, cell, excerpt, field, label, rows, search};
@@ -13,4 +14,5 @@ pub use crate::templates::{
     breadcrumbs, form_page, home_page, link_list, mail_rows, price_list, search_page,
 };
 pub use crate::urls::search_link;
+pub use crate::views::{json_page, two_pages};
 pub use crate::writers::{log_item, log_list};

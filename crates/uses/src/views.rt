@@ -1,0 +1,4 @@
+//! Callers that make pages of data.
+
+pub mod json_page;
+pub mod two_pages;
