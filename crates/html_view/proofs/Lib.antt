@@ -1,3 +1,4 @@
+pub mod SourceLines
 pub mod Steps
 pub mod Runs
 pub mod Sound

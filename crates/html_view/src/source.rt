@@ -2,6 +2,7 @@
 mod around;
 mod blocks;
 mod cursor;
+mod lines;
 mod reader;
 mod sections;
 mod tag;

@@ -2,6 +2,7 @@
 ghost use Rattle.std.specs.Prelude.{◌≡◌, ◌+◌, ◌<◌, ◌≤◌, ◌^◌, IfOk, IfSome, IsSome, length};
 
 use crate::faults::{Position, TagFault, ViewFault};
+use crate::source::lines::{before_line, behind_line};
 use crate::source::tag::{Sign, signed_name};
 
 /// What stands between `{{` and `}}`, and where.
@@ -119,33 +120,5 @@ impl<'a> Cursor<'a> {
             text: self.text,
             byte: self.byte,
         }
-    }
-}
-
-fn is_blank(letter: char) -> bool {
-    letter == ' ' || letter == '\t'
-}
-
-// What stands before the last line of markup, if that line has only blanks.
-fn before_line(markup: &str, begins_line: bool) -> Option<&str> {
-    let before = markup.trim_end_matches(is_blank);
-    if before.ends_with('\n') || (before.is_empty() && begins_line) {
-        Some(before)
-    } else {
-        None
-    }
-}
-
-// What stands behind the first line of a text, if that line has only blanks.
-fn behind_line(text: &str) -> Option<&str>
-    ensures { IfSome result (λ behind. length behind.now ≤ length text.now) }
-{
-    let rest = text.trim_start_matches(is_blank);
-    if rest.is_empty() {
-        return Some(rest);
-    }
-    match rest.strip_prefix("\r\n") {
-        Some(behind) => Some(behind),
-        None => rest.strip_prefix('\n'),
     }
 }
