@@ -1,3 +1,5 @@
+pub mod SourceTags
+pub mod SourceNames
 pub mod SourceLines
 pub mod Steps
 pub mod Runs

@@ -1,3 +1,4 @@
+pub mod Tags
 pub mod Lines
 pub mod Nodes
 pub mod Names

@@ -1,4 +1,20 @@
 //! A tag: a sign and a name, cut out of what stands between `{{` and `}}`.
+ghost use Rattle.std.specs.Prelude.{◌≡◌, ◌≢◌, ◌∷◌, ◌++◌, [], IfOk, IsTrue};
+ghost use Rattle.std.specs.List.{AllByRecursion};
+ghost use Rattle.html_view.specs.Names.{words_behind};
+ghost use Rattle.html_view.specs.Tags.{
+  IsName,
+  IsNameOf,
+  IsPartialName,
+  IsTag,
+  IsWord,
+  is_apart,
+  is_letter,
+  may_be_lone,
+  sign_text,
+};
+ghost use Rattle.html_view.specs.declared.source.tag.Sign.TheVariants.{Slot};
+
 use crate::faults::TagFault;
 
 // What stands between `{{` and `}}` where `{{` is markup.
@@ -38,8 +54,13 @@ pub(crate) struct SignedName<'a> {
 
 impl Sign {
     /// Whether a tag of this sign leaves no line behind where it is all of its line.
-    pub(crate) fn may_be_lone(self) -> bool {
-        self != Sign::Slot && self != Sign::Quoted
+    pub(crate) fn may_be_lone(self) -> bool
+        ensures { result ≡ may_be_lone self }
+    {
+        match self {
+            Sign::Slot | Sign::Quoted => false,
+            _ => true,
+        }
     }
 
     /// Whether a tag of this sign has an end.
@@ -50,9 +71,12 @@ impl Sign {
         }
     }
 
-    fn may_have(self, name: &str) -> bool {
+    fn may_have(self, name: &str) -> bool
+        ensures { IsTrue result → IsNameOf self name.now }
+    {
         match self {
-            Sign::Quoted | Sign::Comment => true,
+            Sign::Quoted => name.is_empty(),
+            Sign::Comment => true,
             // The end of a layout has the name of a partial.
             Sign::Partial | Sign::Layout | Sign::End => is_partial_name(name),
             _ => is_name(name),
@@ -61,38 +85,45 @@ impl Sign {
 }
 
 /// The sign and the name of a tag with this between `{{` and `}}`.
-pub(crate) fn signed_name(inside: &str) -> Result<SignedName<'_>, TagFault> {
-    let inside = inside.trim();
-    let found = signed(inside)?;
-    if found.sign.may_have(found.name) {
-        Ok(found)
+pub(crate) fn signed_name(inside: &str) -> Result<SignedName<'_>, TagFault>
+    ensures { IfOk result (λ found. IsTag found.sign found.name.now inside.now) }
+{
+    let found = signed(inside.trim_start())?;
+    let sign = found.sign;
+    let name = found.name.trim();
+    if sign.may_have(name) {
+        Ok(SignedName { sign, name })
     } else {
         Err(TagFault::BadName)
     }
 }
 
-// The sign at the beginning, and the text behind it.
-fn signed(inside: &str) -> Result<SignedName<'_>, TagFault> {
-    if inside == QUOTED_OPENING {
+// The sign with which a text begins, and what stands behind it.
+fn signed(text: &str) -> Result<SignedName<'_>, TagFault>
+    ensures { IfOk result (λ found. text.now ≡ sign_text found.sign ++ found.name.now) }
+{
+    if let Some(name) = text.strip_prefix(QUOTED_OPENING) {
         return Ok(SignedName {
             sign: Sign::Quoted,
-            name: "",
+            name,
         });
     }
-    let Some(first) = inside.chars().next() else {
+    let Some(first) = text.chars().next() else {
         return Err(TagFault::BadName);
     };
     let sign = sign_of(first)?;
-    match inside.strip_prefix(first) {
-        Some(rest) if sign != Sign::Slot => Ok(SignedName {
-            sign,
-            name: rest.trim(),
-        }),
-        _ => Ok(SignedName { sign, name: inside }),
+    if sign == Sign::Slot {
+        return Ok(SignedName { sign, name: text });
+    }
+    match text.strip_prefix(first) {
+        Some(name) => Ok(SignedName { sign, name }),
+        None => Err(TagFault::BadName),
     }
 }
 
-fn sign_of(first: char) -> Result<Sign, TagFault> {
+fn sign_of(first: char) -> Result<Sign, TagFault>
+    ensures { IfOk result (λ sign. sign ≢ Slot → sign_text sign ≡ first ∷ []) }
+{
     match first {
         '!' => Ok(Sign::Comment),
         '#' => Ok(Sign::Each),
@@ -111,16 +142,44 @@ fn sign_of(first: char) -> Result<Sign, TagFault> {
 }
 
 // `.`, or words with dots between them.
-fn is_name(name: &str) -> bool {
-    name == "." || name.split('.').all(is_word)
+fn is_name(name: &str) -> bool
+    ensures { IsTrue result → IsName name.now }
+{
+    name == "." || are_words(name.as_bytes())
 }
 
-fn is_word(word: &str) -> bool {
-    !word.is_empty()
-        && word.bytes().all(|byte| byte.is_ascii_alphanumeric() || byte == b'_' || byte == b'-')
+fn are_words(bytes: &[u8]) -> bool
+    ensures { IsTrue result → AllByRecursion IsWord (words_behind [] bytes.now) }
+{
+    let mut rest = bytes;
+    let mut in_word = false;
+    'bytes: while let [byte, others @ ..] = rest {
+        if is_letter(*byte) {
+            in_word = true;
+        } else if in_word && *byte == b'.' {
+            in_word = false;
+        } else {
+            return false;
+        }
+        rest = others;
+    }
+    in_word
 }
 
-fn is_partial_name(name: &str) -> bool {
-    !name.is_empty()
-        && name.chars().all(|letter| !letter.is_whitespace() && letter != '{' && letter != '}')
+fn is_letter(byte: u8) -> bool
+    ensures { result ≡ is_letter byte }
+{
+    byte.is_ascii_alphanumeric() || byte == b'_' || byte == b'-'
+}
+
+fn is_partial_name(name: &str) -> bool
+    ensures { IsTrue result → IsPartialName name.now }
+{
+    !name.is_empty() && !name.contains(is_apart)
+}
+
+fn is_apart(letter: char) -> bool
+    ensures { result ≡ is_apart letter }
+{
+    letter.is_whitespace() || letter == '{' || letter == '}'
 }
