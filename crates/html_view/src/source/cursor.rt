@@ -1,5 +1,6 @@
 //! A cursor over one text: the next tag, and the markup before it.
-ghost use Rattle.std.specs.Prelude.{◌≡◌, ◌+◌, ◌<◌, ◌≤◌, ◌^◌, IfOk, IfSome, IsSome, length};
+ghost use Rattle.std.specs.Prelude.{◌≡◌, ◌+◌, ◌++◌, ◌<◌, ◌≤◌, ◌^◌, IfNone, IfOk, IfSome, IsSome, length};
+ghost use Rattle.html_view.specs.Tags.{Lacks};
 
 use crate::faults::{Position, TagFault, ViewFault};
 use crate::source::lines::{before_line, behind_line};
@@ -34,8 +35,12 @@ pub(crate) struct Cursor<'a> {
 }
 
 impl<'a> Cursor<'a> {
+    ghost use Rattle.html_view.specs.Cursors.{IsBehind, Passes, first, here_of, left, position};
+
     /// At the beginning of the text with this number.
-    pub(crate) fn new(text: usize, source: &'a str) -> Cursor<'a> {
+    pub(crate) fn new(text: usize, source: &'a str) -> Cursor<'a>
+        ensures { here_of result ≡ first text source.now }
+    {
         Cursor {
             text,
             byte: 0,
@@ -45,18 +50,23 @@ impl<'a> Cursor<'a> {
     }
 
     /// The number of the text.
-    pub(crate) fn text(&self) -> usize {
+    pub(crate) fn text(&self) -> usize
+        ensures { result ≡ self.now.text }
+    {
         self.text
     }
 
     /// Reads the next tag and the markup before it. A tag that is all of its line takes the line with it.
     pub(crate) fn next(&mut self) -> Result<Piece<'a>, ViewFault>
-        ensures left { length self.new.rest.now ≤ length self.old.rest.now }
+        ensures passes { IfOk result (λ piece.
+            Passes (here_of self.old) piece.markup.now piece.tag (here_of self.new)) }
+        ensures position { IfOk result (λ piece. piece.position ≡ position (here_of self.old)) }
+        ensures shorter { length self.new.rest.now ≤ length self.old.rest.now }
         ensures less { IfOk result (λ piece. IsSome piece.tag
             → length self.new.rest.now < length self.old.rest.now) }
     {
         let position = self.position();
-        let Some((markup, opened)) = self.rest.split_once("{{") else {
+        let Some((markup, opened)) = cut_at(self.rest, "{{") else {
             let markup = self.rest;
             self.move_to("", false);
             return Ok(Piece {
@@ -69,7 +79,7 @@ impl<'a> Cursor<'a> {
             text: self.text,
             byte: self.byte + markup.len(),
         };
-        let Some((inside, behind)) = opened.split_once("}}") else {
+        let Some((inside, behind)) = cut_at(opened, "}}") else {
             return Err(ViewFault::Tag(place, TagFault::Unclosed));
         };
         let tag = match signed_name(inside) {
@@ -92,7 +102,11 @@ impl<'a> Cursor<'a> {
     // of the markup is told.
     fn pass(&mut self, markup: &'a str, sign: Sign, behind: &'a str) -> &'a str
         requires { length behind.now ≤ length self.old.rest.now }
-        ensures { length self.new.rest.now ≤ length behind.now }
+        ensures markup { result.now
+            ≡ (left sign self.old.begins_line markup.now behind.now).markup }
+        ensures behind { IsBehind (here_of self.old)
+            (left sign self.old.begins_line markup.now behind.now) (here_of self.new) }
+        ensures less { length self.new.rest.now ≤ length behind.now }
     {
         if sign.may_be_lone() {
             if let Some(before) = before_line(markup, self.begins_line) {
@@ -108,17 +122,33 @@ impl<'a> Cursor<'a> {
 
     fn move_to(&mut self, rest: &'a str, begins_line: bool)
         requires { length rest.now ≤ length self.old.rest.now }
-        ensures { self.new.rest.now ≡ rest.now }
+        ensures text { self.new.text ≡ self.old.text }
+        ensures byte { self.new.byte + length self.new.rest.now
+            ≡ self.old.byte + length self.old.rest.now }
+        ensures rest { self.new.rest.now ≡ rest.now }
+        ensures begins { self.new.begins_line ≡ begins_line }
     {
         self.byte += self.rest.len() - rest.len();
         self.rest = rest;
         self.begins_line = begins_line;
     }
 
-    fn position(&self) -> Position {
+    fn position(&self) -> Position
+        ensures { result ≡ position (here_of self.now) }
+    {
         Position {
             text: self.text,
             byte: self.byte,
         }
     }
+}
+
+// What stands before the first such mark, and after it.
+fn cut_at<'s>(text: &'s str, mark: &str) -> Option<(&'s str, &'s str)>
+    requires { 0 < length mark.now }
+    ensures whole { IfSome result (λ cut. text.now ≡ cut.0.now ++ (mark.now ++ cut.1.now)) }
+    ensures first { IfSome result (λ cut. Lacks mark.now cut.0.now) }
+    ensures none { IfNone result (Lacks mark.now text.now) }
+{
+    text.split_once(mark)
 }
