@@ -9,7 +9,6 @@ mod tag;
 
 use crate::faults::ViewFault;
 use crate::source::around::{Around, MOST_LEVELS};
-use crate::source::blocks::Given;
 use crate::source::cursor::Cursor;
 use crate::source::reader::Reader;
 use crate::source::sections::Nodes;
@@ -24,9 +23,13 @@ pub(crate) fn read<'a, A: Allocator + Copy>(
     let mut nodes = Vec::new(alloc);
     let around = Around {
         open: None,
-        given: &Given::Nothing,
         levels: MOST_LEVELS,
     };
-    Reader { alloc, partials }.read(&mut Cursor::new(0, source), around, &mut nodes)?;
+    let reader = Reader {
+        alloc,
+        partials,
+        given: &[],
+    };
+    reader.read(&mut Cursor::new(0, source), around, &mut nodes)?;
     Ok(nodes)
 }

@@ -2,33 +2,28 @@
 ghost use Rattle.std.specs.Prelude.{◌≡◌, ◌+◌, IfOk};
 
 use crate::faults::{TagFault, ViewFault};
-use crate::source::blocks::Given;
 use crate::source::cursor::Tag;
-use std::alloc::Allocator;
 
 /// Sections, partials, layouts and blocks stand in one another so deep.
 pub(crate) const MOST_LEVELS: usize = 32;
 
 /// What is around nodes.
 #[derive(Clone, Copy)]
-pub(crate) struct Around<'a, 'g, A: Allocator> {
+pub(crate) struct Around<'a> {
     /// The tag that has to end. None is where the nodes are those of a whole text.
     pub(crate) open: Option<Tag<'a>>,
-    /// The blocks that are given.
-    pub(crate) given: &'g Given<'a, 'g, A>,
     /// How many levels may still come.
     pub(crate) levels: usize,
 }
 
-impl<'a, 'g, A: Allocator + Copy> Around<'a, 'g, A> {
+impl<'a> Around<'a> {
     /// The same, one level deeper, where this tag has to end.
-    pub(crate) fn within(self, tag: Tag<'a>) -> Result<Around<'a, 'g, A>, ViewFault>
+    pub(crate) fn within(self, tag: Tag<'a>) -> Result<Around<'a>, ViewFault>
         ensures { IfOk result (λ around. around.levels + 1 ≡ self.entry.levels) }
     {
         let levels = deeper(self.levels, tag)?;
         Ok(Around {
             open: Some(tag),
-            given: self.given,
             levels,
         })
     }

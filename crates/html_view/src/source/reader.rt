@@ -4,26 +4,27 @@ ghost use Rattle.std.specs.Prelude.{◌≤◌, OnOk, length};
 use crate::faults::{TagFault, ViewFault};
 use crate::node::{Asked, Node, Times};
 use crate::source::around::{Around, deeper, end};
-use crate::source::blocks::{Blocks, Given, skip};
+use crate::source::blocks::{Block, find_block, read_blocks, skip};
 use crate::source::cursor::{Cursor, Tag};
 use crate::source::sections::{Nodes, Otherwise, add, opening};
 use crate::source::tag::Sign;
 use std::alloc::Allocator;
 
-/// What reads nodes: the name and the source of each partial.
-#[derive(Clone, Copy)]
-pub(crate) struct Reader<'a, 'p, A: Allocator> {
+/// What a text is read with: the name and the source of each partial, and the blocks that are given.
+#[derive(Drop)]
+pub(crate) struct Reader<'a, 'p, 'g, A: Allocator> {
     pub(crate) alloc: A,
     pub(crate) partials: &'p [(&'p str, &'a str)],
+    pub(crate) given: &'g [Block<'a>],
 }
 
-impl<'a, 'p, A: Allocator + Copy> Reader<'a, 'p, A> {
+impl<'a, 'p, 'g, A: Allocator + Copy> Reader<'a, 'p, 'g, A> {
     /// Reads nodes up to the end of the tag that is open, or of the text.
     #[cycle(read)]
     pub(crate) fn read(
         &self,
         cursor: &mut Cursor<'a>,
-        around: Around<'a, '_, A>,
+        around: Around<'a>,
         nodes: &mut Nodes<'a, A>,
     ) -> Result<(), ViewFault>
         ensures { OnOk result (length cursor.new.rest.now ≤ length cursor.old.rest.now) }
@@ -46,7 +47,7 @@ impl<'a, 'p, A: Allocator + Copy> Reader<'a, 'p, A> {
         &self,
         cursor: &mut Cursor<'a>,
         tag: Tag<'a>,
-        around: Around<'a, '_, A>,
+        around: Around<'a>,
         nodes: &mut Nodes<'a, A>,
     ) -> Result<(), ViewFault>
         ensures { OnOk result (length cursor.new.rest.now ≤ length cursor.old.rest.now) }
@@ -73,7 +74,7 @@ impl<'a, 'p, A: Allocator + Copy> Reader<'a, 'p, A> {
         cursor: &mut Cursor<'a>,
         tag: Tag<'a>,
         times: Times,
-        around: Around<'a, '_, A>,
+        around: Around<'a>,
         nodes: &mut Nodes<'a, A>,
     ) -> Result<(), ViewFault>
         ensures { OnOk result (length cursor.new.rest.now ≤ length cursor.old.rest.now) }
@@ -98,7 +99,7 @@ impl<'a, 'p, A: Allocator + Copy> Reader<'a, 'p, A> {
         &self,
         cursor: &mut Cursor<'a>,
         tag: Tag<'a>,
-        around: Around<'a, '_, A>,
+        around: Around<'a>,
         nodes: &mut Nodes<'a, A>,
     ) -> Result<(), ViewFault>
         ensures { OnOk result (length cursor.new.rest.now ≤ length cursor.old.rest.now) }
@@ -115,12 +116,11 @@ impl<'a, 'p, A: Allocator + Copy> Reader<'a, 'p, A> {
         &self,
         text: usize,
         tag: Tag<'a>,
-        around: Around<'a, '_, A>,
+        around: Around<'a>,
         nodes: &mut Nodes<'a, A>,
     ) -> Result<(), ViewFault> {
         let inside = Around {
             open: None,
-            given: around.given,
             levels: deeper(around.levels, tag)?,
         };
         let mut partial = self.partial(text, tag)?;
@@ -133,20 +133,18 @@ impl<'a, 'p, A: Allocator + Copy> Reader<'a, 'p, A> {
         &self,
         cursor: &mut Cursor<'a>,
         tag: Tag<'a>,
-        around: Around<'a, '_, A>,
+        around: Around<'a>,
         nodes: &mut Nodes<'a, A>,
     ) -> Result<(), ViewFault>
         ensures { OnOk result (length cursor.new.rest.now ≤ length cursor.old.rest.now) }
     {
         let levels = deeper(around.levels, tag)?;
         let mut layout = self.partial(cursor.text(), tag)?;
-        let blocks = Blocks::read(self.alloc, cursor, tag, levels)?;
-        let inside = Around {
-            open: None,
-            given: &Given::Blocks(&blocks, around.given),
-            levels,
-        };
-        self.read(&mut layout, inside, nodes)
+        let mut given = Vec::new(self.alloc);
+        given.extend_from_slice(self.given)?;
+        read_blocks(cursor, tag, levels, &mut given)?;
+        let inside = Around { open: None, levels };
+        self.with(&given).read(&mut layout, inside, nodes)
     }
 
     // Reads a block: what is given for it, or what stands in it.
@@ -155,23 +153,32 @@ impl<'a, 'p, A: Allocator + Copy> Reader<'a, 'p, A> {
         &self,
         cursor: &mut Cursor<'a>,
         tag: Tag<'a>,
-        around: Around<'a, '_, A>,
+        around: Around<'a>,
         nodes: &mut Nodes<'a, A>,
     ) -> Result<(), ViewFault>
         ensures { OnOk result (length cursor.new.rest.now ≤ length cursor.old.rest.now) }
     {
         let within = around.within(tag)?;
-        let Some(found) = around.given.find(tag.name) else {
+        let Some(block) = find_block(self.given, tag.name) else {
             return self.read(cursor, within, nodes);
         };
         skip(cursor, tag, within.levels)?;
+        let outer = &self.given[..block.outer.min(self.given.len())];
         let inside = Around {
-            open: Some(found.block.tag),
-            given: found.given,
+            open: Some(block.tag),
             levels: within.levels,
         };
-        let mut content = found.block.cursor;
-        self.read(&mut content, inside, nodes)
+        let mut content = block.cursor;
+        self.with(outer).read(&mut content, inside, nodes)
+    }
+
+    // The same, with these blocks given.
+    fn with<'h>(&self, given: &'h [Block<'a>]) -> Reader<'a, 'p, 'h, A> {
+        Reader {
+            alloc: self.alloc,
+            partials: self.partials,
+            given,
+        }
     }
 
     // The partial that a tag asks for in the text with this number: the last one of its name that stands
