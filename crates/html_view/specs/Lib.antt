@@ -1,3 +1,4 @@
+pub mod Reading
 pub mod Cursors
 pub mod Tags
 pub mod Lines

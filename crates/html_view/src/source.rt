@@ -1,4 +1,9 @@
 //! The source of a view, read into nodes.
+ghost use Rattle.std.specs.Prelude.{IfOk};
+ghost use Rattle.html_view.specs.Kept.{asked_nodes};
+ghost use Rattle.html_view.specs.Nodes as node;
+ghost use Rattle.html_view.specs.Reading.{IsSource, partials_of};
+
 mod around;
 mod blocks;
 mod cursor;
@@ -19,10 +24,13 @@ pub(crate) fn read<'a, A: Allocator + Copy>(
     alloc: A,
     source: &'a str,
     partials: &[(&str, &'a str)],
-) -> Result<Nodes<'a, A>, ViewFault> {
+) -> Result<Nodes<'a, A>, ViewFault>
+    ensures { IfOk result (λ nodes. IsSource (partials_of partials.now) source.now
+        (asked_nodes nodes.items node.End)) }
+{
     let mut nodes = Vec::new(alloc);
     let around = Around {
-        open: None,
+        begun: None,
         levels: MOST_LEVELS,
     };
     let reader = Reader {

@@ -11,7 +11,7 @@ pub(crate) const MOST_LEVELS: usize = 32;
 #[derive(Clone, Copy)]
 pub(crate) struct Around<'a> {
     /// The tag that has to end. None is where the nodes are those of a whole text.
-    pub(crate) open: Option<Tag<'a>>,
+    pub(crate) begun: Option<Tag<'a>>,
     /// How many levels may still come.
     pub(crate) levels: usize,
 }
@@ -23,7 +23,7 @@ impl<'a> Around<'a> {
     {
         let levels = deeper(self.levels, tag)?;
         Ok(Around {
-            open: Some(tag),
+            begun: Some(tag),
             levels,
         })
     }
@@ -39,12 +39,12 @@ pub(crate) fn deeper(levels: usize, tag: Tag<'_>) -> Result<usize, ViewFault>
     }
 }
 
-/// Whether what was found ends what is open: a tag, or the text.
-pub(crate) fn end(found: Option<Tag<'_>>, open: Option<Tag<'_>>) -> Result<(), ViewFault> {
-    match (found, open) {
+/// Whether what was found ends what is begun: a tag, or the text.
+pub(crate) fn end(found: Option<Tag<'_>>, begun: Option<Tag<'_>>) -> Result<(), ViewFault> {
+    match (found, begun) {
         (None, None) => Ok(()),
-        (None, Some(open)) => Err(ViewFault::Tag(open.position, TagFault::Unended)),
-        (Some(end), Some(open)) if end.name == open.name => Ok(()),
+        (None, Some(begun)) => Err(ViewFault::Tag(begun.position, TagFault::Unended)),
+        (Some(end), Some(begun)) if end.name == begun.name => Ok(()),
         (Some(end), _) => Err(ViewFault::Tag(end.position, TagFault::Unopened)),
     }
 }

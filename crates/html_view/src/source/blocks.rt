@@ -69,7 +69,7 @@ fn add_block<'a, A: Allocator>(
 }
 
 /// Passes what stands up to the end of the tag that is open.
-pub(crate) fn skip(cursor: &mut Cursor<'_>, open: Tag<'_>, levels: usize) -> Result<(), ViewFault>
+pub(crate) fn skip(cursor: &mut Cursor<'_>, begun: Tag<'_>, levels: usize) -> Result<(), ViewFault>
     ensures { OnOk result (length cursor.new.rest.now ≤ length cursor.old.rest.now) }
 {
     loop {
@@ -77,7 +77,7 @@ pub(crate) fn skip(cursor: &mut Cursor<'_>, open: Tag<'_>, levels: usize) -> Res
         match piece.tag {
             Some(tag) if tag.sign.has_end() => skip(cursor, tag, deeper(levels, tag)?)?,
             Some(tag) if tag.sign != Sign::End => {}
-            found => return end(found, Some(open)),
+            found => return end(found, Some(begun)),
         }
     }
 }

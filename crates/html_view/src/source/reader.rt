@@ -19,7 +19,7 @@ pub(crate) struct Reader<'a, 'p, 'g, A: Allocator> {
 }
 
 impl<'a, 'p, 'g, A: Allocator + Copy> Reader<'a, 'p, 'g, A> {
-    /// Reads nodes up to the end of the tag that is open, or of the text.
+    /// Reads nodes up to the end of the tag that is begun, or of the text.
     #[cycle(read)]
     pub(crate) fn read(
         &self,
@@ -36,7 +36,7 @@ impl<'a, 'p, 'g, A: Allocator + Copy> Reader<'a, 'p, 'g, A> {
             }
             match piece.tag {
                 Some(tag) if tag.sign != Sign::End => self.read_tag(cursor, tag, around, nodes)?,
-                found => return end(found, around.open),
+                found => return end(found, around.begun),
             }
         }
     }
@@ -120,7 +120,7 @@ impl<'a, 'p, 'g, A: Allocator + Copy> Reader<'a, 'p, 'g, A> {
         nodes: &mut Nodes<'a, A>,
     ) -> Result<(), ViewFault> {
         let inside = Around {
-            open: None,
+            begun: None,
             levels: deeper(around.levels, tag)?,
         };
         let mut partial = self.partial(text, tag)?;
@@ -143,7 +143,7 @@ impl<'a, 'p, 'g, A: Allocator + Copy> Reader<'a, 'p, 'g, A> {
         let mut given = Vec::new(self.alloc);
         given.extend_from_slice(self.given)?;
         read_blocks(cursor, tag, levels, &mut given)?;
-        let inside = Around { open: None, levels };
+        let inside = Around { begun: None, levels };
         self.with(&given).read(&mut layout, inside, nodes)
     }
 
@@ -165,7 +165,7 @@ impl<'a, 'p, 'g, A: Allocator + Copy> Reader<'a, 'p, 'g, A> {
         skip(cursor, tag, within.levels)?;
         let outer = &self.given[..block.outer.min(self.given.len())];
         let inside = Around {
-            open: Some(block.tag),
+            begun: Some(block.tag),
             levels: within.levels,
         };
         let mut content = block.cursor;
