@@ -1,3 +1,4 @@
+pub mod SourceReads
 pub mod Cuts
 pub mod SourceTags
 pub mod SourceNames

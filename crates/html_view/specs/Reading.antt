@@ -125,7 +125,7 @@ with_space (b ∷ bytes) spaces = (b ∷ bytes) ∷ spaces
 
 abbrev pub all_marked : List (List ℕ) → Nodes Asked → Nodes Asked
 all_marked [] after = after
-all_marked (space ∷ spaces) after = marked space (all_marked spaces after)
+all_marked (space ∷ spaces) after = node.Markup space (all_marked spaces after)
 
 -- behind a section of this name nothing stands before `{{^name}}` but white space and comments
 pub data Turns (name : List ℕ) : Here → List (List ℕ) → Tag → Here → Type 0 where
@@ -199,6 +199,25 @@ mutual
         → tag.sign ≡ sign.Block → given_block given tag.name.now ≡ Some block → Skips tag here next
         → Reads partials (take block.outer given) (Some block.tag) (here_of block.cursor) after found end
         → StandsFor partials given tag here after found next
+
+-- nodes that were read are added to those before
+pub record AddsRead (partials : List PartialText) (given : List Block) (begun : Option Tag) (here : Here)
+    (old new : Nodes Asked → Nodes Asked) (next : Here) (after : Nodes Asked) : Type 0 where
+  pub found : Nodes Asked
+  pub reads : Reads partials given begun here after found next
+  pub same : new after ≡ old found
+
+pub record AddsTag (partials : List PartialText) (given : List Block) (tag : Tag) (here : Here)
+    (old new : Nodes Asked → Nodes Asked) (next : Here) (after : Nodes Asked) : Type 0 where
+  pub found : Nodes Asked
+  pub stands : StandsFor partials given tag here after found next
+  pub same : new after ≡ old found
+
+-- blocks of a layout are added to those before
+pub record AddsBlocks (layout : Tag) (here : Here) (old new : List Block) (next : Here) : Type 0 where
+  pub blocks : List Block
+  pub gives : Gives (length old) layout here blocks next
+  pub same : new ≡ old ++ blocks
 
 -- the nodes of a source
 pub record IsSource (partials : List PartialText) (source : List ℕ) (nodes : Nodes Asked) : Type 0 where

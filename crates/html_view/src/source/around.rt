@@ -1,5 +1,6 @@
 //! What is around nodes that are read.
-ghost use Rattle.std.specs.Prelude.{◌≡◌, ◌+◌, IfOk};
+ghost use Rattle.std.specs.Prelude.{◌≡◌, ◌+◌, IfOk, OnOk};
+ghost use Rattle.html_view.specs.Reading.{Closes};
 
 use crate::faults::{TagFault, ViewFault};
 use crate::source::cursor::Tag;
@@ -40,7 +41,9 @@ pub(crate) fn deeper(levels: usize, tag: Tag<'_>) -> Result<usize, ViewFault>
 }
 
 /// Whether what was found ends what is begun: a tag, or the text.
-pub(crate) fn end(found: Option<Tag<'_>>, begun: Option<Tag<'_>>) -> Result<(), ViewFault> {
+pub(crate) fn end(found: Option<Tag<'_>>, begun: Option<Tag<'_>>) -> Result<(), ViewFault>
+    ensures { OnOk result (Closes found.entry begun.entry) }
+{
     match (found, begun) {
         (None, None) => Ok(()),
         (None, Some(begun)) => Err(ViewFault::Tag(begun.position, TagFault::Unended)),

@@ -1,5 +1,7 @@
 //! The blocks that are given to a layout.
-ghost use Rattle.std.specs.Prelude.{◌≤◌, OnOk, length};
+ghost use Rattle.std.specs.Prelude.{◌≡◌, ◌++◌, ◌∷◌, [], ◌≤◌, OnOk, length};
+ghost use Rattle.html_view.specs.Cursors.{here_of};
+ghost use Rattle.html_view.specs.Reading.{AddsBlocks, Skips, given_block};
 
 use crate::faults::ViewFault;
 use crate::source::around::{deeper, end};
@@ -16,7 +18,9 @@ pub(crate) struct Block<'a> {
 }
 
 /// The block of this name that is given furthest out: the first one.
-pub(crate) fn find_block<'a>(given: &[Block<'a>], name: &str) -> Option<Block<'a>> {
+pub(crate) fn find_block<'a>(given: &[Block<'a>], name: &str) -> Option<Block<'a>>
+    ensures { result ≡ given_block given.now name.now }
+{
     for block in given {
         if block.tag.name == name {
             return Some(*block);
@@ -33,12 +37,16 @@ pub(crate) fn read_blocks<'a, A: Allocator + Copy>(
     levels: usize,
     given: &mut Vec<Block<'a>, A>,
 ) -> Result<(), ViewFault>
-    ensures { OnOk result (length cursor.new.rest.now ≤ length cursor.old.rest.now) }
+    ensures gives { OnOk result (AddsBlocks layout.entry (here_of cursor.old) given.old.items
+        given.new.items (here_of cursor.new)) }
+    ensures shorter { OnOk result (length cursor.new.rest.now ≤ length cursor.old.rest.now) }
 {
     let outer = given.len();
     loop {
         let piece = cursor.next()?;
         match piece.tag {
+            None => return end(None, Some(layout)),
+            Some(tag) if tag.sign == Sign::End => return end(Some(tag), Some(layout)),
             Some(tag) if tag.sign.has_end() => {
                 if tag.sign == Sign::Block {
                     add_block(
@@ -52,8 +60,7 @@ pub(crate) fn read_blocks<'a, A: Allocator + Copy>(
                 }
                 skip(cursor, tag, deeper(levels, tag)?)?;
             }
-            Some(tag) if tag.sign != Sign::End => {}
-            found => return end(found, Some(layout)),
+            Some(_) => {}
         }
     }
 }
@@ -61,7 +68,9 @@ pub(crate) fn read_blocks<'a, A: Allocator + Copy>(
 fn add_block<'a, A: Allocator>(
     given: &mut Vec<Block<'a>, A>,
     block: Block<'a>,
-) -> Result<(), ViewFault> {
+) -> Result<(), ViewFault>
+    ensures { OnOk result (given.new.items ≡ given.old.items ++ block.entry ∷ []) }
+{
     match given.push(block) {
         Ok(()) => Ok(()),
         Err(_) => Err(ViewFault::Memory),
@@ -70,14 +79,16 @@ fn add_block<'a, A: Allocator>(
 
 /// Passes what stands up to the end of the tag that is open.
 pub(crate) fn skip(cursor: &mut Cursor<'_>, begun: Tag<'_>, levels: usize) -> Result<(), ViewFault>
-    ensures { OnOk result (length cursor.new.rest.now ≤ length cursor.old.rest.now) }
+    ensures skips { OnOk result (Skips begun.entry (here_of cursor.old) (here_of cursor.new)) }
+    ensures shorter { OnOk result (length cursor.new.rest.now ≤ length cursor.old.rest.now) }
 {
     loop {
         let piece = cursor.next()?;
         match piece.tag {
+            None => return end(None, Some(begun)),
+            Some(tag) if tag.sign == Sign::End => return end(Some(tag), Some(begun)),
             Some(tag) if tag.sign.has_end() => skip(cursor, tag, deeper(levels, tag)?)?,
-            Some(tag) if tag.sign != Sign::End => {}
-            found => return end(found, Some(begun)),
+            Some(_) => {}
         }
     }
 }

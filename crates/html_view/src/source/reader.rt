@@ -35,8 +35,9 @@ impl<'a, 'p, 'g, A: Allocator + Copy> Reader<'a, 'p, 'g, A> {
                 add(nodes, Node::Markup(piece.markup, piece.position))?;
             }
             match piece.tag {
-                Some(tag) if tag.sign != Sign::End => self.read_tag(cursor, tag, around, nodes)?,
-                found => return end(found, around.begun),
+                None => return end(None, around.begun),
+                Some(tag) if tag.sign == Sign::End => return end(Some(tag), around.begun),
+                Some(tag) => self.read_tag(cursor, tag, around, nodes)?,
             }
         }
     }

@@ -2,6 +2,7 @@
 ghost use Rattle.std.specs.Prelude.{◌≡◌, ◌≢◌, ◌∷◌, ◌++◌, [], IfOk, IsTrue};
 ghost use Rattle.std.specs.List.{AllByRecursion};
 ghost use Rattle.html_view.specs.Names.{words_behind};
+ghost use Rattle.html_view.specs.Reading.{has_end};
 ghost use Rattle.html_view.specs.Tags.{
   IsName,
   IsNameOf,
@@ -64,7 +65,9 @@ impl Sign {
     }
 
     /// Whether a tag of this sign has an end.
-    pub(crate) fn has_end(self) -> bool {
+    pub(crate) fn has_end(self) -> bool
+        ensures { result ≡ has_end self }
+    {
         match self {
             Sign::Each | Sign::If | Sign::Unless | Sign::Layout | Sign::Block => true,
             _ => false,
