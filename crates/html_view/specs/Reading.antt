@@ -11,6 +11,7 @@ use Rattle.html_view.specs.declared.node.Times.{Times}
 use Rattle.html_view.specs.declared.node.Times.TheVariants as times
 use Rattle.html_view.specs.declared.node.Times.TheVariants.{Whether}
 use Rattle.html_view.specs.declared.source.blocks.Block.{Block}
+use Rattle.html_view.specs.declared.source.cursor.Piece.{Piece}
 use Rattle.html_view.specs.declared.source.cursor.Tag.{Tag}
 use Rattle.html_view.specs.declared.source.tag.Sign.{Sign}
 use Rattle.html_view.specs.declared.source.tag.Sign.TheVariants as sign
@@ -117,6 +118,9 @@ times_of other = None
 
 abbrev pub is_space : List ℕ → Bool
 is_space bytes = length (trim bytes) == 0
+
+abbrev pub spaces_of : List Piece → List (List ℕ)
+spaces_of pieces = map (λ piece. piece.markup.now) pieces
 
 -- markup, if there is any
 abbrev pub with_space : List ℕ → List (List ℕ) → List (List ℕ)

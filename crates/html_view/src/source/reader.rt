@@ -6,7 +6,7 @@ use crate::node::{Asked, Node, Times};
 use crate::source::around::{Around, deeper, end};
 use crate::source::blocks::{Block, find_block, read_blocks, skip};
 use crate::source::cursor::{Cursor, Tag};
-use crate::source::sections::{Nodes, Otherwise, add, opening};
+use crate::source::sections::{Nodes, Otherwise, add, add_markup, opening};
 use crate::source::tag::Sign;
 use std::alloc::Allocator;
 
@@ -31,9 +31,7 @@ impl<'a, 'p, 'g, A: Allocator + Copy> Reader<'a, 'p, 'g, A> {
     {
         loop {
             let piece = cursor.next()?;
-            if !piece.markup.is_empty() {
-                add(nodes, Node::Markup(piece.markup, piece.position))?;
-            }
+            add_markup(nodes, piece)?;
             match piece.tag {
                 None => return end(None, around.begun),
                 Some(tag) if tag.sign == Sign::End => return end(Some(tag), around.begun),
@@ -88,7 +86,7 @@ impl<'a, 'p, 'g, A: Allocator + Copy> Reader<'a, 'p, 'g, A> {
             Some(otherwise) => {
                 otherwise.add_space(&mut others)?;
                 self.read(cursor, around.within(otherwise.tag)?, &mut others)?;
-                let section = otherwise.section(self.alloc, opening(tag, times), body, others)?;
+                let section = otherwise.section(self.alloc, tag, times, body, others)?;
                 add(nodes, section)
             }
         }

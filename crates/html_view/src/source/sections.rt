@@ -1,5 +1,20 @@
-//! The two sides of a section.
-ghost use Rattle.std.specs.Prelude.{◌≤◌, OnOk, length};
+//! Nodes, and the two sides of a section.
+ghost use Rattle.std.specs.Prelude.{◌≡◌, ◌≢◌, ◌↔◌, ◌++◌, ◌≤◌, ℕ, List, IfOk, IsTrue, MatchOption, OnOk, length};
+ghost use Rattle.html_view.specs.Cursors.{here_of};
+ghost use Rattle.html_view.specs.Kept.{asked_node, asked_nodes};
+ghost use Rattle.html_view.specs.Nodes as spec;
+ghost use Rattle.html_view.specs.Reading.{
+  Turns,
+  TurnsNot,
+  all_marked,
+  is_space,
+  marked,
+  sectioned,
+  spaces_of,
+  with_space,
+};
+ghost use Rattle.html_view.specs.declared.node.Times.TheVariants.{Once};
+ghost use Rattle.html_view.specs.declared.source.tag.Sign.TheVariants.{Unless};
 
 use crate::faults::ViewFault;
 use crate::node::{Asked, Node, Opening, Times};
@@ -24,7 +39,11 @@ impl<'a, A: Allocator + Copy> Otherwise<'a, A> {
         cursor: &mut Cursor<'a>,
         name: &str,
     ) -> Result<Option<Otherwise<'a, A>>, ViewFault>
-        ensures { OnOk result (length cursor.new.rest.now ≤ length cursor.old.rest.now) }
+        ensures turns { IfOk result (λ found. MatchOption found
+            (TurnsNot name.now (here_of cursor.old) × (here_of cursor.new ≡ here_of cursor.old))
+            (λ otherwise. Turns name.now (here_of cursor.old) (spaces_of otherwise.space.items)
+                otherwise.tag (here_of cursor.new))) }
+        ensures shorter { OnOk result (length cursor.new.rest.now ≤ length cursor.old.rest.now) }
     {
         let mut space = Vec::new(alloc);
         let mut ahead = *cursor;
@@ -33,56 +52,97 @@ impl<'a, A: Allocator + Copy> Otherwise<'a, A> {
             let Some(tag) = piece.tag else {
                 return Ok(None);
             };
-            if !piece.markup.trim().is_empty() {
+            if !is_space(piece.markup) {
                 return Ok(None);
             }
-            if !piece.markup.is_empty() {
-                add_piece(&mut space, piece)?;
+            keep_space(&mut space, piece)?;
+            if tag.sign == Sign::Comment {
+                continue;
             }
-            if tag.sign == Sign::Unless && tag.name == name {
+            if is_unless(tag, name) {
                 *cursor = ahead;
                 return Ok(Some(Otherwise { tag, space }));
             }
-            if tag.sign != Sign::Comment {
-                return Ok(None);
-            }
+            return Ok(None);
         }
     }
 
-    /// The white space.
-    pub(crate) fn add_space(&self, nodes: &mut Nodes<'a, A>) -> Result<(), ViewFault> {
+    /// Adds the white space to nodes.
+    pub(crate) fn add_space(&self, nodes: &mut Nodes<'a, A>) -> Result<(), ViewFault>
+        ensures { OnOk result ((after : spec.Nodes spec.Asked) → asked_nodes nodes.new.items after
+            ≡ asked_nodes nodes.old.items (all_marked (spaces_of self.now.space.items) after)) }
+    {
         for piece in &self.space {
             add(nodes, Node::Markup(piece.markup, piece.position))?;
         }
         Ok(())
     }
 
-    /// The node of a section with this body and these other nodes. The white space is at the beginning of the
-    /// other nodes. Where the body stands, it stands once behind it.
+    /// The node of a section with this body. Its other nodes begin with the white space. Where the body
+    /// stands, the white space stands once behind it.
     pub(crate) fn section(
         &self,
         alloc: A,
-        opening: Opening<'a>,
+        tag: Tag<'a>,
+        times: Times,
         body: Nodes<'a, A>,
-        otherwise: Nodes<'a, A>,
-    ) -> Result<Node<'a, Asked<'a>, A>, ViewFault> {
+        others: Nodes<'a, A>,
+    ) -> Result<Node<'a, Asked<'a>, A>, ViewFault>
+        requires { times ≢ Once }
+        ensures { IfOk result (λ section. (rest after : spec.Nodes spec.Asked)
+            → asked_nodes others.entry.items spec.End
+            ≡ all_marked (spaces_of self.now.space.items) rest
+            → asked_node section after ≡ sectioned tag.entry times (spaces_of self.now.space.items)
+            (asked_nodes body.entry.items spec.End) rest after) }
+    {
         if self.space.is_empty() {
-            return Ok(Node::Section(opening, body, otherwise));
+            return Ok(Node::Section(opening(tag, times), body, others));
         }
         let mut nodes = Vec::new(alloc);
-        add(&mut nodes, Node::Section(opening, body, Vec::new(alloc)))?;
+        let none = Vec::new(alloc);
+        add(&mut nodes, Node::Section(opening(tag, times), body, none))?;
         self.add_space(&mut nodes)?;
-        let whether = Opening {
-            name: opening.name,
-            position: opening.position,
-            times: Times::Whether,
-        };
-        Ok(Node::Section(whether, nodes, otherwise))
+        Ok(Node::Section(opening(tag, Times::Whether), nodes, others))
     }
 }
 
+// Whether this is `{{^name}}`.
+fn is_unless(tag: Tag<'_>, name: &str) -> bool
+    ensures { IsTrue result ↔ (tag.entry.sign ≡ Unless) × (tag.entry.name.now ≡ name.now) }
+{
+    tag.sign == Sign::Unless && tag.name == name
+}
+
+// Whether nothing is left where white space is trimmed.
+fn is_space(text: &str) -> bool
+    ensures { result ≡ is_space text.now }
+{
+    text.trim().is_empty()
+}
+
+// Keeps white space, if there is any.
+fn keep_space<'a, A: Allocator>(
+    space: &mut Vec<Piece<'a>, A>,
+    piece: Piece<'a>,
+) -> Result<(), ViewFault>
+    ensures { OnOk result ((spaces : List (List ℕ)) → spaces_of space.new.items ++ spaces
+        ≡ spaces_of space.old.items ++ with_space piece.entry.markup.now spaces) }
+{
+    if piece.markup.is_empty() {
+        return Ok(());
+    }
+    let Ok(()) = space.push(piece) else {
+        return Err(ViewFault::Memory);
+    };
+    Ok(())
+}
+
 /// The opening that this tag is.
-pub(crate) fn opening(tag: Tag<'_>, times: Times) -> Opening<'_> {
+pub(crate) fn opening(tag: Tag<'_>, times: Times) -> Opening<'_>
+    ensures name { result.name.now ≡ tag.entry.name.now }
+    ensures position { result.position ≡ tag.entry.position }
+    ensures times { result.times ≡ times }
+{
     Opening {
         name: tag.name,
         position: tag.position,
@@ -90,24 +150,30 @@ pub(crate) fn opening(tag: Tag<'_>, times: Times) -> Opening<'_> {
     }
 }
 
-// Adds markup.
-fn add_piece<'a, A: Allocator>(
-    pieces: &mut Vec<Piece<'a>, A>,
+/// Adds markup, if there is any.
+pub(crate) fn add_markup<'a, A: Allocator>(
+    nodes: &mut Nodes<'a, A>,
     piece: Piece<'a>,
-) -> Result<(), ViewFault> {
-    match pieces.push(piece) {
-        Ok(()) => Ok(()),
-        Err(_) => Err(ViewFault::Memory),
+) -> Result<(), ViewFault>
+    ensures { OnOk result ((after : spec.Nodes spec.Asked) → asked_nodes nodes.new.items after
+        ≡ asked_nodes nodes.old.items (marked piece.entry.markup.now after)) }
+{
+    if piece.markup.is_empty() {
+        return Ok(());
     }
+    add(nodes, Node::Markup(piece.markup, piece.position))
 }
 
 /// Adds a node.
 pub(crate) fn add<'a, A: Allocator>(
     nodes: &mut Nodes<'a, A>,
     node: Node<'a, Asked<'a>, A>,
-) -> Result<(), ViewFault> {
-    match nodes.push(node) {
-        Ok(()) => Ok(()),
-        Err(_) => Err(ViewFault::Memory),
-    }
+) -> Result<(), ViewFault>
+    ensures { OnOk result ((after : spec.Nodes spec.Asked) → asked_nodes nodes.new.items after
+        ≡ asked_nodes nodes.old.items (asked_node node.entry after)) }
+{
+    let Ok(()) = nodes.push(node) else {
+        return Err(ViewFault::Memory);
+    };
+    Ok(())
 }
