@@ -1,3 +1,4 @@
+pub mod SourceTagged
 pub mod SourceReads
 pub mod Cuts
 pub mod SourceTags

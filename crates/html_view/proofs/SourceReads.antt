@@ -5,7 +5,7 @@ use Rattle.html_view.specs.Kept.{Before, asked_node, asked_nodes, asked_of, behi
 use Rattle.html_view.specs.Names.{words_of}
 use Rattle.html_view.specs.Nodes as node
 use Rattle.html_view.specs.Nodes.{Nodes, written_opening, written_times}
-use Rattle.html_view.specs.Reading.{all_marked, marked, opened, sectioned, spaces_of, with_space}
+use Rattle.html_view.specs.Reading.{all_marked, marked, opened, sectioned, spaces_of, times_of, with_space}
 use Rattle.html_view.specs.declared.faults.Position.{Position}
 use Rattle.html_view.specs.declared.node.Asked.{Asked}
 use Rattle.html_view.specs.declared.node.Node.{Markup, Node, Section, Slot, the_lemmas}
@@ -14,6 +14,8 @@ use Rattle.html_view.specs.declared.node.Times.{Times}
 use Rattle.html_view.specs.declared.node.Times.TheVariants.{Each, If, Once, Whether}
 use Rattle.html_view.specs.declared.source.cursor.Piece.{Piece}
 use Rattle.html_view.specs.declared.source.cursor.Tag.{Tag}
+use Rattle.html_view.specs.declared.source.tag.Sign.{Sign}
+use Rattle.html_view.specs.declared.source.tag.Sign.TheVariants as sign
 
 pub on_ok : {T E : Type 0} (result : Result T E) (P Q : Type 0) → OnOk result P → (P → Q) → OnOk result Q
 on_ok (Ok done) P Q told go_on = go_on told
@@ -145,3 +147,37 @@ space_more pieces items i d old before new after same below so_far added =
     ∙ ap (λ p. asked_nodes before (all_marked (spaces_of (take i items)) (node.Markup (get_or p i d).markup.now after))) same
     ∙ ap (asked_nodes before) (sym (marked_more items i d after below))
     ∙ ap (λ n. asked_nodes before (all_marked (spaces_of (take n items)) after)) (sym (add-one i))
+
+pub times_once : (sign : Sign) (times : Times) → times_of sign ≡ Some times → times ≢ Once
+times_once sign.Each times is once = cc
+times_once sign.If times is once = cc
+times_once sign.Slot times is once = cc
+times_once sign.Quoted times is once = cc
+times_once sign.Comment times is once = cc
+times_once sign.Unless times is once = cc
+times_once sign.End times is once = cc
+times_once sign.Partial times is once = cc
+times_once sign.Layout times is once = cc
+times_once sign.Block times is once = cc
+
+pub section_added : {A : Type 0} (opening : Opening) (tag : Tag) (times : Times) (body others : Vec (Node Asked A) A) (old new : List (Node Asked A))
+    (after : Nodes node.Asked) → written_opening (opening_of opening) ≡ opened tag times → others.items ≡ []
+    → asked_nodes new after ≡ asked_nodes old (asked_node (Section opening body others) after)
+    → asked_nodes new after ≡ asked_nodes old (node.Section (opened tag times) (asked_nodes body.items node.End) node.End after)
+section_added opening tag times body others old new after is none added =
+    added ∙ ap (asked_nodes old) (asked_section opening body others after
+    ∙ ap (λ o. node.Section o (asked_nodes body.items node.End) (asked_nodes others.items node.End) after) is
+    ∙ ap (λ (n : List (Node Asked _)). node.Section (opened tag times) (asked_nodes body.items node.End) (asked_nodes n node.End) after) none)
+
+pub unless_added : {A : Type 0} (opening : Opening) (tag : Tag) (times : Times) (body others : Vec (Node Asked A) A) (old new : List (Node Asked A))
+    (after : Nodes node.Asked) → written_opening (opening_of opening) ≡ opened tag times → body.items ≡ []
+    → asked_nodes new after ≡ asked_nodes old (asked_node (Section opening body others) after)
+    → asked_nodes new after ≡ asked_nodes old (node.Section (opened tag times) node.End (asked_nodes others.items node.End) after)
+unless_added opening tag times body others old new after is none added =
+    added ∙ ap (asked_nodes old) (asked_section opening body others after
+    ∙ ap (λ o. node.Section o (asked_nodes body.items node.End) (asked_nodes others.items node.End) after) is
+    ∙ ap (λ (n : List (Node Asked _)). node.Section (opened tag times) (asked_nodes n node.End) (asked_nodes others.items node.End) after) none)
+
+-- no nodes
+pub none_before : {A : Type 0} (nodes : List (Node Asked A)) (after : Nodes node.Asked) → nodes ≡ [] → asked_nodes nodes after ≡ after
+none_before nodes after none = ap (λ (n : List (Node Asked _)). asked_nodes n after) none

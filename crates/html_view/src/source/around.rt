@@ -1,5 +1,5 @@
 //! What is around nodes that are read.
-ghost use Rattle.std.specs.Prelude.{◌≡◌, ◌+◌, IfOk, OnOk};
+ghost use Rattle.std.specs.Prelude.{◌≡◌, ◌+◌, IfOk, OnOk, Some};
 ghost use Rattle.html_view.specs.Reading.{Closes};
 
 use crate::faults::{TagFault, ViewFault};
@@ -20,7 +20,8 @@ pub(crate) struct Around<'a> {
 impl<'a> Around<'a> {
     /// The same, one level deeper, where this tag has to end.
     pub(crate) fn within(self, tag: Tag<'a>) -> Result<Around<'a>, ViewFault>
-        ensures { IfOk result (λ around. around.levels + 1 ≡ self.entry.levels) }
+        ensures begun { IfOk result (λ around. around.begun ≡ Some tag.entry) }
+        ensures levels { IfOk result (λ around. around.levels + 1 ≡ self.entry.levels) }
     {
         let levels = deeper(self.levels, tag)?;
         Ok(Around {

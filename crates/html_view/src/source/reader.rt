@@ -1,5 +1,16 @@
 //! Reading nodes from the texts of a view.
-ghost use Rattle.std.specs.Prelude.{◌≤◌, OnOk, length};
+ghost use Rattle.std.specs.Prelude.{◌≡◌, ◌≢◌, ◌≤◌, IfOk, OnOk, Some, length};
+ghost use Rattle.html_view.specs.Cursors.{Here, here_of};
+ghost use Rattle.html_view.specs.Kept.{asked_nodes};
+ghost use Rattle.html_view.specs.Nodes as spec;
+ghost use Rattle.html_view.specs.Reading.{
+  AddsRead,
+  AddsTag,
+  asked_partial,
+  partials_of,
+  times_of,
+};
+ghost use Rattle.html_view.specs.declared.source.tag.Sign.TheVariants as sign;
 
 use crate::faults::{TagFault, ViewFault};
 use crate::node::{Asked, Node, Times};
@@ -27,7 +38,11 @@ impl<'a, 'p, 'g, A: Allocator + Copy> Reader<'a, 'p, 'g, A> {
         around: Around<'a>,
         nodes: &mut Nodes<'a, A>,
     ) -> Result<(), ViewFault>
-        ensures { OnOk result (length cursor.new.rest.now ≤ length cursor.old.rest.now) }
+        ensures nodes { OnOk result ((after : spec.Nodes spec.Asked)
+            → AddsRead (partials_of self.now.partials.now) self.now.given.now around.entry.begun
+            (here_of cursor.old) (asked_nodes nodes.old.items) (asked_nodes nodes.new.items)
+            (here_of cursor.new) after) }
+        ensures shorter { OnOk result (length cursor.new.rest.now ≤ length cursor.old.rest.now) }
     {
         loop {
             let piece = cursor.next()?;
@@ -49,7 +64,12 @@ impl<'a, 'p, 'g, A: Allocator + Copy> Reader<'a, 'p, 'g, A> {
         around: Around<'a>,
         nodes: &mut Nodes<'a, A>,
     ) -> Result<(), ViewFault>
-        ensures { OnOk result (length cursor.new.rest.now ≤ length cursor.old.rest.now) }
+        requires { tag.sign ≢ sign.End }
+        ensures nodes { OnOk result ((after : spec.Nodes spec.Asked)
+            → AddsTag (partials_of self.now.partials.now) self.now.given.now tag.entry
+            (here_of cursor.old) (asked_nodes nodes.old.items) (asked_nodes nodes.new.items)
+            (here_of cursor.new) after) }
+        ensures shorter { OnOk result (length cursor.new.rest.now ≤ length cursor.old.rest.now) }
     {
         let name = tag.name;
         let position = tag.position;
@@ -76,7 +96,12 @@ impl<'a, 'p, 'g, A: Allocator + Copy> Reader<'a, 'p, 'g, A> {
         around: Around<'a>,
         nodes: &mut Nodes<'a, A>,
     ) -> Result<(), ViewFault>
-        ensures { OnOk result (length cursor.new.rest.now ≤ length cursor.old.rest.now) }
+        requires { times_of tag.sign ≡ Some times }
+        ensures nodes { OnOk result ((after : spec.Nodes spec.Asked)
+            → AddsTag (partials_of self.now.partials.now) self.now.given.now tag.entry
+            (here_of cursor.old) (asked_nodes nodes.old.items) (asked_nodes nodes.new.items)
+            (here_of cursor.new) after) }
+        ensures shorter { OnOk result (length cursor.new.rest.now ≤ length cursor.old.rest.now) }
     {
         let mut body = Vec::new(self.alloc);
         let mut others = Vec::new(self.alloc);
@@ -101,7 +126,12 @@ impl<'a, 'p, 'g, A: Allocator + Copy> Reader<'a, 'p, 'g, A> {
         around: Around<'a>,
         nodes: &mut Nodes<'a, A>,
     ) -> Result<(), ViewFault>
-        ensures { OnOk result (length cursor.new.rest.now ≤ length cursor.old.rest.now) }
+        requires { tag.sign ≡ sign.Unless }
+        ensures nodes { OnOk result ((after : spec.Nodes spec.Asked)
+            → AddsTag (partials_of self.now.partials.now) self.now.given.now tag.entry
+            (here_of cursor.old) (asked_nodes nodes.old.items) (asked_nodes nodes.new.items)
+            (here_of cursor.new) after) }
+        ensures shorter { OnOk result (length cursor.new.rest.now ≤ length cursor.old.rest.now) }
     {
         let body = Vec::new(self.alloc);
         let mut others = Vec::new(self.alloc);
@@ -117,7 +147,12 @@ impl<'a, 'p, 'g, A: Allocator + Copy> Reader<'a, 'p, 'g, A> {
         tag: Tag<'a>,
         around: Around<'a>,
         nodes: &mut Nodes<'a, A>,
-    ) -> Result<(), ViewFault> {
+    ) -> Result<(), ViewFault>
+        requires { tag.sign ≡ sign.Partial }
+        ensures { OnOk result ((here : Here) (after : spec.Nodes spec.Asked) → here.text ≡ text
+            → AddsTag (partials_of self.now.partials.now) self.now.given.now tag.entry here
+            (asked_nodes nodes.old.items) (asked_nodes nodes.new.items) here after) }
+    {
         let inside = Around {
             begun: None,
             levels: deeper(around.levels, tag)?,
@@ -135,7 +170,12 @@ impl<'a, 'p, 'g, A: Allocator + Copy> Reader<'a, 'p, 'g, A> {
         around: Around<'a>,
         nodes: &mut Nodes<'a, A>,
     ) -> Result<(), ViewFault>
-        ensures { OnOk result (length cursor.new.rest.now ≤ length cursor.old.rest.now) }
+        requires { tag.sign ≡ sign.Layout }
+        ensures nodes { OnOk result ((after : spec.Nodes spec.Asked)
+            → AddsTag (partials_of self.now.partials.now) self.now.given.now tag.entry
+            (here_of cursor.old) (asked_nodes nodes.old.items) (asked_nodes nodes.new.items)
+            (here_of cursor.new) after) }
+        ensures shorter { OnOk result (length cursor.new.rest.now ≤ length cursor.old.rest.now) }
     {
         let levels = deeper(around.levels, tag)?;
         let mut layout = self.partial(cursor.text(), tag)?;
@@ -155,7 +195,12 @@ impl<'a, 'p, 'g, A: Allocator + Copy> Reader<'a, 'p, 'g, A> {
         around: Around<'a>,
         nodes: &mut Nodes<'a, A>,
     ) -> Result<(), ViewFault>
-        ensures { OnOk result (length cursor.new.rest.now ≤ length cursor.old.rest.now) }
+        requires { tag.sign ≡ sign.Block }
+        ensures nodes { OnOk result ((after : spec.Nodes spec.Asked)
+            → AddsTag (partials_of self.now.partials.now) self.now.given.now tag.entry
+            (here_of cursor.old) (asked_nodes nodes.old.items) (asked_nodes nodes.new.items)
+            (here_of cursor.new) after) }
+        ensures shorter { OnOk result (length cursor.new.rest.now ≤ length cursor.old.rest.now) }
     {
         let within = around.within(tag)?;
         let Some(block) = find_block(self.given, tag.name) else {
@@ -172,7 +217,10 @@ impl<'a, 'p, 'g, A: Allocator + Copy> Reader<'a, 'p, 'g, A> {
     }
 
     // The same, with these blocks given.
-    fn with<'h>(&self, given: &'h [Block<'a>]) -> Reader<'a, 'p, 'h, A> {
+    fn with<'h>(&self, given: &'h [Block<'a>]) -> Reader<'a, 'p, 'h, A>
+        ensures partials { result.partials.now ≡ self.now.partials.now }
+        ensures given { result.given.now ≡ given.now }
+    {
         Reader {
             alloc: self.alloc,
             partials: self.partials,
@@ -182,13 +230,21 @@ impl<'a, 'p, 'g, A: Allocator + Copy> Reader<'a, 'p, 'g, A> {
 
     // The partial that a tag asks for in the text with this number: the last one of its name that stands
     // before the text.
-    fn partial(&self, text: usize, tag: Tag<'a>) -> Result<Cursor<'a>, ViewFault> {
-        let mut found = Err(ViewFault::Tag(tag.position, TagFault::NoPartial));
-        for (number, (name, source)) in self.partials.iter().enumerate() {
-            if *name == tag.name && (text == 0 || number + 1 < text) {
-                found = Ok(Cursor::new(number + 1, source));
+    fn partial(&self, text: usize, tag: Tag<'a>) -> Result<Cursor<'a>, ViewFault>
+        ensures { IfOk result (λ start. asked_partial 1 (partials_of self.now.partials.now) text
+            tag.entry.name.now ≡ Some (here_of start)) }
+    {
+        let mut found = None;
+        for index in 0..self.partials.len() {
+            let (name, source) = self.partials[index];
+            let number = index + 1;
+            if name == tag.name && (text == 0 || number < text) {
+                found = Some(Cursor::new(number, source));
             }
         }
-        found
+        let Some(start) = found else {
+            return Err(ViewFault::Tag(tag.position, TagFault::NoPartial));
+        };
+        Ok(start)
     }
 }

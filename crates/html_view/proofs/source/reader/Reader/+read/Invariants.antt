@@ -1,4 +1,8 @@
-use Rattle.std.proofs.Common.{length, ◌≤◌, ◌+◌, ◌*◌}
+use Rattle.std.proofs.Common.{◌≡◌, ◌≤◌, ◌+◌, ◌*◌, length}
+use Rattle.html_view.specs.Cursors.{Here, here_of}
+use Rattle.html_view.specs.Kept.{asked_nodes}
+use Rattle.html_view.specs.Nodes.{Asked, Nodes}
+use Rattle.html_view.specs.Reading.{Reads, partials_of}
 use Rattle.html_view.proofs.source.reader.Reader.+read.Given as goal
 
 abbrev pub decreases-read : goal.decreases-read
@@ -23,7 +27,12 @@ abbrev pub decreases-read_block : goal.decreases-read_block
 decreases-read_block g l = 3 * l.around.levels
 
 abbrev pub invariant-read-loop-piece : goal.invariant-read-loop-piece
-invariant-read-loop-piece g l = length l.cursor.rest.now ≤ length l.initial.cursor.rest.now
+invariant-read-loop-piece g l = record {
+  shorter : length l.cursor.rest.now ≤ length l.initial.cursor.rest.now;
+  leads : (after found : Nodes Asked) (next : Here) → Reads (partials_of l.self.partials.now) l.self.given.now l.around.begun (here_of l.cursor) after found next
+      → (whole : Nodes Asked) × Reads (partials_of l.self.partials.now) l.self.given.now l.around.begun (here_of l.initial.cursor) after whole next
+      × (asked_nodes l.nodes.items found ≡ asked_nodes l.initial.nodes.items whole);
+}
 
 abbrev pub decreases-read-loop-piece : goal.decreases-read-loop-piece
 decreases-read-loop-piece g l = length l.cursor.rest.now
