@@ -92,8 +92,7 @@ cut_blanks : (ns bytes rest : List ℕ) → CutsSuffixes FindsLast bytes ns rest
 cut_blanks [] bytes rest cuts = ([], sym (append-nil bytes) ∙ ap (λ x. x ++ []) (sym cuts), refl)
 cut_blanks (n ∷ ns) bytes rest cuts =
     let before = cut_blanks ns bytes cuts.0 cuts.1 in
-    let last = cut_last cuts.0 n (cuts.2 is_blank blanks) in
-    (
+    let last = cut_last cuts.0 n (cuts.2 is_blank blanks) in (
       last.0 ∷ before.0,
       before.1 ∙ ap (λ x. x ++ before.0) (last.1 ∙ ap (λ x. x ++ last.0 ∷ []) (sym cuts.3)) ∙ append_assoc rest (last.0 ∷ []) before.0,
       and_from (is_blank last.0) (list_all is_blank before.0) last.2 before.2,

@@ -113,7 +113,7 @@ pub two_sides : {A : Type 0} (tag : Tag) (times : Times) (pieces : List Piece) (
 two_sides tag times pieces first whether body none nodes others added rest after some first_is whether_is none_is one spaced other =
     let s = spaces_some pieces some in
     let inner : asked_nodes nodes.items node.End
-        ≡ node.Section (opened tag times) (asked_nodes body.items node.End) node.End (all_marked (spaces_of pieces) node.End) =
+    ≡ node.Section (opened tag times) (asked_nodes body.items node.End) node.End (all_marked (spaces_of pieces) node.End) =
     spaced node.End ∙ one (all_marked (spaces_of pieces) node.End)
     ∙ asked_section first body none (all_marked (spaces_of pieces) node.End)
     ∙ ap (λ o. node.Section o (asked_nodes body.items node.End) (asked_nodes none.items node.End) (all_marked (spaces_of pieces) node.End)) first_is

@@ -8,6 +8,7 @@ ghost use Rattle.html_view.specs.Adding.{Answers, unrolling_of};
 ghost use Rattle.html_view.specs.Kept.{asked_nodes, nodes_of};
 ghost use Rattle.html_view.specs.Nodes as node;
 ghost use Rattle.html_view.specs.Nodes.{written};
+ghost use Rattle.html_view.specs.Reading.{IsSource, partials_of};
 ghost use Rattle.html_view.specs.Unrolled.{AreTemplates};
 ghost use Rattle.html_view.specs.Values.{datum_of};
 
@@ -63,7 +64,10 @@ impl<'a, A: Allocator + Copy> View<'a, A> {
         alloc: A,
         source: &'a str,
         partials: &[(&str, &'a str)],
-    ) -> Result<View<'a, A>, ViewFault> {
+    ) -> Result<View<'a, A>, ViewFault>
+        ensures { IfOk result (λ view. IsSource (partials_of partials.now) source.now
+            (written (nodes_in view))) }
+    {
         let nodes = read(alloc, source, partials)?;
         View::new(alloc, &nodes)
     }

@@ -182,7 +182,10 @@ impl<'a, 'p, 'g, A: Allocator + Copy> Reader<'a, 'p, 'g, A> {
         let mut given = Vec::new(self.alloc);
         given.extend_from_slice(self.given)?;
         read_blocks(cursor, tag, levels, &mut given)?;
-        let inside = Around { begun: None, levels };
+        let inside = Around {
+            begun: None,
+            levels,
+        };
         self.with(&given).read(&mut layout, inside, nodes)
     }
 

@@ -42,7 +42,7 @@ impl<'a, A: Allocator + Copy> Otherwise<'a, A> {
         ensures turns { IfOk result (λ found. MatchOption found
             (TurnsNot name.now (here_of cursor.old) × (here_of cursor.new ≡ here_of cursor.old))
             (λ otherwise. Turns name.now (here_of cursor.old) (spaces_of otherwise.space.items)
-                otherwise.tag (here_of cursor.new))) }
+            otherwise.tag (here_of cursor.new))) }
         ensures shorter { OnOk result (length cursor.new.rest.now ≤ length cursor.old.rest.now) }
     {
         let mut space = Vec::new(alloc);

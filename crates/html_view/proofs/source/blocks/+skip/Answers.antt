@@ -13,12 +13,12 @@ returns-in-Some-clause-skips t c =
     let is : c.in-Some.tag.sign ≡ End = search rules in
     on_ok c.end-in-Some.result _ _ c.end-in-Some.ensures
     (λ closes. c.loop-piece.invariant.leads (here_of c.next.new.self)
-      (skips_to_end (record {
-        found = Some c.in-Some.tag;
-        passes = passes;
-        is_end = is;
-        closes = sym (ap (λ (tag : Tag). tag.name.now) c.in-Some.tag-is) ∙ closes;
-      })))
+    (skips_to_end (record {
+      found = Some c.in-Some.tag;
+      passes = passes;
+      is_end = is;
+      closes = sym (ap (λ (tag : Tag). tag.name.now) c.in-Some.tag-is) ∙ closes;
+    })))
 
 pub loop-piece-preserved-then-has_end : goal.loop-piece-preserved-then-has_end
 loop-piece-preserved-then-has_end t c =

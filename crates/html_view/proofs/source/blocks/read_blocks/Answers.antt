@@ -17,18 +17,18 @@ returns-in-Some-clause-gives g c =
     let outer : c.len-outer.result ≡ length c.args.given.now.items = search rules in
     on_ok c.end-in-Some.result _ _ c.end-in-Some.ensures
     (λ closes.
-      let all = c.loop-piece.invariant.leads [] (here_of c.next.new.self)
-      (gives_none (record {
-        found = Some c.in-Some.tag;
-        passes = passes;
-        is_end = is;
-        closes = sym (ap (λ (tag : Tag). tag.name.now) c.in-Some.tag-is) ∙ closes;
-      })) in
-      record {
-        blocks = all.0;
-        gives = rw outer at all.1;
-        same = sym (append-nil c.loop-piece.given.items) ∙ all.2;
-      })
+    let all = c.loop-piece.invariant.leads [] (here_of c.next.new.self)
+    (gives_none (record {
+      found = Some c.in-Some.tag;
+      passes = passes;
+      is_end = is;
+      closes = sym (ap (λ (tag : Tag). tag.name.now) c.in-Some.tag-is) ∙ closes;
+    })) in
+    record {
+      blocks = all.0;
+      gives = rw outer at all.1;
+      same = sym (append-nil c.loop-piece.given.items) ∙ all.2;
+    })
 
 pub loop-piece-preserved-then-has_end : goal.loop-piece-preserved-then-has_end
 loop-piece-preserved-then-has_end g c =
@@ -42,8 +42,7 @@ loop-piece-preserved-then-has_end g c =
             let block : Block = record { tag = c.in-Some-2.tag; cursor = c.next.new.self; outer = c.len-outer.result } in
             let is : c.in-Some-2.tag.sign ≡ sign.Block = search rules in
             let all = c.loop-piece.invariant.leads (block ∷ blocks) next (gives_block {block = block} passes is refl c.in_ok-skip-in-Some-2.ensures.skips gives) in
-            let items : c.if-eq-2.given.items ≡ c.loop-piece.given.items ++ block ∷ [] = search rules in
-            (
+            let items : c.if-eq-2.given.items ≡ c.loop-piece.given.items ++ block ∷ [] = search rules in (
               all.0,
               all.1,
               ap (λ x. x ++ blocks) items ∙ append_assoc c.loop-piece.given.items (block ∷ []) blocks ∙ all.2,

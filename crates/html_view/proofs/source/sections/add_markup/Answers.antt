@@ -7,5 +7,5 @@ pub returns : goal.returns
 returns g c =
     on_ok c.add.result _ _ c.add.ensures
     (λ added after. added after
-      ∙ ap (asked_nodes c.args.nodes.now.items)
-      (asked_markup _ c.args.piece.markup c.args.piece.position after ∙ marked_some c.args.piece.markup.now after (sym c.is_empty.ensures ∙ c.if-is_empty.false)))
+    ∙ ap (asked_nodes c.args.nodes.now.items)
+    (asked_markup _ c.args.piece.markup c.args.piece.position after ∙ marked_some c.args.piece.markup.now after (sym c.is_empty.ensures ∙ c.if-is_empty.false)))

@@ -28,7 +28,7 @@ loop-space-preserved g c =
       shorter = omega arith;
       still = c.loop-space.invariant.still;
       leads = λ spaces unless next turns.
-        rw (c.in_ok-keep_space.ensures spaces) (c.loop-space.invariant.leads (with_space c.in_ok-piece.piece.markup.now spaces) unless next (turns_behind passes space is turns));
+          rw (c.in_ok-keep_space.ensures spaces) (c.loop-space.invariant.leads (with_space c.in_ok-piece.piece.markup.now spaces) unless next (turns_behind passes space is turns));
       leads_not = λ other. c.loop-space.invariant.leads_not (at_comment passes space is other);
     }
 
