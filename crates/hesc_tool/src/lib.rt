@@ -16,8 +16,10 @@ mod steps;
 mod words;
 
 pub use crate::faults::Fault;
-pub use crate::program::serve;
+pub use crate::program::{serve, write_line};
 use crate::steps::{answer, input_of};
+pub use crate::steps::{read_whole, write_whole};
+pub use crate::words::{lent, without_words, words_after_name};
 use hesc_commands::command_of;
 use std::alloc::Allocator;
 use std::io::{Read, Write};

@@ -97,8 +97,8 @@ fn end<E: Write>(outcome: Result<(), Fault>, errors: &mut E) -> u8
     }
 }
 
-// Writes the line and a line feed, and only a beginning of them where a write fails.
-fn write_line<W: Write>(line: &str, output: &mut W) -> Result<(), Fault>
+/// Writes the line and a line feed, and only a beginning of them where a write fails.
+pub fn write_line<W: Write>(line: &str, output: &mut W) -> Result<(), Fault>
     ensures all { OnOk result
         (Appends (W.contents output.old) (W.contents output.new) (line.now ++ line_feed ∷ [])) }
     ensures began { AppendsBeginning (W.contents output.old) (W.contents output.new)

@@ -1,0 +1,111 @@
+//! What can stand in place of a page, or of what a view has.
+use crate::place::{Spot, spot_of};
+use html_template::PartFault;
+use html_view::{DataFault, TagFault, ValueFault, ViewFault};
+use std::alloc::AllocError;
+
+/// Why a run did not write its text. Files are counted from 0, the view being the first.
+#[derive(Clone, Copy, Debug, PartialEq, Eq)]
+pub enum Fault {
+    /// The words name no command and view.
+    Usage,
+    /// This file cannot be read.
+    UnreadableFile(usize),
+    /// This file is not UTF-8.
+    FileNotUtf8(usize),
+    /// What stands here is refused.
+    At(Spot, Refusal),
+    /// The view may end within a tag, a reference, or an element whose content is read its own way.
+    Unfinished,
+    /// The input cannot be read.
+    UnreadableInput,
+    /// The input is not UTF-8.
+    InputNotUtf8,
+    /// The input is not JSON.
+    NotJson,
+    /// The input is JSON, and an object in it has a key twice.
+    RepeatedKey,
+    /// No memory was found.
+    Memory,
+    /// The output cannot be written.
+    Write,
+}
+
+/// Why what stands in a file is refused.
+#[derive(Clone, Copy, Debug, PartialEq, Eq)]
+pub enum Refusal {
+    Tag(TagFault),
+    Part(PartFault),
+    /// The slot stands in two places.
+    Ambiguous,
+    /// More than eight states of the tokenizer lead here.
+    TooManyWays,
+    /// The value for it.
+    Value(ValueFault),
+}
+
+impl Fault {
+    /// The status that the program ends with.
+    ///
+    /// `Fault::Usage.status()` is 2.
+    pub fn status(&self) -> u8 {
+        match self {
+            Fault::Usage => 2,
+            Fault::UnreadableFile(_) | Fault::FileNotUtf8(_) => 1,
+            Fault::At(_, _) | Fault::Unfinished => 1,
+            Fault::UnreadableInput | Fault::InputNotUtf8 => 1,
+            Fault::NotJson | Fault::RepeatedKey => 1,
+            Fault::Memory | Fault::Write => 1,
+        }
+    }
+
+    /// The fault of these texts, the view being the first, that are no view.
+    pub(crate) fn of_view(texts: &[&str], fault: ViewFault) -> Fault {
+        match fault {
+            ViewFault::Tag(position, why) => {
+                Fault::At(spot_of(texts, position), Refusal::Tag(why))
+            }
+            ViewFault::Part(position, why) => {
+                Fault::At(spot_of(texts, position), Refusal::Part(why))
+            }
+            ViewFault::Ambiguous(position) => {
+                Fault::At(spot_of(texts, position), Refusal::Ambiguous)
+            }
+            ViewFault::TooManyWays(position) => {
+                Fault::At(spot_of(texts, position), Refusal::TooManyWays)
+            }
+            ViewFault::Unfinished => Fault::Unfinished,
+            ViewFault::Memory => Fault::Memory,
+        }
+    }
+
+    /// The fault of data that has no page, for a view of these texts.
+    pub(crate) fn of_data(texts: &[&str], fault: DataFault) -> Fault {
+        match fault {
+            DataFault::Value(position, why) => {
+                Fault::At(spot_of(texts, position), Refusal::Value(why))
+            }
+            DataFault::Memory => Fault::Memory,
+        }
+    }
+
+    /// The fault of an input that is no JSON.
+    pub(crate) fn of_json(error: json::Error) -> Fault {
+        match error {
+            json::Error::Invalid => Fault::NotJson,
+            json::Error::DuplicateKey => Fault::RepeatedKey,
+            json::Error::OutOfMemory | json::Error::TooLong => Fault::Memory,
+        }
+    }
+}
+
+impl From<AllocError> for Fault {
+    ghost use Rattle.std.specs.Prelude.{◌≡◌};
+    ghost use Rattle.hesc_views.specs.declared.faults.Fault.TheVariants.{Memory};
+
+    ghost from_gives = { λ _ fault. fault ≡ Memory };
+
+    fn from(_refusal: AllocError) -> Fault {
+        Fault::Memory
+    }
+}

@@ -1,0 +1,132 @@
+//! The line of each fault: what is wrong, and where.
+use crate::faults::{Fault, Refusal};
+use html_template::{PartFault, TextFault};
+use html_view::{TagFault, ValueFault};
+use std::alloc::{AllocError, Allocator};
+
+/// The line of a fault of these files, which the program prints to standard error, without its line
+/// feed.
+///
+/// Of a slot in line 3 and column 14 of the first of the files, `page.html`, where no text may stand, it
+/// is `hesc: page.html:3:14: no text may stand here`.
+pub fn line_of<A: Allocator>(
+    alloc: A,
+    paths: &[&str],
+    fault: Fault,
+) -> Result<String<A>, AllocError> {
+    let mut line = String::new(alloc);
+    if fault != Fault::Usage {
+        line.push_str("hesc: ")?;
+    }
+    append_where(&mut line, paths, fault)?;
+    line.push_str(what_is_wrong(fault))?;
+    Ok(line)
+}
+
+// The path of a file, counted from 0.
+fn path_at<'w>(paths: &[&'w str], number: usize) -> &'w str {
+    match paths.get(number) {
+        Some(path) => *path,
+        None => "",
+    }
+}
+
+// Appends the file and the place in it, where the fault is of one.
+fn append_where<A: Allocator>(
+    line: &mut String<A>,
+    paths: &[&str],
+    fault: Fault,
+) -> Result<(), AllocError> {
+    match fault {
+        Fault::UnreadableFile(file) | Fault::FileNotUtf8(file) => {
+            line.push_str(path_at(paths, file))?;
+            line.push_str(": ")
+        }
+        Fault::Unfinished => {
+            line.push_str(path_at(paths, 0))?;
+            line.push_str(": ")
+        }
+        Fault::At(spot, _) => {
+            let path = path_at(paths, spot.file);
+            let row = spot.line;
+            let column = spot.column;
+            write!(line, "{path}:{row}:{column}: ")
+        }
+        Fault::Usage | Fault::Memory | Fault::Write => Ok(()),
+        Fault::UnreadableInput | Fault::InputNotUtf8 => Ok(()),
+        Fault::NotJson | Fault::RepeatedKey => Ok(()),
+    }
+}
+
+// What is wrong, in a few words.
+fn what_is_wrong(fault: Fault) -> &'static str {
+    match fault {
+        Fault::Usage => "usage: hesc COMMAND [ARGUMENT..]",
+        Fault::UnreadableFile(_) => "cannot be read",
+        Fault::FileNotUtf8(_) => "is not UTF-8",
+        Fault::At(_, Refusal::Tag(why)) => wrong_tag(why),
+        Fault::At(_, Refusal::Part(why)) => wrong_part(why),
+        Fault::At(_, Refusal::Value(why)) => wrong_value(why),
+        Fault::At(_, Refusal::Ambiguous) => {
+            "this slot stands in two places; write one slot for each"
+        }
+        Fault::At(_, Refusal::TooManyWays) => {
+            "too many sections stand within one tag; let each hold whole attributes or whole tags"
+        }
+        Fault::Unfinished => "ends within a tag, a comment, a reference or an element",
+        Fault::UnreadableInput => "input cannot be read",
+        Fault::InputNotUtf8 => "input is not UTF-8",
+        Fault::NotJson => "input is not JSON",
+        Fault::RepeatedKey => "input has a key twice in one object",
+        Fault::Memory => "out of memory",
+        Fault::Write => "output cannot be written",
+    }
+}
+
+fn wrong_tag(fault: TagFault) -> &'static str {
+    match fault {
+        TagFault::Unclosed => "no }} ends this tag",
+        TagFault::BadName => {
+            "bad name; a name is of letters, digits, _ and -, with dots between words"
+        }
+        TagFault::Raw => "no text stands in a page as it is; write {{name}}",
+        TagFault::BadTag => "no tag begins like this; for a {{ in the page write {{\"{{\"}}",
+        TagFault::Unopened => "nothing of this name is open here",
+        TagFault::Unended => "this has no end; write {{/name}}",
+        TagFault::NoPartial =>
+            "no such partial; give its file, in front of partials that ask for it",
+        TagFault::TooDeep => "more than 32 tags stand in one another",
+    }
+}
+
+fn wrong_part(fault: PartFault) -> &'static str {
+    match fault {
+        PartFault::Malformed => "browsers may not read this markup alike",
+        PartFault::NoPlace => "no text may stand here",
+        PartFault::Forbidden => "no text may stand here, since it would be read as code",
+        PartFault::NotPlain =>
+            "this URL has a slot; percent-encode white space, \\ and other references than &amp;",
+        PartFault::NotFixed => "the host of this URL is open; begin it with / or https://host/",
+        PartFault::DotSegment =>
+            "a segment of this URL may be . or ..; write other bytes beside the dots",
+        PartFault::AfterLink => "a slot is the whole URL; nothing may follow it there",
+    }
+}
+
+fn wrong_value(fault: ValueFault) -> &'static str {
+    match fault {
+        ValueFault::Missing => "no value has this name",
+        ValueFault::NotAText => "the value is no text",
+        ValueFault::Repeated => "the list has two items or more, and this section stands once",
+        ValueFault::Unfit(TextFault::EmptyUnquoted) => {
+            "the text is empty; write quotes around the slot"
+        }
+        ValueFault::Unfit(TextFault::EmptySegment) =>
+            "the text is empty, and a segment of a URL is not",
+        ValueFault::Unfit(TextFault::DotSegment) =>
+            "the text is . or .., and a segment of a URL is not",
+        ValueFault::Unfit(TextFault::NotALink) => {
+            "the text is no link; its scheme has to be http, https or mailto"
+        }
+    }
+}

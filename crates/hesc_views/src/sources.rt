@@ -1,0 +1,66 @@
+//! The files of a view.
+use crate::faults::Fault;
+use hesc_tool::read_whole;
+use std::alloc::Allocator;
+use std::fs;
+use std::io::{self, Read};
+use std::rt::Files;
+
+/// What opens files.
+pub trait Sources {
+    /// What reads a file.
+    type File: Read + Drop;
+
+    /// The file of this path.
+    fn open(&self, path: &str) -> io::Result<Self::File>;
+}
+
+/// The files of the system.
+#[derive(Clone, Copy)]
+pub struct HostFiles<'r, R>(pub &'r R);
+
+impl<R: Files> Sources for HostFiles<'_, R> {
+    type File = R::File;
+
+    fn open(&self, path: &str) -> io::Result<R::File> {
+        fs::open(self.0, path)
+    }
+}
+
+// The text of a file, counted from 0.
+fn read_file<A: Allocator, S: Sources>(
+    alloc: A,
+    sources: &S,
+    path: &str,
+    number: usize,
+) -> Result<String<A>, Fault> {
+    let Ok(mut file) = sources.open(path) else {
+        return Err(Fault::UnreadableFile(number));
+    };
+    let bytes = match read_whole(alloc, &mut file) {
+        Ok(bytes) => bytes,
+        Err(hesc_tool::Fault::Memory) => return Err(Fault::Memory),
+        Err(_) => return Err(Fault::UnreadableFile(number)),
+    };
+    match String::from_utf8(bytes) {
+        Ok(text) => Ok(text),
+        Err(_) => Err(Fault::FileNotUtf8(number)),
+    }
+}
+
+/// The texts of these files, in order.
+pub(crate) fn read_files<A: Allocator + Copy, S: Sources>(
+    alloc: A,
+    sources: &S,
+    paths: &[&str],
+) -> Result<Vec<String<A>, A>, Fault> {
+    let mut texts = Vec::new(alloc);
+    for (number, path) in paths.iter().enumerate() {
+        let text = read_file(alloc, sources, *path, number)?;
+        match texts.push(text) {
+            Ok(()) => {}
+            Err(_) => return Err(Fault::Memory),
+        }
+    }
+    Ok(texts)
+}

@@ -1,0 +1,1 @@
+//! What no contract says of the commands for views.
