@@ -1,0 +1,7 @@
+pub mod Words
+pub mod Names
+pub mod Places
+pub mod Faults
+pub mod Pages
+pub mod Run
+pub mod Program

@@ -1,5 +1,9 @@
 //! What can stand in place of a page, or of what a view has.
-use crate::place::{Spot, spot_of};
+ghost use Rattle.std.specs.Prelude.{◌≡◌};
+ghost use Rattle.hesc_views.specs.Faults.{data_fault, json_fault, status_of, view_fault};
+ghost use Rattle.hesc_views.specs.Places.{texts_in};
+
+use crate::place::{Spot, Texts, spot_of};
 use html_template::PartFault;
 use html_view::{DataFault, TagFault, ValueFault, ViewFault};
 use std::alloc::AllocError;
@@ -48,7 +52,9 @@ impl Fault {
     /// The status that the program ends with.
     ///
     /// `Fault::Usage.status()` is 2.
-    pub fn status(&self) -> u8 {
+    pub fn status(&self) -> u8
+        ensures { result ≡ status_of self.now }
+    {
         match self {
             Fault::Usage => 2,
             Fault::UnreadableFile(_) | Fault::FileNotUtf8(_) => 1,
@@ -60,7 +66,9 @@ impl Fault {
     }
 
     /// The fault of these texts, the view being the first, that are no view.
-    pub(crate) fn of_view(texts: &[&str], fault: ViewFault) -> Fault {
+    pub(crate) fn of_view(texts: Texts<'_>, fault: ViewFault) -> Fault
+        ensures { result ≡ view_fault (texts_in texts.entry) fault }
+    {
         match fault {
             ViewFault::Tag(position, why) => {
                 Fault::At(spot_of(texts, position), Refusal::Tag(why))
@@ -80,7 +88,9 @@ impl Fault {
     }
 
     /// The fault of data that has no page, for a view of these texts.
-    pub(crate) fn of_data(texts: &[&str], fault: DataFault) -> Fault {
+    pub(crate) fn of_data(texts: Texts<'_>, fault: DataFault) -> Fault
+        ensures { result ≡ data_fault (texts_in texts.entry) fault }
+    {
         match fault {
             DataFault::Value(position, why) => {
                 Fault::At(spot_of(texts, position), Refusal::Value(why))
@@ -90,7 +100,9 @@ impl Fault {
     }
 
     /// The fault of an input that is no JSON.
-    pub(crate) fn of_json(error: json::Error) -> Fault {
+    pub(crate) fn of_json(error: json::Error) -> Fault
+        ensures { result ≡ json_fault error }
+    {
         match error {
             json::Error::Invalid => Fault::NotJson,
             json::Error::DuplicateKey => Fault::RepeatedKey,
@@ -100,7 +112,6 @@ impl Fault {
 }
 
 impl From<AllocError> for Fault {
-    ghost use Rattle.std.specs.Prelude.{◌≡◌};
     ghost use Rattle.hesc_views.specs.declared.faults.Fault.TheVariants.{Memory};
 
     ghost from_gives = { λ _ fault. fault ≡ Memory };

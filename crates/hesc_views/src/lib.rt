@@ -20,7 +20,7 @@ pub use crate::check::append_nodes;
 pub use crate::faults::{Fault, Refusal};
 pub use crate::lines::line_of;
 pub use crate::names::partial_name;
-pub use crate::place::{Spot, spot_of};
+pub use crate::place::{Spot, Texts, spot_of};
 pub use crate::program::serve;
 pub use crate::render::page_of;
 pub use crate::sources::{HostFiles, Sources};

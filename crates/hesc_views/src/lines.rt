@@ -1,5 +1,16 @@
 //! The line of each fault: what is wrong, and where.
+ghost use Rattle.std.specs.Prelude.{◌≡◌, ◌++◌, map, string_bytes, IfOk, OnOk};
+ghost use Rattle.hesc_views.specs.Faults.{
+  front_of,
+  line_text,
+  what_is_wrong,
+  wrong_part,
+  wrong_tag,
+  wrong_value,
+};
+
 use crate::faults::{Fault, Refusal};
+use crate::place::at;
 use html_template::{PartFault, TextFault};
 use html_view::{TagFault, ValueFault};
 use std::alloc::{AllocError, Allocator};
@@ -13,53 +24,51 @@ pub fn line_of<A: Allocator>(
     alloc: A,
     paths: &[&str],
     fault: Fault,
-) -> Result<String<A>, AllocError> {
+) -> Result<String<A>, AllocError>
+    ensures { IfOk result (λ line. string_bytes line
+        ≡ line_text (map (λ path. path.now) paths.now) fault) }
+{
     let mut line = String::new(alloc);
-    if fault != Fault::Usage {
-        line.push_str("hesc: ")?;
-    }
-    append_where(&mut line, paths, fault)?;
+    append_front(&mut line, paths, fault)?;
     line.push_str(what_is_wrong(fault))?;
     Ok(line)
 }
 
-// The path of a file, counted from 0.
-fn path_at<'w>(paths: &[&'w str], number: usize) -> &'w str {
-    match paths.get(number) {
-        Some(path) => *path,
-        None => "",
-    }
-}
-
-// Appends the file and the place in it, where the fault is of one.
-fn append_where<A: Allocator>(
+// Appends who tells it, and the file and the place in it, where the fault is of one.
+fn append_front<A: Allocator>(
     line: &mut String<A>,
     paths: &[&str],
     fault: Fault,
-) -> Result<(), AllocError> {
+) -> Result<(), AllocError>
+    ensures { OnOk result (string_bytes line.new ≡ string_bytes line.old
+        ++ front_of (map (λ path. path.now) paths.now) fault) }
+{
     match fault {
+        Fault::Usage => Ok(()),
         Fault::UnreadableFile(file) | Fault::FileNotUtf8(file) => {
-            line.push_str(path_at(paths, file))?;
-            line.push_str(": ")
+            let path = at(paths, file);
+            write!(line, "hesc: {path}: ")
         }
         Fault::Unfinished => {
-            line.push_str(path_at(paths, 0))?;
-            line.push_str(": ")
+            let path = at(paths, 0);
+            write!(line, "hesc: {path}: ")
         }
         Fault::At(spot, _) => {
-            let path = path_at(paths, spot.file);
+            let path = at(paths, spot.file);
             let row = spot.line;
             let column = spot.column;
-            write!(line, "{path}:{row}:{column}: ")
+            write!(line, "hesc: {path}:{row}:{column}: ")
         }
-        Fault::Usage | Fault::Memory | Fault::Write => Ok(()),
-        Fault::UnreadableInput | Fault::InputNotUtf8 => Ok(()),
-        Fault::NotJson | Fault::RepeatedKey => Ok(()),
+        Fault::UnreadableInput | Fault::InputNotUtf8 => line.push_str("hesc: "),
+        Fault::NotJson | Fault::RepeatedKey => line.push_str("hesc: "),
+        Fault::Memory | Fault::Write => line.push_str("hesc: "),
     }
 }
 
 // What is wrong, in a few words.
-fn what_is_wrong(fault: Fault) -> &'static str {
+fn what_is_wrong(fault: Fault) -> &'static str
+    ensures { result.now ≡ what_is_wrong fault }
+{
     match fault {
         Fault::Usage => "usage: hesc COMMAND [ARGUMENT..]",
         Fault::UnreadableFile(_) => "cannot be read",
@@ -83,7 +92,9 @@ fn what_is_wrong(fault: Fault) -> &'static str {
     }
 }
 
-fn wrong_tag(fault: TagFault) -> &'static str {
+fn wrong_tag(fault: TagFault) -> &'static str
+    ensures { result.now ≡ wrong_tag fault }
+{
     match fault {
         TagFault::Unclosed => "no }} ends this tag",
         TagFault::BadName => {
@@ -99,7 +110,9 @@ fn wrong_tag(fault: TagFault) -> &'static str {
     }
 }
 
-fn wrong_part(fault: PartFault) -> &'static str {
+fn wrong_part(fault: PartFault) -> &'static str
+    ensures { result.now ≡ wrong_part fault }
+{
     match fault {
         PartFault::Malformed => "browsers may not read this markup alike",
         PartFault::NoPlace => "no text may stand here",
@@ -113,7 +126,9 @@ fn wrong_part(fault: PartFault) -> &'static str {
     }
 }
 
-fn wrong_value(fault: ValueFault) -> &'static str {
+fn wrong_value(fault: ValueFault) -> &'static str
+    ensures { result.now ≡ wrong_value fault }
+{
     match fault {
         ValueFault::Missing => "no value has this name",
         ValueFault::NotAText => "the value is no text",

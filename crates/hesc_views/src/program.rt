@@ -1,4 +1,10 @@
 //! The program: what it does with the words that the system gave it, and how it ends.
+ghost use Rattle.std.specs.Prelude.{◌≡◌, map};
+ghost use Rattle.hesc_tool.specs.Faults as tool;
+ghost use Rattle.hesc_tool.specs.Program.{words_given};
+ghost use Rattle.hesc_views.specs.Program.{EndsAs, ServedAs, Tells, TellsFault};
+ghost use Rattle.hesc_views.specs.Run.{RanAs};
+
 use crate::faults::Fault;
 use crate::lines::line_of;
 use crate::sources::Sources;
@@ -25,7 +31,11 @@ pub fn serve<A: Allocator, B: Allocator, S: Sources, R: Read, W: Write, E: Write
     input: &mut R,
     output: &mut W,
     errors: &mut E,
-) -> u8 {
+) -> u8
+    ensures { ServedAs (words_given args) (R.remaining input.old) (R.remaining input.new)
+        (W.contents output.old) (W.contents output.new)
+        (E.contents errors.old) (E.contents errors.new) result }
+{
     let args = match args {
         Ok(args) => args,
         Err(error) => return end_at_once(without_words(error), errors),
@@ -36,10 +46,8 @@ pub fn serve<A: Allocator, B: Allocator, S: Sources, R: Read, W: Write, E: Write
     let Ok(words) = lent(&alloc, words.as_slice()) else {
         return end_at_once(hesc_tool::Fault::Memory, errors);
     };
-    match run_and_flush(&alloc, heap, words.as_slice(), sources, input, output) {
-        Ok(()) => 0,
-        Err(fault) => end(&alloc, words.as_slice(), fault, errors),
-    }
+    let outcome = run_and_flush(&alloc, heap, words.as_slice(), sources, input, output);
+    end(&alloc, words.as_slice(), outcome, errors)
 }
 
 // Runs the command that the words name, and flushes what it wrote.
@@ -50,7 +58,10 @@ fn run_and_flush<A: Allocator, S: Sources, R: Read, W: Write>(
     sources: &S,
     input: &mut R,
     output: &mut W,
-) -> Result<(), Fault> {
+) -> Result<(), Fault>
+    ensures { RanAs (map (λ word. word.now) words.now) (R.remaining input.old) (R.remaining input.new)
+        (W.contents output.old) (W.contents output.new) result }
+{
     run(alloc, heap, words, sources, input, output)?;
     match output.flush() {
         Ok(()) => Ok(()),
@@ -58,22 +69,48 @@ fn run_and_flush<A: Allocator, S: Sources, R: Read, W: Write>(
     }
 }
 
-// The status of a fault, whose line goes to the error stream.
-fn end<A: Allocator, E: Write>(alloc: A, words: &[&str], fault: Fault, errors: &mut E) -> u8 {
-    match line_of(alloc, paths_in(words), fault) {
-        Ok(line) => {
-            let _ = write_line(line.as_str(), errors);
-            fault.status()
-        }
-        Err(_) => {
-            let _ = write_line(hesc_tool::Fault::Memory.line(), errors);
+// The status of the outcome. A fault's line goes to the error stream.
+fn end<A: Allocator, E: Write>(
+    alloc: A,
+    words: &[&str],
+    outcome: Result<(), Fault>,
+    errors: &mut E,
+) -> u8
+    ensures { EndsAs (map (λ word. word.now) words.now) outcome
+        (E.contents errors.old) (E.contents errors.new) result }
+{
+    match outcome {
+        Ok(()) => 0,
+        Err(fault) => {
+            tell_fault(alloc, paths_in(words), fault, errors);
             fault.status()
         }
     }
 }
 
-// The same of a fault before there were words.
-fn end_at_once<E: Write>(fault: hesc_tool::Fault, errors: &mut E) -> u8 {
-    let _ = write_line(fault.line(), errors);
+// Writes the line of a fault of these files, or that of `Memory` where there is none for the line.
+fn tell_fault<A: Allocator, E: Write>(alloc: A, paths: &[&str], fault: Fault, errors: &mut E)
+    ensures { TellsFault (map (λ path. path.now) paths.now) fault
+        (E.contents errors.old) (E.contents errors.new) }
+{
+    match line_of(alloc, paths, fault) {
+        Ok(line) => tell(line.as_str(), errors),
+        Err(_) => tell(hesc_tool::Fault::Memory.line(), errors),
+    }
+}
+
+// Writes a line, which is cut off where the stream fails.
+fn tell<E: Write>(line: &str, errors: &mut E)
+    ensures { Tells line.now (E.contents errors.old) (E.contents errors.new) }
+{
+    let _ = write_line(line, errors);
+}
+
+// The status of a fault before there were words, whose line goes to the error stream.
+fn end_at_once<E: Write>(fault: hesc_tool::Fault, errors: &mut E) -> u8
+    ensures status { result ≡ tool.status_of fault }
+    ensures line { Tells (tool.line_of fault) (E.contents errors.old) (E.contents errors.new) }
+{
+    tell(fault.line(), errors);
     fault.status()
 }

@@ -1,4 +1,7 @@
 //! The files of a view.
+ghost use Rattle.std.specs.Prelude.{IfErr};
+ghost use Rattle.hesc_views.specs.Run.{IsFileFault};
+
 use crate::faults::Fault;
 use hesc_tool::read_whole;
 use std::alloc::Allocator;
@@ -27,13 +30,15 @@ impl<R: Files> Sources for HostFiles<'_, R> {
     }
 }
 
-// The text of a file, counted from 0.
-fn read_file<A: Allocator, S: Sources>(
+/// The text of a file, counted from 0.
+pub(crate) fn read_file<A: Allocator, S: Sources>(
     alloc: A,
     sources: &S,
     path: &str,
     number: usize,
-) -> Result<String<A>, Fault> {
+) -> Result<String<A>, Fault>
+    ensures { IfErr result IsFileFault }
+{
     let Ok(mut file) = sources.open(path) else {
         return Err(Fault::UnreadableFile(number));
     };
@@ -48,15 +53,17 @@ fn read_file<A: Allocator, S: Sources>(
     }
 }
 
-/// The texts of these files, in order.
+/// The texts of these files, in order, which are counted from 1.
 pub(crate) fn read_files<A: Allocator + Copy, S: Sources>(
     alloc: A,
     sources: &S,
     paths: &[&str],
-) -> Result<Vec<String<A>, A>, Fault> {
+) -> Result<Vec<String<A>, A>, Fault>
+    ensures { IfErr result IsFileFault }
+{
     let mut texts = Vec::new(alloc);
     for (number, path) in paths.iter().enumerate() {
-        let text = read_file(alloc, sources, *path, number)?;
+        let text = read_file(alloc, sources, *path, number.saturating_add(1))?;
         match texts.push(text) {
             Ok(()) => {}
             Err(_) => return Err(Fault::Memory),

@@ -1,11 +1,19 @@
 //! The steps of a run: the files are read, the view is made of them, and what is to be written is made in
 //! memory and then written.
+ghost use Rattle.std.specs.Prelude.{◌≡◌, map, string_bytes, IfErr, IfOk, OnErr, OnOk};
+ghost use Rattle.std.specs.Io.KnownBytes.{Appends};
+ghost use Rattle.hesc_specs.specs.Text.Beginning.{AppendsBeginning};
+ghost use Rattle.hesc_tool.specs.Steps.{WasRead};
+ghost use Rattle.hesc_views.specs.Run.{Answers, IsMakingFault, RanAs};
+ghost use Rattle.hesc_views.specs.declared.faults.Fault.{Fault};
+
 use crate::check::append_nodes;
 use crate::faults::Fault;
 use crate::names::partial_name;
+use crate::place::Texts;
 use crate::render::page_of;
-use crate::sources::{Sources, read_files};
-use crate::words::{Call, Command, call_of, paths_in};
+use crate::sources::{Sources, read_file, read_files};
+use crate::words::{Call, Command, call_of};
 use hesc_tool::{lent, read_whole, write_whole};
 use html_view::View;
 use std::alloc::{AllocError, Allocator, Global};
@@ -26,24 +34,51 @@ pub fn run<A: Allocator, S: Sources, R: Read, W: Write>(
     sources: &S,
     input: &mut R,
     output: &mut W,
-) -> Result<(), Fault> {
+) -> Result<(), Fault>
+    ensures { RanAs (map (λ word. word.now) words.now) (R.remaining input.old) (R.remaining input.new)
+        (W.contents output.old) (W.contents output.new) result }
+{
     let Some(call) = call_of(words) else {
         return Err(Fault::Usage);
     };
-    let files = read_files(&alloc, sources, paths_in(words))?;
-    let texts = lent(&alloc, files.as_slice())?;
-    let made = answer_of(&alloc, heap, call, texts.as_slice(), input)?;
+    let made = answer_to(&alloc, heap, call, sources, input)?;
     written(made.as_str(), output)
 }
 
-// What the command answers to these texts, the view being the first.
+// What the command answers: its files are read first.
+fn answer_to<A: Allocator + Copy, S: Sources, R: Read>(
+    alloc: A,
+    heap: Global,
+    call: Call<'_>,
+    sources: &S,
+    input: &mut R,
+) -> Result<String<A>, Fault>
+    ensures made { IfOk result (λ text. Answers call.entry.command
+        (R.remaining input.old) (R.remaining input.new) (string_bytes text)) }
+    ensures fault { IfErr result IsMakingFault }
+{
+    let view = read_file(alloc, sources, call.view, 0)?;
+    let partials = read_files(alloc, sources, call.partials)?;
+    let partials = lent(alloc, partials.as_slice())?;
+    let texts = Texts {
+        view: view.as_str(),
+        partials: partials.as_slice(),
+    };
+    answer_of(alloc, heap, call, texts, input)
+}
+
+// What the command answers to these texts.
 fn answer_of<A: Allocator + Copy, R: Read>(
     alloc: A,
     heap: Global,
     call: Call<'_>,
-    texts: &[&str],
+    texts: Texts<'_>,
     input: &mut R,
-) -> Result<String<A>, Fault> {
+) -> Result<String<A>, Fault>
+    ensures made { IfOk result (λ text. Answers call.entry.command
+        (R.remaining input.old) (R.remaining input.new) (string_bytes text)) }
+    ensures fault { IfErr result IsMakingFault }
+{
     let view = view_of(alloc, call.partials, texts)?;
     match call.command {
         Command::Check => {
@@ -58,17 +93,16 @@ fn answer_of<A: Allocator + Copy, R: Read>(
     }
 }
 
-// The view of these texts, the first being its own and the others those of partials with these paths.
+// The view of these texts, of which the partials have these paths.
 fn view_of<'t, A: Allocator + Copy>(
     alloc: A,
     paths: &[&str],
-    texts: &[&'t str],
-) -> Result<View<'t, A>, Fault> {
-    let [source, others @ ..] = texts else {
-        return Err(Fault::Usage);
-    };
-    let partials = named(alloc, paths, others)?;
-    match View::parse(alloc, *source, partials.as_slice()) {
+    texts: Texts<'t>,
+) -> Result<View<'t, A>, Fault>
+    ensures { IfErr result IsMakingFault }
+{
+    let partials = named(alloc, paths, texts.partials)?;
+    match View::parse(alloc, texts.view, partials.as_slice()) {
         Ok(view) => Ok(view),
         Err(fault) => Err(Fault::of_view(texts, fault)),
     }
@@ -88,7 +122,11 @@ fn named<'w, 't, A: Allocator>(
 }
 
 // All of the input, which has to be a text.
-fn read_text<A: Allocator, R: Read>(alloc: A, input: &mut R) -> Result<String<A>, Fault> {
+fn read_text<A: Allocator, R: Read>(alloc: A, input: &mut R) -> Result<String<A>, Fault>
+    ensures whole { IfOk result
+        (λ text. WasRead (R.remaining input.old) (R.remaining input.new) (string_bytes text)) }
+    ensures fault { IfErr result IsMakingFault }
+{
     let bytes = match read_whole(alloc, input) {
         Ok(bytes) => bytes,
         Err(hesc_tool::Fault::Memory) => return Err(Fault::Memory),
@@ -100,7 +138,12 @@ fn read_text<A: Allocator, R: Read>(alloc: A, input: &mut R) -> Result<String<A>
     }
 }
 
-fn written<W: Write>(text: &str, output: &mut W) -> Result<(), Fault> {
+fn written<W: Write>(text: &str, output: &mut W) -> Result<(), Fault>
+    ensures all { OnOk result (Appends (W.contents output.old) (W.contents output.new) text.now) }
+    ensures began { OnErr result
+        (AppendsBeginning (W.contents output.old) (W.contents output.new) text.now) }
+    ensures fault { IfErr result (λ fault. fault ≡ Fault.Write) }
+{
     match write_whole(text.as_bytes(), output) {
         Ok(()) => Ok(()),
         Err(_) => Err(Fault::Write),
