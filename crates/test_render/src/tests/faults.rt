@@ -1,0 +1,348 @@
+//! The line of each fault, and its status.
+use crate::tests::serving::{Row, is_right, shown};
+use std::process::Abort;
+use std::test::Fail;
+
+/// Words, files by their paths, the input, the status, and the line.
+pub type Refusal = (
+    &'static [&'static str],
+    &'static [(&'static str, &'static [u8])],
+    &'static [u8],
+    u8,
+    &'static str,
+);
+
+/// The run of these.
+pub fn refusal(row: Refusal) -> Row {
+    let (words, files, input, status, line) = row;
+    Row {
+        words,
+        files,
+        input,
+        status,
+        written: b"",
+        line,
+    }
+}
+
+pub static REFUSALS: [Refusal; 43] = [
+    (&[], &[], b"", 2, "usage: hesc COMMAND [ARGUMENT..]\n"),
+    (
+        &["render"],
+        &[],
+        b"a",
+        2,
+        "usage: hesc COMMAND [ARGUMENT..]\n",
+    ),
+    (
+        &["check"],
+        &[],
+        b"a",
+        2,
+        "usage: hesc COMMAND [ARGUMENT..]\n",
+    ),
+    (
+        &["renders", "v"],
+        &[("v", b"")],
+        b"{}",
+        2,
+        "usage: hesc COMMAND [ARGUMENT..]\n",
+    ),
+    // Files.
+    (
+        &["render", "a.html"],
+        &[],
+        b"{}",
+        1,
+        "hesc: a.html: cannot be read\n",
+    ),
+    (
+        &["check", "v", "p/x.html"],
+        &[("v", b"")],
+        b"",
+        1,
+        "hesc: p/x.html: cannot be read\n",
+    ),
+    (
+        &["render", "v", "p"],
+        &[("v", b""), ("p", b"a\xFF")],
+        b"{}",
+        1,
+        "hesc: p: is not UTF-8\n",
+    ),
+    (
+        &["check", "v"],
+        &[("v", b"\xC3")],
+        b"",
+        1,
+        "hesc: v: is not UTF-8\n",
+    ),
+    // Tags.
+    (
+        &["check", "v"],
+        &[("v", b"\xC3\xA9\n  {{a")],
+        b"",
+        1,
+        "hesc: v:2:3: no }} ends this tag\n",
+    ),
+    (
+        &["check", "v"],
+        &[("v", b"x{{a b}}")],
+        b"",
+        1,
+        "hesc: v:1:2: bad name; a name is of letters, digits, _ and -, with dots between words\n",
+    ),
+    (
+        &["check", "v"],
+        &[("v", b"<p>\xC3\xA9{{{a}}}")],
+        b"",
+        1,
+        "hesc: v:1:5: no text stands in a page as it is; write {{name}}\n",
+    ),
+    (
+        &["check", "v"],
+        &[("v", b"\r\n{{*a}}")],
+        b"",
+        1,
+        "hesc: v:2:1: no tag begins like this; for a {{ in the page write {{\"{{\"}}\n",
+    ),
+    (
+        &["check", "v"],
+        &[("v", b"a\n\nb{{/x}}")],
+        b"",
+        1,
+        "hesc: v:3:2: nothing of this name is open here\n",
+    ),
+    (
+        &["check", "v"],
+        &[("v", b"{{#x}}")],
+        b"",
+        1,
+        "hesc: v:1:1: this has no end; write {{/name}}\n",
+    ),
+    (
+        &["check", "v"],
+        &[("v", b"{{>p}}")],
+        b"",
+        1,
+        "hesc: v:1:1: no such partial; give its file, in front of partials that ask for it\n",
+    ),
+    (
+        &["check", "v"],
+        &[(
+            "v",
+            b"{{#a}}{{#a}}{{#a}}{{#a}}{{#a}}{{#a}}{{#a}}{{#a}}{{#a}}{{#a}}{{#a}}\
+        {{#a}}{{#a}}{{#a}}{{#a}}{{#a}}{{#a}}{{#a}}{{#a}}{{#a}}{{#a}}{{#a}}\
+        {{#a}}{{#a}}{{#a}}{{#a}}{{#a}}{{#a}}{{#a}}{{#a}}{{#a}}{{#a}}{{#a}}",
+        )],
+        b"",
+        1,
+        "hesc: v:1:193: more than 32 tags stand in one another\n",
+    ),
+    (
+        &["check", "v", "p", "q"],
+        &[("v", b"{{>p}}"), ("p", b"\n {{>q}}"), ("q", b"")],
+        b"",
+        1,
+        "hesc: p:2:2: no such partial; give its file, in front of partials that ask for it\n",
+    ),
+    // Places.
+    (
+        &["check", "v"],
+        &[("v", b"<p a=b=c>")],
+        b"",
+        1,
+        "hesc: v:1:1: browsers may not read this markup alike\n",
+    ),
+    (
+        &["check", "v"],
+        &[("v", b"<p {{a}}>")],
+        b"",
+        1,
+        "hesc: v:1:4: no text may stand here\n",
+    ),
+    (
+        &["check", "v"],
+        &[("v", b"<p onclick=\"{{a}}\">")],
+        b"",
+        1,
+        "hesc: v:1:13: no text may stand here, since it would be read as code\n",
+    ),
+    (
+        &["check", "v"],
+        &[("v", b"<a href=\"/a b{{c}}\">")],
+        b"",
+        1,
+        "hesc: v:1:14: this URL has a slot; percent-encode white space, \\ and other references than &amp;\n",
+    ),
+    (
+        &["check", "v"],
+        &[("v", b"<a href=\"x{{a}}\">")],
+        b"",
+        1,
+        "hesc: v:1:11: the host of this URL is open; begin it with / or https://host/\n",
+    ),
+    (
+        &["check", "v"],
+        &[("v", b"<a href=\"/.{{a}}\">")],
+        b"",
+        1,
+        "hesc: v:1:12: a segment of this URL may be . or ..; write other bytes beside the dots\n",
+    ),
+    (
+        &["check", "v"],
+        &[("v", b"<a href=\"{{a}}/x\">")],
+        b"",
+        1,
+        "hesc: v:1:15: a slot is the whole URL; nothing may follow it there\n",
+    ),
+    // Ways.
+    (
+        &["check", "v"],
+        &[("v", b"<p title={{?x}}'{{/x}}{{^x}}\"{{/x}}a {{a}}'\">")],
+        b"",
+        1,
+        "hesc: v:1:38: this slot stands in two places; write one slot for each\n",
+    ),
+    (
+        &["check", "v"],
+        &[(
+            "v",
+            b"<p {{?a}}h{{/a}}{{?b}}r{{/b}}{{?c}}e{{/c}}{{?d}}f{{/d}}>",
+        )],
+        b"",
+        1,
+        "hesc: v:1:43: too many sections stand within one tag; let each hold whole attributes or whole tags\n",
+    ),
+    (
+        &["check", "a/v.html"],
+        &[("a/v.html", b"{{?a}}<p{{/a}}")],
+        b"",
+        1,
+        "hesc: a/v.html: ends within a tag, a comment, a reference or an element\n",
+    ),
+    // The input.
+    (
+        &["render", "v"],
+        &[("v", b"{{a}}")],
+        b"\"\xFF\"",
+        1,
+        "hesc: input is not UTF-8\n",
+    ),
+    (
+        &["render", "v"],
+        &[("v", b"{{a}}")],
+        b"",
+        1,
+        "hesc: input is not JSON\n",
+    ),
+    (
+        &["render", "v"],
+        &[("v", b"{{a}}")],
+        b"{\"a\": 1} x",
+        1,
+        "hesc: input is not JSON\n",
+    ),
+    (
+        &["render", "v"],
+        &[("v", b"{{a}}")],
+        b"{\"a\": 01}",
+        1,
+        "hesc: input is not JSON\n",
+    ),
+    (
+        &["render", "v"],
+        &[("v", b"{{a}}")],
+        b"{\"b\": [{\"a\": 1, \"\\u0061\": 2}]}",
+        1,
+        "hesc: input has a key twice in one object\n",
+    ),
+    // What is wrong with a view comes before what is wrong with the input.
+    (
+        &["render", "v"],
+        &[("v", b"<p {{a}}>")],
+        b"\xFF",
+        1,
+        "hesc: v:1:4: no text may stand here\n",
+    ),
+    // Values.
+    (
+        &["render", "v"],
+        &[("v", b"{{a}}")],
+        b"{}",
+        1,
+        "hesc: v:1:1: no value has this name\n",
+    ),
+    (
+        &["render", "v"],
+        &[("v", b"x\n{{#o}}\n{{o.a}}{{/o}}")],
+        b"{\"o\": {\"a\": null}}",
+        1,
+        "hesc: v:3:1: no value has this name\n",
+    ),
+    (
+        &["render", "v"],
+        &[("v", b"{{a}}")],
+        b"{\"a\": []}",
+        1,
+        "hesc: v:1:1: the value is no text\n",
+    ),
+    (
+        &["render", "v"],
+        &[("v", b" {{a}}")],
+        b"{\"a\": {}}",
+        1,
+        "hesc: v:1:2: the value is no text\n",
+    ),
+    (
+        &["render", "v"],
+        &[("v", b"<option {{#x}}selected{{/x}}>")],
+        b"{\"x\": [1, 2]}",
+        1,
+        "hesc: v:1:9: the list has two items or more, and this section stands once\n",
+    ),
+    (
+        &["render", "v"],
+        &[("v", b"<p title={{a}}>")],
+        b"{\"a\": \"\"}",
+        1,
+        "hesc: v:1:10: the text is empty; write quotes around the slot\n",
+    ),
+    (
+        &["render", "v"],
+        &[("v", b"<a href=\"/{{a}}\">")],
+        b"{\"a\": \"\"}",
+        1,
+        "hesc: v:1:11: the text is empty, and a segment of a URL is not\n",
+    ),
+    (
+        &["render", "v"],
+        &[("v", b"<a href=\"/{{a}}\">")],
+        b"{\"a\": \"..\"}",
+        1,
+        "hesc: v:1:11: the text is . or .., and a segment of a URL is not\n",
+    ),
+    (
+        &["render", "v"],
+        &[("v", b"<a href=\"{{a}}\">")],
+        b"{\"a\": \"javascript:x\"}",
+        1,
+        "hesc: v:1:10: the text is no link; its scheme has to be http, https or mailto\n",
+    ),
+    (
+        &["render", "v", "a/p.html"],
+        &[("v", b"{{>p}}"), ("a/p.html", b"<p>\n\xC3\xA9 {{a.b}}")],
+        b"{\"a\": 1}",
+        1,
+        "hesc: a/p.html:2:3: no value has this name\n",
+    ),
+];
+
+#[test]
+fn each_fault_has_its_status_and_its_line(rt: HostRuntime) -> Result<(), Fail> {
+    for &row in &REFUSALS {
+        let found = shown(rt.alloc(), refusal(row))?;
+        assert!(rt; is_right(rt.alloc(), refusal(row))?, "{:?}: {found}", row.4);
+    }
+    Ok(())
+}
