@@ -58,10 +58,7 @@ impl<T: Texts> Parts for Page<'_, T> {
 }
 
 /// Writes the page, or a beginning of it and then the writer's fault.
-pub fn write_page<T: Texts, W: Write>(
-    output: &mut W,
-    made: &Page<'_, T>,
-) -> Result<(), io::Error>
+pub fn write_page<T: Texts, W: Write>(output: &mut W, made: &Page<'_, T>) -> Result<(), io::Error>
     ensures { WritesText (W.contents output.old) (W.contents output.new)
         (page (map chunk_of made.now.pieces.now) (T.list made.now.texts)) result }
 {

@@ -14,19 +14,15 @@
 
 mod nodes;
 
+use crate::nodes::show_nodes;
 use html_view::View;
 use std::alloc::{AllocError, Global};
 use std::io;
 use std::str::Split;
 use test_support::shown::text_of;
 
-use crate::nodes::show_nodes;
-
 // The texts of the columns that are left.
-fn texts_of(
-    alloc: Global,
-    columns: Split<'_, char>,
-) -> Result<Vec<String>, AllocError> {
+fn texts_of(alloc: Global, columns: Split<'_, char>) -> Result<Vec<String>, AllocError> {
     let mut texts = Vec::new(alloc);
     for column in columns {
         texts.push(text_of(alloc, column)?)?;

@@ -13,7 +13,10 @@ fn word_of(times: Times) -> &'static str {
 
 /// Appends nodes.
 #[cycle(show)]
-pub fn show_nodes(shown: &mut String, nodes: &Vec<Node<'_, Placed<'_>, Global>>) -> Result<(), AllocError> {
+pub fn show_nodes(
+    shown: &mut String,
+    nodes: &Vec<Node<'_, Placed<'_>, Global>>,
+) -> Result<(), AllocError> {
     for node in nodes {
         show_node(shown, node)?;
     }
