@@ -1,6 +1,5 @@
 -- The page of a view for a JSON text.
 use Rattle.std.specs.Prelude.{◌≡◌, ⊤, ℕ, List, [], ◌∷◌, IsSomeAnd, Some, None, Result, Ok, Err, String, string_bytes}
-use Rattle.std.specs.Borrow.{Bor}
 use Rattle.html_template.specs.Structure.{IsPageOf}
 use Rattle.html_view.specs.JsonData.{datum_of_json}
 use Rattle.html_view.specs.Nodes.{Nodes, Placed}
@@ -9,8 +8,6 @@ use Rattle.html_view.specs.Views.{parts_of}
 use Rattle.html_view.specs.declared.faults.Position.{Position}
 use Rattle.json.specs.Json.{Json, document}
 use Rattle.json.specs.Strict.{HasUniqueKeys}
-use Rattle.json.specs.Value.{value_view}
-use Rattle.json.specs.declared.value.Value as json_value
 use Rattle.hesc_views.specs.Places.{spot_at}
 use Rattle.hesc_views.specs.declared.faults.Fault.{Fault}
 use Rattle.hesc_views.specs.declared.faults.Fault.TheVariants.{At, NotJson, RepeatedKey, Memory}
@@ -44,14 +41,6 @@ DataAnswers nodes texts value (Err (At spot (Value why))) =
     (position : Position) × (unrolled_for nodes value ≡ Err (position, why)) × (spot ≡ spot_at texts position)
 DataAnswers nodes texts value (Err Memory) = ⊤
 DataAnswers nodes texts value (Err other) = ⊥
-
--- the value of a JSON text, or what is wrong with the text
-abbrev pub ParsedAs : {A : Type 0} → List ℕ → Result (Bor (json_value.Value A)) Fault → Type 0
-ParsedAs json (Ok value) = IsStrictly json (value_view value.now)
-ParsedAs json (Err NotJson) = document json ≡ None
-ParsedAs json (Err RepeatedKey) = IsSomeAnd (document json) (λ value. HasUniqueKeys value → ⊥)
-ParsedAs json (Err Memory) = ⊤
-ParsedAs json (Err other) = ⊥
 
 -- the page for a JSON text, or the fault of the text, or that of its data
 abbrev pub PageAnswers : Nodes Placed → List (List ℕ) → List ℕ → Result (List ℕ) Fault → Type 0

@@ -9,21 +9,21 @@ ghost use Rattle.html_view.specs.Values.{datum_of, fields_of, items_in, stack_of
 /// A value: nothing, a text, a flag, a list, or named values, also as JSON has them. Of two values with
 /// one name the first counts.
 #[derive(Clone, Copy)]
-pub enum Value<'a> {
+pub enum Value<'a, 't> {
     Null,
     Text(&'a str),
     Flag(bool),
-    List(&'a [Value<'a>]),
-    Record(&'a [(&'a str, Value<'a>)]),
-    Array(&'a [json::Value<'a>]),
-    Object(&'a [(&'a str, json::Value<'a>)]),
+    List(&'a [Value<'a, 't>]),
+    Record(&'a [(&'a str, Value<'a, 't>)]),
+    Array(&'a [json::Value<'t>]),
+    Object(&'a [(&'t str, json::Value<'t>)]),
 }
 
-impl<'a> Value<'a> {
+impl<'a, 't> Value<'a, 't> {
     /// The value of JSON. A number is its text, as it is written.
     ///
     /// Of `[1.50]` the first item is the text `1.50`.
-    pub fn of_json(json: &'a json::Value<'a>) -> Value<'a>
+    pub fn of_json(json: &'a json::Value<'t>) -> Value<'a, 't>
         ensures { datum_of result ≡ datum_of_json (value_view json.now) }
     {
         match json {
@@ -39,14 +39,14 @@ impl<'a> Value<'a> {
 
 /// The items of a list.
 #[derive(Clone, Copy)]
-pub(crate) enum Items<'a> {
-    List(&'a [Value<'a>]),
-    Array(&'a [json::Value<'a>]),
+pub(crate) enum Items<'a, 't> {
+    List(&'a [Value<'a, 't>]),
+    Array(&'a [json::Value<'t>]),
 }
 
-impl<'a> Items<'a> {
+impl<'a, 't> Items<'a, 't> {
     /// The first item and the others.
-    pub(crate) fn take_first(self) -> Option<(Value<'a>, Items<'a>)>
+    pub(crate) fn take_first(self) -> Option<(Value<'a, 't>, Items<'a, 't>)>
         ensures some { IfSome result (λ r. items_in self.entry
             ≡ data_of.item (datum_of r.0) (items_in r.1)) }
         ensures none { IfNone result (items_in self.entry ≡ data_of.no_items) }
@@ -64,13 +64,13 @@ impl<'a> Items<'a> {
 
 /// A value and what is around it, or nothing.
 #[derive(Clone, Copy)]
-pub(crate) enum Around<'s, 'p> {
+pub(crate) enum Around<'s, 'p, 't> {
     Nothing,
-    Inside(Value<'p>, &'s Around<'s, 'p>),
+    Inside(Value<'p, 't>, &'s Around<'s, 'p, 't>),
 }
 
 // The first value of this name.
-fn field_of<'p>(fields: &'p [(&'p str, Value<'p>)], word: &str) -> Option<Value<'p>>
+fn field_of<'p, 't>(fields: &'p [(&'p str, Value<'p, 't>)], word: &str) -> Option<Value<'p, 't>>
     ensures { option_map datum_of result ≡ data_of.field_of word.now (fields_of fields.now) }
 {
     let mut rest = fields;
@@ -84,7 +84,7 @@ fn field_of<'p>(fields: &'p [(&'p str, Value<'p>)], word: &str) -> Option<Value<
 }
 
 // The first member of this name.
-fn member_in<'p>(members: &'p [(&'p str, json::Value<'p>)], word: &str) -> Option<Value<'p>>
+fn member_in<'p, 't>(members: &'p [(&'t str, json::Value<'t>)], word: &str) -> Option<Value<'p, 't>>
     ensures { option_map datum_of result
         ≡ data_of.field_of word.now (fields_of_json (members_view members.now)) }
 {
@@ -98,7 +98,7 @@ fn member_in<'p>(members: &'p [(&'p str, json::Value<'p>)], word: &str) -> Optio
     None
 }
 
-fn member_of<'p>(value: Value<'p>, word: &str) -> Option<Value<'p>>
+fn member_of<'p, 't>(value: Value<'p, 't>, word: &str) -> Option<Value<'p, 't>>
     ensures { option_map datum_of result ≡ data_of.member_of word.now (datum_of value.entry) }
 {
     match value {
@@ -110,7 +110,7 @@ fn member_of<'p>(value: Value<'p>, word: &str) -> Option<Value<'p>>
 }
 
 // The value of a word, from inside out.
-fn find<'s, 'p>(around: &Around<'s, 'p>, word: &str) -> Option<Value<'p>>
+fn find<'s, 'p, 't>(around: &Around<'s, 'p, 't>, word: &str) -> Option<Value<'p, 't>>
     ensures { option_map datum_of result ≡ data_of.around word.now (stack_of around.now) }
 {
     match around {
@@ -122,7 +122,7 @@ fn find<'s, 'p>(around: &Around<'s, 'p>, word: &str) -> Option<Value<'p>>
     }
 }
 
-fn innermost<'s, 'p>(around: &Around<'s, 'p>) -> Option<Value<'p>>
+fn innermost<'s, 'p, 't>(around: &Around<'s, 'p, 't>) -> Option<Value<'p, 't>>
     ensures { option_map datum_of result ≡ data_of.innermost (stack_of around.now) }
 {
     match around {
@@ -142,7 +142,7 @@ fn cut_word(words: &str) -> Option<(&str, &str)>
 }
 
 /// What a name means: the innermost value of its first word, and in that what its other words mean.
-pub(crate) fn look_up<'s, 'p>(name: &str, around: &Around<'s, 'p>) -> Option<Value<'p>>
+pub(crate) fn look_up<'s, 'p, 't>(name: &str, around: &Around<'s, 'p, 't>) -> Option<Value<'p, 't>>
     ensures { option_map datum_of result
         ≡ data_of.look_up (words_of name.now) (stack_of around.now) }
 {
@@ -159,7 +159,7 @@ pub(crate) fn look_up<'s, 'p>(name: &str, around: &Around<'s, 'p>) -> Option<Val
 }
 
 // What these words mean in a value.
-fn within<'p>(words: &str, value: Value<'p>) -> Option<Value<'p>>
+fn within<'p, 't>(words: &str, value: Value<'p, 't>) -> Option<Value<'p, 't>>
     ensures { option_map datum_of result
         ≡ data_of.within (words_behind [] words.now) (datum_of value.entry) }
 {

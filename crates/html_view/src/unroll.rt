@@ -77,7 +77,7 @@ impl<'p, A: Allocator + Copy> Made<'p, A> {
 }
 
 // The text for a slot, of what its name means.
-fn text_for<'p>(slot: &Placed, value: Option<Value<'p>>) -> Result<&'p str, ValueFault>
+fn text_for<'p, 't: 'p>(slot: &Placed, value: Option<Value<'p, 't>>) -> Result<&'p str, ValueFault>
     ensures ok { IfOk result (λ text. text_for (placed_of slot.now)
         (option_map datum_of value.entry) ≡ Ok text.now) }
     ensures err { IfErr result (λ fault. text_for (placed_of slot.now)
@@ -100,9 +100,9 @@ fn text_for<'p>(slot: &Placed, value: Option<Value<'p>>) -> Result<&'p str, Valu
     }
 }
 
-fn add_slot<'s, 'p, A: Allocator + Copy>(
+fn add_slot<'s, 'p, 't: 'p, A: Allocator + Copy>(
     slot: &Placed,
-    around: &'s Around<'s, 'p>,
+    around: &'s Around<'s, 'p, 't>,
     made: &mut Made<'p, A>,
 ) -> Result<(), DataFault>
     ensures { AddsFront (λ rest. unrolled (node.Slot (placed_of slot.now) rest)
@@ -121,18 +121,22 @@ fn add_slot<'s, 'p, A: Allocator + Copy>(
 
 // How the body of a section stands.
 #[derive(Clone, Copy)]
-enum Stand<'s, 'p> {
+enum Stand<'s, 'p, 't> {
     Never,
     // With this around.
-    Once(Around<'s, 'p>),
+    Once(Around<'s, 'p, 't>),
     // With each item around.
-    Each(Items<'p>),
+    Each(Items<'p, 't>),
     // It would stand more than once, and must not.
     Repeated,
 }
 
 // What is around in a body that stands once.
-fn around_body<'s, 'p>(times: Times, value: Value<'p>, around: &'s Around<'s, 'p>) -> Around<'s, 'p>
+fn around_body<'s, 'p, 't>(
+    times: Times,
+    value: Value<'p, 't>,
+    around: &'s Around<'s, 'p, 't>,
+) -> Around<'s, 'p, 't>
     ensures { stack_of result ≡ inside times (datum_of value.entry) (stack_of around.now) }
 {
     match times {
@@ -142,11 +146,11 @@ fn around_body<'s, 'p>(times: Times, value: Value<'p>, around: &'s Around<'s, 'p
 }
 
 // How the body of a section of a list stands.
-fn stand_of_list<'s, 'p>(
+fn stand_of_list<'s, 'p, 't>(
     times: Times,
-    items: Items<'p>,
-    around: &'s Around<'s, 'p>,
-) -> Stand<'s, 'p>
+    items: Items<'p, 't>,
+    around: &'s Around<'s, 'p, 't>,
+) -> Stand<'s, 'p, 't>
     ensures { StandsSo times (list_stacks times (items_in items.entry) (stack_of around.now))
         (stack_of around.now) result }
 {
@@ -164,11 +168,11 @@ fn stand_of_list<'s, 'p>(
 }
 
 // How the body of a section stands whose name means this.
-fn stand_of<'s, 'p>(
+fn stand_of<'s, 'p, 't>(
     times: Times,
-    value: Option<Value<'p>>,
-    around: &'s Around<'s, 'p>,
-) -> Stand<'s, 'p>
+    value: Option<Value<'p, 't>>,
+    around: &'s Around<'s, 'p, 't>,
+) -> Stand<'s, 'p, 't>
     ensures { StandsSo times (stacks times (option_map datum_of value.entry) (stack_of around.now))
         (stack_of around.now) result }
 {
@@ -192,9 +196,9 @@ fn stand_of<'s, 'p>(
 
 // Adds what data makes of a node.
 #[cycle(add)]
-fn add_node<'s, 'a: 'p, 'p, A: Allocator + Copy>(
+fn add_node<'s, 'a: 'p, 'p, 't: 'p, A: Allocator + Copy>(
     node: &Node<'a, Placed<'a>, A>,
-    around: &'s Around<'s, 'p>,
+    around: &'s Around<'s, 'p, 't>,
     made: &mut Made<'p, A>,
 ) -> Result<(), DataFault>
     ensures { AddsFront (λ rest. unrolled (placed_node node.now rest) (stack_of around.now))
@@ -220,10 +224,10 @@ fn add_node<'s, 'a: 'p, 'p, A: Allocator + Copy>(
 
 // Adds what data makes of a body, once for each item.
 #[cycle(add)]
-fn add_each<'s, 'a: 'p, 'p, A: Allocator + Copy>(
+fn add_each<'s, 'a: 'p, 'p, 't: 'p, A: Allocator + Copy>(
     body: &Vec<Node<'a, Placed<'a>, A>, A>,
-    items: Items<'p>,
-    around: &'s Around<'s, 'p>,
+    items: Items<'p, 't>,
+    around: &'s Around<'s, 'p, 't>,
     made: &mut Made<'p, A>,
 ) -> Result<(), DataFault>
     ensures { Adds (unrolled_each (λ inner. unrolled (nodes_of body.now.items) inner)
@@ -241,9 +245,9 @@ fn add_each<'s, 'a: 'p, 'p, A: Allocator + Copy>(
 
 // Adds what data makes of nodes, one after the other.
 #[cycle(add)]
-pub(crate) fn add_nodes<'s, 'a: 'p, 'p, A: Allocator + Copy>(
+pub(crate) fn add_nodes<'s, 'a: 'p, 'p, 't: 'p, A: Allocator + Copy>(
     nodes: &Vec<Node<'a, Placed<'a>, A>, A>,
-    around: &'s Around<'s, 'p>,
+    around: &'s Around<'s, 'p, 't>,
     made: &mut Made<'p, A>,
 ) -> Result<(), DataFault>
     ensures { Adds (unrolled (nodes_of nodes.now.items) (stack_of around.now))

@@ -92,7 +92,7 @@ impl<'a, A: Allocator + Copy> View<'a, A> {
     }
 
     // What data makes of the nodes.
-    fn unroll<'p>(&self, value: Value<'p>) -> Result<Made<'p, A>, DataFault>
+    fn unroll<'p, 't: 'p>(&self, value: Value<'p, 't>) -> Result<Made<'p, A>, DataFault>
     where
         'a: 'p,
         ensures told { Answers (unrolled_by self.now (datum_of value.entry)) unrolling_of result }
@@ -113,10 +113,10 @@ impl<'a, A: Allocator + Copy> View<'a, A> {
     /// it makes a page of the joined parts.
     ///
     /// Of `<p>`, a slot named `a` and `</p>`, the page of a record whose `a` is `x<y` is `<p>x&lt;y</p>`.
-    pub fn append<'p, B: Allocator>(
+    pub fn append<'p, 't: 'p, B: Allocator>(
         &self,
         output: &mut String<B>,
-        value: Value<'p>,
+        value: Value<'p, 't>,
     ) -> Result<(), DataFault>
     where
         'a: 'p,
@@ -135,10 +135,10 @@ impl<'a, A: Allocator + Copy> View<'a, A> {
     /// own fault a beginning of the page was.
     ///
     /// Of `<p>`, a slot named `a` and `</p>`, the page of a record whose `a` is `x<y` is `<p>x&lt;y</p>`.
-    pub fn append_to_writer<'p, W: Write>(
+    pub fn append_to_writer<'p, 't: 'p, W: Write>(
         &self,
         output: &mut W,
-        value: Value<'p>,
+        value: Value<'p, 't>,
     ) -> Result<(), WriteFault<DataFault>>
     where
         'a: 'p,

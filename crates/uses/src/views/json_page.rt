@@ -1,7 +1,9 @@
-//! A caller of views: the page of data that comes as JSON. The contract says that a page stays a page.
-ghost use Rattle.std.specs.Prelude.{OnOk};
+//! A caller of views: the page of data that comes as JSON. The contract says of which template it is a page.
+ghost use Rattle.std.specs.Prelude.{IfSome, OnOk};
 ghost use Rattle.std.specs.String.{string_bytes};
-ghost use Rattle.uses.specs.Views.Pages.{IsPage};
+ghost use Rattle.json.specs.Json.{document};
+ghost use Rattle.html_view.specs.JsonData.{datum_of_json};
+ghost use Rattle.html_view.specs.Views.{AddsPage, unrolled_by};
 
 use html_view::{DataFault, Value, View};
 use json::Scratch;
@@ -16,14 +18,16 @@ pub enum JsonPageFault {
     Data(DataFault),
 }
 
-/// Appends the page of a JSON text. Behind pages it makes a page of them all.
-pub fn append_json_page(
+/// Appends the page of a JSON text. Behind a page it makes a page of the joined parts.
+pub fn append_json_page<'t>(
     alloc: Global,
     output: &mut String,
-    view: &View<'_>,
-    text: &str,
+    view: &View<'t>,
+    text: &'t str,
 ) -> Result<(), JsonPageFault>
-    ensures { OnOk result (IsPage (string_bytes output.old) → IsPage (string_bytes output.new)) }
+    ensures { OnOk result (IfSome (document text.now) (λ value.
+        AddsPage (unrolled_by view.now (datum_of_json value))
+        (string_bytes output.old) (string_bytes output.new))) }
 {
     let mut scratch = Scratch::new(alloc);
     let json = match json::Value::parse_strict(alloc, text, &mut scratch) {

@@ -11,10 +11,10 @@ use html_view::{DataFault, Value, View, laws};
 
 /// Appends a page for each of two values. Of two of one form, with lists as long and the same flags, the
 /// pages have one structure.
-pub fn append_two_pages(
-    view: &View<'_>,
-    first: Value<'_>,
-    second: Value<'_>,
+pub fn append_two_pages<'a>(
+    view: &View<'a>,
+    first: Value<'a, 'a>,
+    second: Value<'a, 'a>,
     one: &mut String,
     other: &mut String,
 ) -> Result<(), DataFault>
