@@ -82,10 +82,10 @@ module _ (partials : List PartialText) (given : List Block) (tag : Tag) where
       → ((x : Nodes Asked) → front x ≡ all_marked spaces x)
       → ((rest : Nodes Asked) → others node.End ≡ all_marked spaces rest → new after ≡ old (sectioned tag times spaces (body node.End) rest after))
       → AddsTag partials given tag here old new next after
-  adds_sides times begun turned unless spaces here middle behind next none body front others old new after is opens adds empty turns turns_is other spaced added =
+  adds_sides times begun turned unless spaces here middle behind next none body front others old new after is opens adds empty turning turns_is other spaced added =
       record {
         found = sectioned tag times spaces adds.found other.found after;
-        stands = both_sides is (subst (λ b. Reads partials given b here node.End adds.found middle) opens adds.reads) turns
+        stands = both_sides is (subst (λ b. Reads partials given b here node.End adds.found middle) opens adds.reads) turning
             (subst (λ b. Reads partials given b behind node.End other.found next) turns_is other.reads);
         same = added other.found (other.same ∙ spaced other.found)
             ∙ ap (λ n. old (sectioned tag times spaces n other.found after)) (adds.same ∙ empty adds.found);

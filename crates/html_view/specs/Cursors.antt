@@ -3,6 +3,9 @@ use Rattle.std.specs.Prelude.{◌≡◌, ℕ, ◌+◌, Bool, true, false, List, 
 use Rattle.html_view.specs.Lines.{before_line, behind_line}
 use Rattle.html_view.specs.Tags.{IsTag, Lacks, closing, may_be_lone, opening}
 use Rattle.html_view.specs.declared.faults.Position.{Position}
+use Rattle.html_view.specs.declared.faults.TagFault.TheVariants.{Unclosed}
+use Rattle.html_view.specs.declared.faults.ViewFault.{ViewFault}
+use Rattle.html_view.specs.declared.faults.ViewFault.TheVariants as view
 use Rattle.html_view.specs.declared.source.cursor.Cursor.{Cursor}
 use Rattle.html_view.specs.declared.source.cursor.Tag.{Tag}
 use Rattle.html_view.specs.declared.source.tag.Sign.{Sign}
@@ -65,3 +68,17 @@ pub record PassesTag (here : Here) (markup : List ℕ) (tag : Tag) (next : Here)
 abbrev pub Passes : Here → List ℕ → Option Tag → Here → Type 0
 Passes here markup (Some tag) next = PassesTag here markup tag next
 Passes here markup None next = (markup ≡ here.rest) × Lacks opening here.rest
+
+-- ---- faults
+
+-- `{{` stands first from here behind these bytes, at this place
+pub record OpensAt (here : Here) (place : Position) (opened : List ℕ) : Type 0 where
+  pub before : List ℕ
+  pub whole : here.rest ≡ before ++ (opening ++ opened)
+  pub first : Lacks opening before
+  pub place_is : place ≡ record { text = here.text; byte = here.byte + length before }
+
+-- where no `}}` follows the tag is unclosed, and else what stands before that is no tag
+abbrev pub AnswersTag : Here → ViewFault → Type 0
+AnswersTag here (view.Tag place why) = (opened : List ℕ) × OpensAt here place opened × (why ≡ Unclosed → Lacks closing opened)
+AnswersTag here other = ⊥

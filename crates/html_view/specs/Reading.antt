@@ -7,6 +7,9 @@ use Rattle.html_view.specs.Names.{words_of}
 use Rattle.html_view.specs.Nodes as node
 use Rattle.html_view.specs.Nodes.{Asked, Nodes, Opening}
 use Rattle.html_view.specs.Tags.{Lacks, opening}
+use Rattle.html_view.specs.declared.faults.TagFault.TheVariants.{Unended, Unopened}
+use Rattle.html_view.specs.declared.faults.ViewFault.{ViewFault}
+use Rattle.html_view.specs.declared.faults.ViewFault.TheVariants as view
 use Rattle.html_view.specs.declared.node.Times.{Times}
 use Rattle.html_view.specs.declared.node.Times.TheVariants as times
 use Rattle.html_view.specs.declared.node.Times.TheVariants.{Whether}
@@ -36,6 +39,13 @@ abbrev pub Closes : Option Tag → Option Tag → Type 0
 Closes None None = ⊤
 Closes (Some end) (Some begun) = end.name.now ≡ begun.name.now
 Closes found begun = ⊥
+
+-- and else this is at fault
+abbrev pub end_fault : Option Tag → Option Tag → Option ViewFault
+end_fault None None = None
+end_fault None (Some begun) = Some (view.Tag begun.position Unended)
+end_fault (Some end) None = Some (view.Tag end.position Unopened)
+end_fault (Some end) (Some begun) = if bytes_eq end.name.now begun.name.now then None else Some (view.Tag end.position Unopened)
 
 -- what is open ends behind this markup
 pub record Ends (begun : Option Tag) (here : Here) (markup : List ℕ) (next : Here) : Type 0 where

@@ -12,6 +12,8 @@
 //! are wrong.
 #![tactic(auto)]
 
+#[cfg(test)]
+mod memory;
 mod nodes;
 
 use crate::nodes::show_nodes;

@@ -1,6 +1,9 @@
 //! What is around nodes that are read.
-ghost use Rattle.std.specs.Prelude.{◌≡◌, ◌+◌, IfOk, OnOk, Some};
-ghost use Rattle.html_view.specs.Reading.{Closes};
+ghost use Rattle.std.specs.Prelude.{◌≡◌, ◌+◌, IfErr, IfOk, OnOk, Some};
+ghost use Rattle.std.specs.Result.{result_err};
+ghost use Rattle.html_view.specs.Reading.{Closes, end_fault};
+ghost use Rattle.html_view.specs.declared.faults.TagFault.TheVariants.{TooDeep};
+ghost use Rattle.html_view.specs.declared.faults.ViewFault.TheVariants as view;
 
 use crate::faults::{TagFault, ViewFault};
 use crate::source::cursor::Tag;
@@ -22,6 +25,8 @@ impl<'a> Around<'a> {
     pub(crate) fn within(self, tag: Tag<'a>) -> Result<Around<'a>, ViewFault>
         ensures begun { IfOk result (λ around. around.begun ≡ Some tag.entry) }
         ensures levels { IfOk result (λ around. around.levels + 1 ≡ self.entry.levels) }
+        ensures fault { IfErr result (λ fault. (self.entry.levels ≡ 0)
+            × (fault ≡ view.Tag tag.entry.position TooDeep)) }
     {
         let levels = deeper(self.levels, tag)?;
         Ok(Around {
@@ -33,7 +38,8 @@ impl<'a> Around<'a> {
 
 /// How many levels may still come within what this tag opens.
 pub(crate) fn deeper(levels: usize, tag: Tag<'_>) -> Result<usize, ViewFault>
-    ensures { IfOk result (λ left. left + 1 ≡ levels) }
+    ensures left { IfOk result (λ left. left + 1 ≡ levels) }
+    ensures fault { IfErr result (λ fault. (levels ≡ 0) × (fault ≡ view.Tag tag.entry.position TooDeep)) }
 {
     match levels.checked_sub(1) {
         Some(levels) => Ok(levels),
@@ -43,7 +49,8 @@ pub(crate) fn deeper(levels: usize, tag: Tag<'_>) -> Result<usize, ViewFault>
 
 /// Whether what was found ends what is begun: a tag, or the text.
 pub(crate) fn end(found: Option<Tag<'_>>, begun: Option<Tag<'_>>) -> Result<(), ViewFault>
-    ensures { OnOk result (Closes found.entry begun.entry) }
+    ensures closes { OnOk result (Closes found.entry begun.entry) }
+    ensures fault { result_err result ≡ end_fault found.entry begun.entry }
 {
     match (found, begun) {
         (None, None) => Ok(()),

@@ -1,5 +1,5 @@
 //! A cursor over one text: the next tag, and the markup before it.
-ghost use Rattle.std.specs.Prelude.{◌≡◌, ◌+◌, ◌++◌, ◌<◌, ◌≤◌, ◌^◌, IfNone, IfOk, IfSome, IsSome, length};
+ghost use Rattle.std.specs.Prelude.{◌≡◌, ◌+◌, ◌++◌, ◌<◌, ◌≤◌, ◌^◌, IfErr, IfNone, IfOk, IfSome, IsSome, length};
 ghost use Rattle.html_view.specs.Tags.{Lacks};
 
 use crate::faults::{Position, TagFault, ViewFault};
@@ -35,7 +35,7 @@ pub(crate) struct Cursor<'a> {
 }
 
 impl<'a> Cursor<'a> {
-    ghost use Rattle.html_view.specs.Cursors.{IsBehind, Passes, first, here_of, left, position};
+    ghost use Rattle.html_view.specs.Cursors.{AnswersTag, IsBehind, Passes, first, here_of, left, position};
 
     /// At the beginning of the text with this number.
     pub(crate) fn new(text: usize, source: &'a str) -> Cursor<'a>
@@ -60,6 +60,7 @@ impl<'a> Cursor<'a> {
     pub(crate) fn next(&mut self) -> Result<Piece<'a>, ViewFault>
         ensures passes { IfOk result (λ piece.
             Passes (here_of self.old) piece.markup.now piece.tag (here_of self.new)) }
+        ensures fault { IfErr result (AnswersTag (here_of self.old)) }
         ensures position { IfOk result (λ piece. piece.position ≡ position (here_of self.old)) }
         ensures shorter { length self.new.rest.now ≤ length self.old.rest.now }
         ensures less { IfOk result (λ piece. IsSome piece.tag

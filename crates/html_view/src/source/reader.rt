@@ -1,5 +1,5 @@
 //! Reading nodes from the texts of a view.
-ghost use Rattle.std.specs.Prelude.{◌≡◌, ◌≢◌, ◌≤◌, IfOk, OnOk, Some, length};
+ghost use Rattle.std.specs.Prelude.{◌≡◌, ◌≢◌, ◌≤◌, IfErr, IfOk, None, OnOk, Some, length};
 ghost use Rattle.html_view.specs.Cursors.{Here, here_of};
 ghost use Rattle.html_view.specs.Kept.{asked_nodes};
 ghost use Rattle.html_view.specs.Nodes as spec;
@@ -10,6 +10,8 @@ ghost use Rattle.html_view.specs.Reading.{
   partials_of,
   times_of,
 };
+ghost use Rattle.html_view.specs.declared.faults.TagFault.TheVariants.{NoPartial};
+ghost use Rattle.html_view.specs.declared.faults.ViewFault.TheVariants as view;
 ghost use Rattle.html_view.specs.declared.source.tag.Sign.TheVariants as sign;
 
 use crate::faults::{TagFault, ViewFault};
@@ -234,8 +236,10 @@ impl<'a, 'p, 'g, A: Allocator + Copy> Reader<'a, 'p, 'g, A> {
     // The partial that a tag asks for in the text with this number: the last one of its name that stands
     // before the text.
     fn partial(&self, text: usize, tag: Tag<'a>) -> Result<Cursor<'a>, ViewFault>
-        ensures { IfOk result (λ start. asked_partial 1 (partials_of self.now.partials.now) text
+        ensures start { IfOk result (λ start. asked_partial 1 (partials_of self.now.partials.now) text
             tag.entry.name.now ≡ Some (here_of start)) }
+        ensures fault { IfErr result (λ fault. (fault ≡ view.Tag tag.entry.position NoPartial)
+            × (asked_partial 1 (partials_of self.now.partials.now) text tag.entry.name.now ≡ None)) }
     {
         let mut found = None;
         for index in 0..self.partials.len() {

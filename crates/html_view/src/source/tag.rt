@@ -1,5 +1,5 @@
 //! A tag: a sign and a name, cut out of what stands between `{{` and `}}`.
-ghost use Rattle.std.specs.Prelude.{◌≡◌, ◌≢◌, ◌∷◌, ◌++◌, [], IfOk, IsTrue};
+ghost use Rattle.std.specs.Prelude.{◌≡◌, ◌≢◌, ◌∷◌, ◌++◌, [], IfErr, IfOk, IsTrue};
 ghost use Rattle.std.specs.List.{AllByRecursion};
 ghost use Rattle.html_view.specs.Names.{words_behind};
 ghost use Rattle.html_view.specs.Reading.{has_end};
@@ -14,6 +14,7 @@ ghost use Rattle.html_view.specs.Tags.{
   may_be_lone,
   sign_text,
 };
+ghost use Rattle.html_view.specs.declared.faults.TagFault.TheVariants.{Unclosed};
 ghost use Rattle.html_view.specs.declared.source.tag.Sign.TheVariants.{Slot};
 
 use crate::faults::TagFault;
@@ -89,7 +90,8 @@ impl Sign {
 
 /// The sign and the name of a tag with this between `{{` and `}}`.
 pub(crate) fn signed_name(inside: &str) -> Result<SignedName<'_>, TagFault>
-    ensures { IfOk result (λ found. IsTag found.sign found.name.now inside.now) }
+    ensures tag { IfOk result (λ found. IsTag found.sign found.name.now inside.now) }
+    ensures fault { IfErr result (λ fault. fault ≢ Unclosed) }
 {
     let found = signed(inside.trim_start())?;
     let sign = found.sign;
@@ -103,7 +105,8 @@ pub(crate) fn signed_name(inside: &str) -> Result<SignedName<'_>, TagFault>
 
 // The sign with which a text begins, and what stands behind it.
 fn signed(text: &str) -> Result<SignedName<'_>, TagFault>
-    ensures { IfOk result (λ found. text.now ≡ sign_text found.sign ++ found.name.now) }
+    ensures parts { IfOk result (λ found. text.now ≡ sign_text found.sign ++ found.name.now) }
+    ensures fault { IfErr result (λ fault. fault ≢ Unclosed) }
 {
     if let Some(name) = text.strip_prefix(QUOTED_OPENING) {
         return Ok(SignedName {
@@ -125,7 +128,8 @@ fn signed(text: &str) -> Result<SignedName<'_>, TagFault>
 }
 
 fn sign_of(first: char) -> Result<Sign, TagFault>
-    ensures { IfOk result (λ sign. sign ≢ Slot → sign_text sign ≡ first ∷ []) }
+    ensures sign { IfOk result (λ sign. sign ≢ Slot → sign_text sign ≡ first ∷ []) }
+    ensures fault { IfErr result (λ fault. fault ≢ Unclosed) }
 {
     match first {
         '!' => Ok(Sign::Comment),

@@ -11,7 +11,7 @@ returns-in-Some-clause-skips t c =
     let passes : Passes (here_of c.loop-piece.cursor) c.in_ok-piece.piece.markup.now (Some c.in-Some.tag) (here_of c.next.new.self) =
     rw c.in-Some.is at c.in_ok-piece.ensures.passes in
     let is : c.in-Some.tag.sign ≡ End = search rules in
-    on_ok c.end-in-Some.result _ _ c.end-in-Some.ensures
+    on_ok c.end-in-Some.result _ _ c.end-in-Some.ensures.closes
     (λ closes. c.loop-piece.invariant.leads (here_of c.next.new.self)
     (skips_to_end (record {
       found = Some c.in-Some.tag;

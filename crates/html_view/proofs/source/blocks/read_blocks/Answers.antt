@@ -15,7 +15,7 @@ returns-in-Some-clause-gives g c =
     rw c.in-Some.is at c.in_ok-piece.ensures.passes in
     let is : c.in-Some.tag.sign ≡ End = search rules in
     let outer : c.len-outer.result ≡ length c.args.given.now.items = search rules in
-    on_ok c.end-in-Some.result _ _ c.end-in-Some.ensures
+    on_ok c.end-in-Some.result _ _ c.end-in-Some.ensures.closes
     (λ closes.
     let all = c.loop-piece.invariant.leads [] (here_of c.next.new.self)
     (gives_none (record {
