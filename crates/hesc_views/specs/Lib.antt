@@ -3,5 +3,6 @@ pub mod Names
 pub mod Places
 pub mod Faults
 pub mod Pages
+pub mod Checks
 pub mod Run
 pub mod Program

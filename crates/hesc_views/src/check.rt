@@ -1,4 +1,16 @@
 //! What slots and sections a view has.
+ghost use Rattle.std.specs.Prelude.{◌≡◌, ◌++◌, option_map, string_bytes, OnOk};
+ghost use Rattle.hesc_views.specs.Checks.{
+  body_sign,
+  kind_word,
+  lines_of,
+  node_lines,
+  otherwise_sign,
+  place_word,
+  slot_line,
+  tag_line,
+};
+
 use html_template::{SlotKind, SlotPlace};
 use html_urls::UrlPlace;
 use html_view::{Node, Opening, Placed, Times};
@@ -13,7 +25,10 @@ use std::alloc::{AllocError, Allocator};
 pub fn append_nodes<A: Allocator, B: Allocator>(
     output: &mut String<B>,
     nodes: &Vec<Node<'_, Placed<'_>, A>, A>,
-) -> Result<(), AllocError> {
+) -> Result<(), AllocError>
+    ensures { OnOk result
+        (string_bytes output.new ≡ string_bytes output.old ++ lines_of nodes.now.items) }
+{
     for node in nodes {
         append_node(output, node)?;
     }
@@ -24,52 +39,64 @@ pub fn append_nodes<A: Allocator, B: Allocator>(
 fn append_node<A: Allocator, B: Allocator>(
     output: &mut String<B>,
     node: &Node<'_, Placed<'_>, A>,
-) -> Result<(), AllocError> {
+) -> Result<(), AllocError>
+    ensures { OnOk result
+        (string_bytes output.new ≡ string_bytes output.old ++ node_lines node.now) }
+{
     match node {
         Node::Markup(_, _) => Ok(()),
         Node::Slot(slot) => append_slot(output, slot),
         Node::Section(opening, body, otherwise) => {
-            if has_own_tag(opening.times, body.is_empty(), otherwise.is_empty()) {
-                append_opening(output, sign_of(opening.times), opening)?;
-            }
+            let sign = body_sign(opening.times, body.is_empty(), otherwise.is_empty());
+            append_tag(output, sign, opening)?;
             append_nodes(output, body)?;
-            if otherwise.is_empty() {
-                return Ok(());
-            }
-            append_opening(output, "^", opening)?;
+            append_tag(output, otherwise_sign(otherwise.is_empty()), opening)?;
             append_nodes(output, otherwise)
         }
     }
 }
 
-// Whether a section has a tag of its own for its body: not one of `{{^x}}` alone, and not one that stands
-// around a section of this name for white space.
-fn has_own_tag(times: Times, is_bodiless: bool, is_always: bool) -> bool {
+// The sign of the tag that opens a body, by whether there is no body, and nothing that stands where it does
+// not. `{{^x}}` alone has none, nor has a section that stands around others of its name for white space.
+fn body_sign(times: Times, is_bodiless: bool, is_always: bool) -> Option<&'static str>
+    ensures { option_map (λ sign. sign.now) result ≡ body_sign times is_bodiless is_always }
+{
     match times {
-        Times::Each | Times::Once => true,
-        Times::If => !is_bodiless || is_always,
-        Times::Whether => false,
+        Times::Each | Times::Once => Some("#"),
+        Times::If if is_bodiless && !is_always => None,
+        Times::If => Some("?"),
+        Times::Whether => None,
     }
 }
 
-fn sign_of(times: Times) -> &'static str {
-    match times {
-        Times::Each | Times::Once => "#",
-        Times::If | Times::Whether => "?",
-    }
+// The sign of the tag that opens what stands where a body does not.
+fn otherwise_sign(is_always: bool) -> Option<&'static str>
+    ensures { option_map (λ sign. sign.now) result ≡ otherwise_sign is_always }
+{
+    if is_always { None } else { Some("^") }
 }
 
-fn append_opening<A: Allocator>(
+// Appends the line of a tag of a section, if it has a sign.
+fn append_tag<A: Allocator>(
     output: &mut String<A>,
-    sign: &str,
+    sign: Option<&str>,
     opening: &Opening<'_>,
-) -> Result<(), AllocError> {
+) -> Result<(), AllocError>
+    ensures { OnOk result (string_bytes output.new ≡ string_bytes output.old
+        ++ tag_line (option_map (λ sign. sign.now) sign.entry) opening.now) }
+{
+    let Some(sign) = sign else {
+        return Ok(());
+    };
     output.push_str(sign)?;
     output.push_str(opening.name)?;
     output.push_str("\n")
 }
 
-fn append_slot<A: Allocator>(output: &mut String<A>, slot: &Placed<'_>) -> Result<(), AllocError> {
+fn append_slot<A: Allocator>(output: &mut String<A>, slot: &Placed<'_>) -> Result<(), AllocError>
+    ensures { OnOk result
+        (string_bytes output.new ≡ string_bytes output.old ++ slot_line slot.now) }
+{
     output.push_str(slot.asked.name)?;
     output.push_str(place_word(slot.place))?;
     output.push_str(kind_word(slot.kind))?;
@@ -77,7 +104,9 @@ fn append_slot<A: Allocator>(output: &mut String<A>, slot: &Placed<'_>) -> Resul
 }
 
 // The word for a place, behind a blank.
-fn place_word(place: SlotPlace) -> &'static str {
+fn place_word(place: SlotPlace) -> &'static str
+    ensures { result.now ≡ place_word place }
+{
     match place {
         SlotPlace::Text => " text",
         SlotPlace::DoubleQuoted => " double-quoted",
@@ -90,8 +119,10 @@ fn place_word(place: SlotPlace) -> &'static str {
     }
 }
 
-// The word for what a text has to be, behind a blank; no word where any text may stand.
-fn kind_word(kind: SlotKind) -> &'static str {
+// The word for a part of a URL or a whole one, behind a blank.
+fn kind_word(kind: SlotKind) -> &'static str
+    ensures { result.now ≡ kind_word kind }
+{
     match kind {
         SlotKind::Text => "",
         SlotKind::Link => " link",

@@ -28,12 +28,10 @@ impl Sources for Listed {
     type File = WeakReader<'static>;
 
     fn open(&self, path: &str) -> io::Result<WeakReader<'static>> {
-        let mut rest = self.files;
-        'files: while let [(name, bytes), others @ ..] = rest {
+        for (name, bytes) in self.files {
             if *name == path {
                 return Ok(WeakReader::new(*bytes, self.weakness));
             }
-            rest = others;
         }
         Err(io::Error::from(ErrorKind::NotFound))
     }

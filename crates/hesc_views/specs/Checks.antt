@@ -1,0 +1,86 @@
+-- What is written of the slots and sections of a view.
+use Rattle.std.specs.Prelude.{ℕ, List, [], ◌∷◌, ◌++◌, ◌==◌, Bool, true, false, Option, Some, None, codes, length}
+use Rattle.std.specs.List.{concat, flat_map}
+use Rattle.html_template.specs.declared.parts.SlotKind.{SlotKind}
+use Rattle.html_template.specs.declared.parts.SlotKind.TheVariants.{Text, UrlPart, Link}
+use Rattle.html_tokenizer.specs.declared.slot_place.SlotPlace.{SlotPlace}
+use Rattle.html_tokenizer.specs.declared.slot_place.SlotPlace.TheVariants as at
+use Rattle.html_urls.specs.declared.place.UrlPlace.{UrlPlace}
+use Rattle.html_urls.specs.declared.place.UrlPlace.TheVariants.{Path, Query, Fragment}
+use Rattle.html_view.specs.declared.node.Node.{Node, fold-Node}
+use Rattle.html_view.specs.declared.node.Node.TheOpen.{Node-F}
+use Rattle.html_view.specs.declared.node.Opening.{Opening}
+use Rattle.html_view.specs.declared.node.Placed.{Placed}
+use Rattle.html_view.specs.declared.node.Times.{Times}
+use Rattle.html_view.specs.declared.node.Times.TheVariants.{Each, Once, If, Whether}
+use Rattle.hesc_specs.specs.Text.Ascii.{line_feed}
+
+-- ---- slots
+
+-- the word for a place, behind a blank
+abbrev pub place_word : SlotPlace → List ℕ
+place_word at.Text = codes " text"
+place_word at.DoubleQuoted = codes " double-quoted"
+place_word at.SingleQuoted = codes " single-quoted"
+place_word at.Unquoted = codes " unquoted"
+place_word at.ScriptSingle = codes " script-single"
+place_word at.ScriptDouble = codes " script-double"
+place_word at.StyleSingle = codes " style-single"
+place_word at.StyleDouble = codes " style-double"
+
+abbrev pub url_word : UrlPlace → List ℕ
+url_word Path = codes " path"
+url_word Query = codes " query"
+url_word Fragment = codes " fragment"
+
+-- the word for a part of a URL or a whole one, behind a blank
+abbrev pub kind_word : SlotKind → List ℕ
+kind_word Text = []
+kind_word Link = codes " link"
+kind_word (UrlPart slot) = url_word slot.place
+
+abbrev pub slot_line : Placed → List ℕ
+slot_line slot = slot.asked.name.now ++ (place_word slot.place ++ (kind_word slot.kind ++ line_feed ∷ []))
+
+-- ---- sections
+
+-- the line of a tag that has this sign, if it has one
+abbrev pub tag_line : Option (List ℕ) → Opening → List ℕ
+tag_line None opening = []
+tag_line (Some sign) opening = sign ++ (opening.name.now ++ line_feed ∷ [])
+
+-- by whether there is no body, and nothing that stands where it does not: `{{^x}}` alone has no tag for a body, and a section that
+-- stands around others of its name has none of its own
+abbrev pub body_sign : Times → Bool → Bool → Option (List ℕ)
+body_sign Each bodiless always = Some (codes "#")
+body_sign Once bodiless always = Some (codes "#")
+body_sign If true false = None
+body_sign If bodiless always = Some (codes "?")
+body_sign Whether bodiless always = None
+
+abbrev pub otherwise_sign : Bool → Option (List ℕ)
+otherwise_sign true = None
+otherwise_sign false = Some (codes "^")
+
+abbrev pub has_none : {X : Type 0} → List X → Bool
+has_none xs = length xs == 0
+
+-- by the lines of its nodes
+abbrev pub section_lines : Opening → List (List ℕ) → List (List ℕ) → List ℕ
+section_lines opening body otherwise =
+    tag_line (body_sign opening.times (has_none body) (has_none otherwise)) opening
+    ++ (concat body ++ (tag_line (otherwise_sign (has_none otherwise)) opening ++ concat otherwise))
+
+-- ---- nodes
+
+abbrev pub line_step : {A : Type 0} → Node-F Placed A (List ℕ) → List ℕ
+line_step (Node-F.Markup text position) = []
+line_step (Node-F.Slot slot) = slot_line slot
+line_step (Node-F.Section opening body otherwise) = section_lines opening body.items otherwise.items
+
+abbrev pub node_lines : {A : Type 0} → Node Placed A → List ℕ
+node_lines {A} = fold-Node Placed A (List ℕ) line_step
+
+-- a line for each slot and each tag of a section, in the order of the page
+abbrev pub lines_of : {A : Type 0} → List (Node Placed A) → List ℕ
+lines_of nodes = flat_map node_lines nodes
