@@ -1,4 +1,4 @@
-//! The examples of the public functions, and that of the commands for views in docs/TOOL.md.
+//! The examples of the public functions, and those of the commands for views in the documents.
 use crate::tests::rows::{Success, success};
 use crate::tests::serving::{args_of, is_right};
 use hesc_views::{
@@ -26,7 +26,13 @@ const FOOT: &[u8] = b"<footer>{{?year}}Since {{year}}{{/year}}</footer>\n";
 
 const FILES: &[(&str, &[u8])] = &[("list.html", VIEW), ("partials/foot.html", FOOT)];
 
-static SHOWN: [Success; 2] = [
+const SMALL: &[(&str, &[u8])] = &[(
+    "page.html",
+    b"<h1>{{title}}</h1>{{#links}} <a href=\"{{url}}\">{{name}}</a>{{/links}}\n",
+)];
+
+// Those of docs/TOOL.md, and then those of the README.
+static SHOWN: [Success; 4] = [
     (
         &["render", "list.html", "partials/foot.html"],
         FILES,
@@ -47,6 +53,18 @@ static SHOWN: [Success; 2] = [
         ^items\n\
         ?year\n\
         year text\n",
+    ),
+    (
+        &["render", "page.html"],
+        SMALL,
+        b"{\"title\": \"a<b\", \"links\": [{\"name\": \"Q&A\", \"url\": \"/p?q=1\"}]}\n",
+        b"<h1>a&lt;b</h1> <a href=\"/p?q=1\">Q&amp;A</a>\n",
+    ),
+    (
+        &["check", "page.html"],
+        SMALL,
+        b"",
+        b"title text\n#links\nurl double-quoted link\nname text\n",
     ),
 ];
 

@@ -17,10 +17,10 @@ read-returns-in-None-clause-nodes g t c =
     let passes : Passes (here_of c.loop-piece.cursor) c.in_ok-piece.piece.markup.now None (here_of c.next.new.self) = rw c.in-None.is at c.in_ok-piece.ensures.passes in
     on_ok c.end.result _ _ c.end.ensures.closes
     (λ closes after.
-      let ends : Ends c.args.around.begun (here_of c.loop-piece.cursor) c.in_ok-piece.piece.markup.now (here_of c.next.new.self) =
-      record { found = None; passes = passes; is_end = tt; closes = closes } in
-      let all = c.loop-piece.invariant.leads after (marked c.in_ok-piece.piece.markup.now after) (here_of c.next.new.self) (reads_end ends) in
-      record { found = all.0; reads = all.1; same = c.in_ok-add_markup.ensures after ∙ all.2 })
+    let ends : Ends c.args.around.begun (here_of c.loop-piece.cursor) c.in_ok-piece.piece.markup.now (here_of c.next.new.self) =
+    record { found = None; passes = passes; is_end = tt; closes = closes } in
+    let all = c.loop-piece.invariant.leads after (marked c.in_ok-piece.piece.markup.now after) (here_of c.next.new.self) (reads_end ends) in
+    record { found = all.0; reads = all.1; same = c.in_ok-add_markup.ensures after ∙ all.2 })
 
 pub read-returns-in-Some-clause-nodes : goal.read-returns-in-Some-clause-nodes
 read-returns-in-Some-clause-nodes g t c =
@@ -29,45 +29,45 @@ read-returns-in-Some-clause-nodes g t c =
     let is : c.in-Some.tag.sign ≡ sign.End = search rules in
     on_ok c.end-in-Some.result _ _ c.end-in-Some.ensures.closes
     (λ closes after.
-      let ends : Ends c.args.around.begun (here_of c.loop-piece.cursor) c.in_ok-piece.piece.markup.now (here_of c.next.new.self) =
-      record {
-        found = Some c.in-Some.tag;
-        passes = passes;
-        is_end = is;
-        closes = subst (λ (tag : Tag). Closes (Some tag) c.args.around.begun) c.in-Some.tag-is closes;
-      } in
-      let all = c.loop-piece.invariant.leads after (marked c.in_ok-piece.piece.markup.now after) (here_of c.next.new.self) (reads_end ends) in
-      record { found = all.0; reads = all.1; same = c.in_ok-add_markup.ensures after ∙ all.2 })
+    let ends : Ends c.args.around.begun (here_of c.loop-piece.cursor) c.in_ok-piece.piece.markup.now (here_of c.next.new.self) =
+    record {
+      found = Some c.in-Some.tag;
+      passes = passes;
+      is_end = is;
+      closes = subst (λ (tag : Tag). Closes (Some tag) c.args.around.begun) c.in-Some.tag-is closes;
+    } in
+    let all = c.loop-piece.invariant.leads after (marked c.in_ok-piece.piece.markup.now after) (here_of c.next.new.self) (reads_end ends) in
+    record { found = all.0; reads = all.1; same = c.in_ok-add_markup.ensures after ∙ all.2 })
 
 pub read_block-returns-in_default-clause-nodes : goal.read_block-returns-in_default-clause-nodes
 read_block-returns-in_default-clause-nodes g t c =
     on_ok c.read.result _ _ c.read.ensures.nodes
     (λ adds after. adds_default (partials_of c.args.self.now.partials.now) c.args.self.now.given.now c.args.tag c.in_ok-within.within.begun
-      (here_of c.args.cursor.now) (here_of c.read.new.cursor) (asked_nodes c.args.nodes.now.items) (asked_nodes c.read.new.nodes.items) after
-      c.requires (sym c.find_block.ensures ∙ c.in_default.is) c.in_ok-within.ensures.begun (adds after))
+    (here_of c.args.cursor.now) (here_of c.read.new.cursor) (asked_nodes c.args.nodes.now.items) (asked_nodes c.read.new.nodes.items) after
+    c.requires (sym c.find_block.ensures ∙ c.in_default.is) c.in_ok-within.ensures.begun (adds after))
 
 pub read_block-returns-clause-nodes : goal.read_block-returns-clause-nodes
 read_block-returns-clause-nodes g t c =
     let outer : c.with.result.given.now ≡ take c.in-Some.block.outer c.args.self.now.given.now = search (rules, take_min) in
     on_ok c.read-2.result _ _ c.read-2.ensures.nodes
     (λ adds after. adds_given (partials_of c.args.self.now.partials.now) c.args.self.now.given.now c.args.tag (partials_of c.with.result.partials.now) c.with.result.given.now
-      c.in-Some.block (here_of c.args.cursor.now) (here_of c.skip.new.cursor) _ (asked_nodes c.args.nodes.now.items) (asked_nodes c.read-2.new.nodes.items) after
-      c.requires (sym c.find_block.ensures ∙ c.in-Some.is) c.in_ok-skip.ensures.skips (ap partials_of c.with.ensures.partials) outer (adds after))
+    c.in-Some.block (here_of c.args.cursor.now) (here_of c.skip.new.cursor) _ (asked_nodes c.args.nodes.now.items) (asked_nodes c.read-2.new.nodes.items) after
+    c.requires (sym c.find_block.ensures ∙ c.in-Some.is) c.in_ok-skip.ensures.skips (ap partials_of c.with.ensures.partials) outer (adds after))
 
 pub read_layout-returns-clause-nodes : goal.read_layout-returns-clause-nodes
 read_layout-returns-clause-nodes g t c =
     on_ok c.read.result _ _ c.read.ensures.nodes
     (λ adds after. adds_layout (partials_of c.args.self.now.partials.now) c.args.self.now.given.now c.args.tag (partials_of c.with.result.partials.now) c.with.result.given.now
-      c.extend_from_slice.new.self.items c.read_blocks.new.given.items (here_of c.args.cursor.now) (here_of c.in_ok-layout.layout) (here_of c.read_blocks.new.cursor) _
-      (asked_nodes c.args.nodes.now.items) (asked_nodes c.read.new.nodes.items) after c.requires (ap (λ n. asked_partial 1 (partials_of c.args.self.now.partials.now) n c.args.tag.name.now) (sym c.text.ensures) ∙ c.in_ok-layout.ensures.start)
-      (c.in_ok-extend_from_slice.ensures.items ∙ ap (λ x. x ++ c.args.self.now.given.now) c.new-given.ensures.items) c.in_ok-read_blocks.ensures.gives
-      (ap partials_of c.with.ensures.partials) (c.with.ensures.given ∙ c.deref.ensures.value) (adds after))
+    c.extend_from_slice.new.self.items c.read_blocks.new.given.items (here_of c.args.cursor.now) (here_of c.in_ok-layout.layout) (here_of c.read_blocks.new.cursor) _
+    (asked_nodes c.args.nodes.now.items) (asked_nodes c.read.new.nodes.items) after c.requires (ap (λ n. asked_partial 1 (partials_of c.args.self.now.partials.now) n c.args.tag.name.now) (sym c.text.ensures) ∙ c.in_ok-layout.ensures.start)
+    (c.in_ok-extend_from_slice.ensures.items ∙ ap (λ x. x ++ c.args.self.now.given.now) c.new-given.ensures.items) c.in_ok-read_blocks.ensures.gives
+    (ap partials_of c.with.ensures.partials) (c.with.ensures.given ∙ c.deref.ensures.value) (adds after))
 
 pub read_partial-returns : goal.read_partial-returns
 read_partial-returns g t c =
     on_ok c.read.result _ _ c.read.ensures.nodes
     (λ adds here after same. adds_partial (partials_of c.args.self.now.partials.now) c.args.self.now.given.now c.args.tag c.args.text here (here_of c.in_ok-partial.partial) _
-      (asked_nodes c.args.nodes.now.items) (asked_nodes c.read.new.nodes.items) after c.requires c.in_ok-partial.ensures.start same (adds after))
+    (asked_nodes c.args.nodes.now.items) (asked_nodes c.read.new.nodes.items) after c.requires c.in_ok-partial.ensures.start same (adds after))
 
 pub read_section-returns-in-None-clause-nodes : goal.read_section-returns-in-None-clause-nodes
 read_section-returns-in-None-clause-nodes g t c =
@@ -75,26 +75,26 @@ read_section-returns-in-None-clause-nodes g t c =
     let once = times_once c.args.tag.sign c.args.times c.requires in
     on_ok c.add.result _ _ c.add.ensures
     (λ added after. adds_section (partials_of c.args.self.now.partials.now) c.args.self.now.given.now c.args.tag c.args.times c.in_ok-within.field-0.begun
-      (here_of c.args.cursor.now) (here_of c.read.new.cursor) (here_of c.pass.new.cursor) (asked_nodes c.new-body.result.items) (asked_nodes c.read.new.nodes.items)
-      (asked_nodes c.args.nodes.now.items) (asked_nodes c.add.new.nodes.items) after c.requires c.in_ok-within.ensures.begun (c.in_ok-read.ensures.nodes node.End)
-      (λ x. none_before c.new-body.result.items x c.new-body.ensures.items) turns.0 turns.1
-      (section_added c.opening.result c.args.tag c.args.times c.read.new.nodes c.new-others.result c.args.nodes.now.items c.add.new.nodes.items after
-        (opened_is c.opening.result c.args.tag c.args.times c.opening.ensures.name c.opening.ensures.position c.opening.ensures.times once)
-        c.new-others.ensures.items (added after)))
+    (here_of c.args.cursor.now) (here_of c.read.new.cursor) (here_of c.pass.new.cursor) (asked_nodes c.new-body.result.items) (asked_nodes c.read.new.nodes.items)
+    (asked_nodes c.args.nodes.now.items) (asked_nodes c.add.new.nodes.items) after c.requires c.in_ok-within.ensures.begun (c.in_ok-read.ensures.nodes node.End)
+    (λ x. none_before c.new-body.result.items x c.new-body.ensures.items) turns.0 turns.1
+    (section_added c.opening.result c.args.tag c.args.times c.read.new.nodes c.new-others.result c.args.nodes.now.items c.add.new.nodes.items after
+    (opened_is c.opening.result c.args.tag c.args.times c.opening.ensures.name c.opening.ensures.position c.opening.ensures.times once)
+    c.new-others.ensures.items (added after)))
 
 pub read_section-returns-in_ok-section-in-Some-clause-nodes : goal.read_section-returns-in_ok-section-in-Some-clause-nodes
 read_section-returns-in_ok-section-in-Some-clause-nodes g t c =
     let turns = rw c.in-Some.is at c.in_ok-pass.ensures.turns in
     on_ok c.add-in-Some.result _ _ c.add-in-Some.ensures
     (λ added after. adds_sides (partials_of c.args.self.now.partials.now) c.args.self.now.given.now c.args.tag c.args.times c.in_ok-within.field-0.begun
-      c.in_ok-within-in-Some.field-0.begun c.in-Some.otherwise.tag (spaces_of c.in-Some.otherwise.space.items)
-      (here_of c.args.cursor.now) (here_of c.read.new.cursor) (here_of c.pass.new.cursor) (here_of c.read-in-Some.new.cursor)
-      (asked_nodes c.new-body.result.items) (asked_nodes c.read.new.nodes.items) (asked_nodes c.add_space.new.nodes.items) (asked_nodes c.read-in-Some.new.nodes.items)
-      (asked_nodes c.args.nodes.now.items) (asked_nodes c.add-in-Some.new.nodes.items) after c.requires c.in_ok-within.ensures.begun
-      (c.in_ok-read.ensures.nodes node.End) (λ x. none_before c.new-body.result.items x c.new-body.ensures.items) turns
-      c.in_ok-within-in-Some.ensures.begun (c.in_ok-read-in-Some.ensures.nodes node.End)
-      (λ x. c.in_ok-add_space-in-Some.ensures x ∙ none_before c.new-others.result.items (all_marked (spaces_of c.in-Some.otherwise.space.items) x) c.new-others.ensures.items)
-      (λ rest spaced. added after ∙ ap (asked_nodes c.args.nodes.now.items) (c.in_ok-section-in-Some.ensures rest after spaced)))
+    c.in_ok-within-in-Some.field-0.begun c.in-Some.otherwise.tag (spaces_of c.in-Some.otherwise.space.items)
+    (here_of c.args.cursor.now) (here_of c.read.new.cursor) (here_of c.pass.new.cursor) (here_of c.read-in-Some.new.cursor)
+    (asked_nodes c.new-body.result.items) (asked_nodes c.read.new.nodes.items) (asked_nodes c.add_space.new.nodes.items) (asked_nodes c.read-in-Some.new.nodes.items)
+    (asked_nodes c.args.nodes.now.items) (asked_nodes c.add-in-Some.new.nodes.items) after c.requires c.in_ok-within.ensures.begun
+    (c.in_ok-read.ensures.nodes node.End) (λ x. none_before c.new-body.result.items x c.new-body.ensures.items) turns
+    c.in_ok-within-in-Some.ensures.begun (c.in_ok-read-in-Some.ensures.nodes node.End)
+    (λ x. c.in_ok-add_space-in-Some.ensures x ∙ none_before c.new-others.result.items (all_marked (spaces_of c.in-Some.otherwise.space.items) x) c.new-others.ensures.items)
+    (λ rest spaced. added after ∙ ap (asked_nodes c.args.nodes.now.items) (c.in_ok-section-in-Some.ensures rest after spaced)))
 
 pub read_tag-returns-in-Comment-clause-nodes : goal.read_tag-returns-in-Comment-clause-nodes
 read_tag-returns-in-Comment-clause-nodes g t c = λ after.
@@ -130,12 +130,12 @@ read_unless-returns-clause-nodes g t c =
     let other : times.If ≢ times.Once = search rules in
     on_ok c.add.result _ _ c.add.ensures
     (λ added after. adds_unless (partials_of c.args.self.now.partials.now) c.args.self.now.given.now c.args.tag c.in_ok-within.field-0.begun
-      (here_of c.args.cursor.now) (here_of c.read.new.cursor) (asked_nodes c.new-others.result.items) (asked_nodes c.read.new.nodes.items)
-      (asked_nodes c.args.nodes.now.items) (asked_nodes c.add.new.nodes.items) after c.requires c.in_ok-within.ensures.begun (c.in_ok-read.ensures.nodes node.End)
-      (λ x. none_before c.new-others.result.items x c.new-others.ensures.items)
-      (unless_added c.opening.result c.args.tag times.If c.new-body.result c.read.new.nodes c.args.nodes.now.items c.add.new.nodes.items after
-        (opened_is c.opening.result c.args.tag times.If c.opening.ensures.name c.opening.ensures.position c.opening.ensures.times other)
-        c.new-body.ensures.items (added after)))
+    (here_of c.args.cursor.now) (here_of c.read.new.cursor) (asked_nodes c.new-others.result.items) (asked_nodes c.read.new.nodes.items)
+    (asked_nodes c.args.nodes.now.items) (asked_nodes c.add.new.nodes.items) after c.requires c.in_ok-within.ensures.begun (c.in_ok-read.ensures.nodes node.End)
+    (λ x. none_before c.new-others.result.items x c.new-others.ensures.items)
+    (unless_added c.opening.result c.args.tag times.If c.new-body.result c.read.new.nodes c.args.nodes.now.items c.add.new.nodes.items after
+    (opened_is c.opening.result c.args.tag times.If c.opening.ensures.name c.opening.ensures.position c.opening.ensures.times other)
+    c.new-body.ensures.items (added after)))
 
 pub read-loop-piece-preserved : goal.read-loop-piece-preserved
 read-loop-piece-preserved g t c =
@@ -144,7 +144,7 @@ read-loop-piece-preserved g t c =
     record {
       shorter = omega (arith, c.in_ok-read_tag-in-Some-2.ensures.shorter);
       leads = λ after found next more.
-        let adds = c.in_ok-read_tag-in-Some-2.ensures.nodes found in
-        let all = c.loop-piece.invariant.leads after (marked c.in_ok-piece.piece.markup.now adds.found) next (reads_tag passes adds.stands more) in
-        (all.0, all.1, adds.same ∙ c.in_ok-add_markup.ensures adds.found ∙ all.2);
+          let adds = c.in_ok-read_tag-in-Some-2.ensures.nodes found in
+          let all = c.loop-piece.invariant.leads after (marked c.in_ok-piece.piece.markup.now adds.found) next (reads_tag passes adds.stands more) in
+          (all.0, all.1, adds.same ∙ c.in_ok-add_markup.ensures adds.found ∙ all.2);
     }
