@@ -1,4 +1,4 @@
-//! Sources of views as data: which nodes each has, or why it is refused.
+//! Views as data: which nodes a source has, or why it is refused, and which page data has.
 //!
 //! Each row of the input has an answer that follows from the rules of Mustache, and a source. It may go on
 //! with pairs of a partial's name and its source. Tabs part these, and `test_support::shown` says what
@@ -8,6 +8,8 @@
 //! `[each name: body]`, where the first word says how often it may stand. What stands where it does not
 //! follows after `|`, if there is anything.
 //!
+//! A row `page PAGE JSON SOURCE` and so on has the page of JSON data, or the fault of the data.
+//!
 //! Printed is each row whose answer is another one, and last how many rows there are, and how many of them
 //! are wrong.
 #![tactic(auto)]
@@ -15,8 +17,10 @@
 #[cfg(test)]
 mod memory;
 mod nodes;
+mod pages;
 
 use crate::nodes::show_nodes;
+use crate::pages::page_of;
 use html_view::View;
 use std::alloc::{AllocError, Global};
 use std::io;
@@ -32,14 +36,23 @@ fn texts_of(alloc: Global, columns: Split<'_, char>) -> Result<Vec<String>, Allo
     Ok(texts)
 }
 
-// The nodes of a source, or the fault.
-fn answer_to(alloc: Global, source: &str, texts: &[String]) -> Result<String, AllocError> {
+// Pairs of names and sources.
+fn partials_of<'t>(
+    alloc: Global,
+    texts: &'t [String],
+) -> Result<Vec<(&'t str, &'t str)>, AllocError> {
     let mut partials = Vec::new(alloc);
     for pair in texts.chunks_exact(2) {
         if let [name, partial] = pair {
             partials.push((name.as_str(), partial.as_str()))?;
         }
     }
+    Ok(partials)
+}
+
+// The nodes of a source, or the fault.
+fn answer_to(alloc: Global, source: &str, texts: &[String]) -> Result<String, AllocError> {
+    let partials = partials_of(alloc, texts)?;
     match View::parse(alloc, source, &partials) {
         Ok(view) => {
             let mut shown = String::new(alloc);
@@ -50,13 +63,35 @@ fn answer_to(alloc: Global, source: &str, texts: &[String]) -> Result<String, Al
     }
 }
 
+// The page of data by the source behind it, or the fault.
+fn answer_to_data(alloc: Global, json: &str, texts: &[String]) -> Result<String, AllocError> {
+    let [source, others @ ..] = texts else {
+        return format!(in alloc; "no source");
+    };
+    let partials = partials_of(alloc, others)?;
+    page_of(alloc, json, source.as_str(), &partials)
+}
+
 // Whether the row has its answer. If not, it is printed.
 fn holds(rt: &impl Print, alloc: Global, row: &str) -> io::Result<bool> {
     let mut columns = row.split('\t');
-    let wanted = text_of(alloc, columns.next().unwrap_or(""))?;
+    let first = columns.next().unwrap_or("");
+    let is_page = first == "page";
+    let wanted = text_of(
+        alloc,
+        if is_page {
+            columns.next().unwrap_or("")
+        } else {
+            first
+        },
+    )?;
     let source = text_of(alloc, columns.next().unwrap_or(""))?;
     let texts = texts_of(alloc, columns)?;
-    let answer = answer_to(alloc, source.as_str(), &texts)?;
+    let answer = if is_page {
+        answer_to_data(alloc, source.as_str(), &texts)?
+    } else {
+        answer_to(alloc, source.as_str(), &texts)?
+    };
     if answer.as_str() != wanted.as_str() {
         let answer = answer.as_str().replace(alloc, "\n", "⏎")?;
         println!(rt; "{answer}, not {row}")?;
