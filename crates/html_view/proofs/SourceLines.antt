@@ -1,9 +1,9 @@
 -- What stands around the line of a tag.
-use Rattle.std.proofs.Common.{ℕ, ◌≡◌, ◌≢◌, ◌+◌, ◌-◌, ◌<◌, ◌≤◌, Bool, true, false, ◌&&◌, ◌||◌, ◌==◌, if◌then◌else◌, Bor, List, [], ◌∷◌, ◌++◌, length, take, drop, Option, Some, None, inl, inr, refl, sym, ap, ◌∙◌, append-nil, append_assoc, length-append, length-drop, arith, suc}
+use Rattle.std.proofs.Common.{ℕ, ◌≡◌, ◌≢◌, ◌+◌, ◌-◌, Bool, true, false, ◌&&◌, ◌||◌, ◌==◌, if◌then◌else◌, Bor, List, [], ◌∷◌, ◌++◌, length, take, drop, Option, Some, None, inl, inr, refl, sym, ap, ◌∙◌, append-nil, append_assoc, length-append, length-drop, arith, suc}
 use Rattle.std.specs.Char.{IsScalar, char_set_contains, encode_utf8}
 use Rattle.std.specs.List.{list_all}
 use Rattle.std.specs.Option.{MatchOption, option_map}
-use Rattle.std.specs.Str.Pattern.{CutsPrefixes, CutsSuffixes, FindsPrefixBy, FindsSuffixBy, HasCharAt, HasPassingCharAt, IsFullyTrimmed, IsTrimEndMatches, IsTrimStartMatches}
+use Rattle.std.specs.Str.Pattern.{CutsPrefixes, CutsSuffixes, FindsPrefixBy, FindsSuffixBy, HasPassingCharAt, IsFullyTrimmed, IsTrimEndMatches, IsTrimStartMatches}
 use Rattle.std.proofs.lemmas.Bool.{and_from, and_parts, cases_Bool, eqb-true, ne_eqb, or_cases}
 use Rattle.std.proofs.lemmas.List.{length-take, take-append-drop}
 use Rattle.std.proofs.lemmas.List.Folds.{list_all-append}

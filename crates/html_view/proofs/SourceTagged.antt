@@ -1,5 +1,5 @@
 -- What a tag stands for, as it is read.
-use Rattle.std.proofs.Common.{ℕ, ◌≡◌, List, [], ◌∷◌, ◌++◌, Option, Some, None, length, take, refl, sym, ap, subst, ◌∙◌}
+use Rattle.std.proofs.Common.{ℕ, ◌≡◌, List, [], ◌++◌, Option, Some, None, length, take, sym, ap, subst, ◌∙◌}
 use Rattle.html_view.specs.Cursors.{Here, first, here_of}
 use Rattle.html_view.specs.Nodes as node
 use Rattle.html_view.specs.Nodes.{Asked, Nodes}

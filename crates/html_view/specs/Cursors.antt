@@ -1,5 +1,5 @@
 -- Reading a text: the first tag from here, and the markup before it.
-use Rattle.std.specs.Prelude.{◌≡◌, ℕ, ◌+◌, Bool, true, false, List, [], ◌++◌, Option, Some, None, length, if◌then◌else◌}
+use Rattle.std.specs.Prelude.{◌≡◌, ℕ, ◌+◌, Bool, true, false, List, ◌++◌, Option, Some, None, length, if◌then◌else◌}
 use Rattle.html_view.specs.Lines.{before_line, behind_line}
 use Rattle.html_view.specs.Tags.{IsTag, Lacks, closing, may_be_lone, opening}
 use Rattle.html_view.specs.declared.faults.Position.{Position}

@@ -1,5 +1,5 @@
 -- Tags: a sign and a name between `{{` and `}}`, with white space around them.
-use Rattle.std.specs.Prelude.{◌≡◌, ◌≢◌, ⊤, ℕ, Bool, true, false, ◌||◌, List, [], ◌∷◌, ◌++◌, ◌==◌, codes}
+use Rattle.std.specs.Prelude.{◌≡◌, ◌≢◌, ⊤, ℕ, Bool, true, false, ◌||◌, List, [], ◌++◌, ◌==◌, codes}
 use Rattle.std.specs.Char.{is_ascii_alphanumeric, is_not_whitespace, is_whitespace}
 use Rattle.std.specs.List.{AllByRecursion, list_all}
 use Rattle.std.specs.Str.{NoCharPasses}

@@ -57,7 +57,17 @@ impl<'a, A: Allocator + Copy> View<'a, A> {
         })
     }
 
-    /// The view of a source, and of partials, each a name and a source. A partial may ask for those before it.
+    /// The view of a source, and of partials, each a name and a source. Its tags are those of Mustache:
+    ///
+    /// - `{{name}}`, a slot, and `{{"{{"}}`, a `{{` of the markup
+    /// - `{{#name}}`..`{{/name}}` and `{{?name}}`..`{{/name}}`, a section for each item and a condition, and
+    ///   `{{^name}}`..`{{/name}}`, what stands where that of this name before it does not
+    /// - `{{! text }}`, a comment
+    /// - `{{> name}}`, a partial; one may ask for those before it
+    /// - `{{<name}}`..`{{/name}}`, a partial in which the blocks `{{$name}}`..`{{/name}}` that stand between
+    ///   take the place of its own
+    ///
+    /// A tag other than a slot that is all of its line, but for blanks, leaves no line behind.
     ///
     /// Of `<ul>{{#items}}<li>{{name}}</li>{{/items}}</ul>` it has one section, `items`, with one slot, `name`.
     pub fn parse(

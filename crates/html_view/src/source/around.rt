@@ -8,7 +8,7 @@ ghost use Rattle.html_view.specs.declared.faults.ViewFault.TheVariants as view;
 use crate::faults::{TagFault, ViewFault};
 use crate::source::cursor::Tag;
 
-/// Sections, partials, layouts and blocks stand in one another so deep.
+/// So deep sections, partials, layouts and blocks may stand in one another.
 pub(crate) const MOST_LEVELS: usize = 32;
 
 /// What is around nodes.
@@ -39,7 +39,8 @@ impl<'a> Around<'a> {
 /// How many levels may still come within what this tag opens.
 pub(crate) fn deeper(levels: usize, tag: Tag<'_>) -> Result<usize, ViewFault>
     ensures left { IfOk result (λ left. left + 1 ≡ levels) }
-    ensures fault { IfErr result (λ fault. (levels ≡ 0) × (fault ≡ view.Tag tag.entry.position TooDeep)) }
+    ensures fault { IfErr result (λ fault. (levels ≡ 0)
+        × (fault ≡ view.Tag tag.entry.position TooDeep)) }
 {
     match levels.checked_sub(1) {
         Some(levels) => Ok(levels),
@@ -47,7 +48,7 @@ pub(crate) fn deeper(levels: usize, tag: Tag<'_>) -> Result<usize, ViewFault>
     }
 }
 
-/// Whether what was found ends what is begun: a tag, or the text.
+/// Whether what was found, a tag or the end of the text, ends what is open.
 pub(crate) fn end(found: Option<Tag<'_>>, begun: Option<Tag<'_>>) -> Result<(), ViewFault>
     ensures closes { OnOk result (Closes found.entry begun.entry) }
     ensures fault { result_err result ≡ end_fault found.entry begun.entry }

@@ -17,7 +17,7 @@ pub(crate) struct Block<'a> {
     pub(crate) outer: usize,
 }
 
-/// The block of this name that is given furthest out: the first one.
+/// The block of this name that is given furthest out, and of those in one tag the first.
 pub(crate) fn find_block<'a>(given: &[Block<'a>], name: &str) -> Option<Block<'a>>
     ensures { result ≡ given_block given.now name.now }
 {
@@ -49,14 +49,8 @@ pub(crate) fn read_blocks<'a, A: Allocator + Copy>(
             Some(tag) if tag.sign == Sign::End => return end(Some(tag), Some(layout)),
             Some(tag) if tag.sign.has_end() => {
                 if tag.sign == Sign::Block {
-                    add_block(
-                        given,
-                        Block {
-                            tag,
-                            cursor: *cursor,
-                            outer,
-                        },
-                    )?;
+                    let cursor = *cursor;
+                    add_block(given, Block { tag, cursor, outer })?;
                 }
                 skip(cursor, tag, deeper(levels, tag)?)?;
             }

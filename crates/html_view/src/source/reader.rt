@@ -32,7 +32,7 @@ pub(crate) struct Reader<'a, 'p, 'g, A: Allocator> {
 }
 
 impl<'a, 'p, 'g, A: Allocator + Copy> Reader<'a, 'p, 'g, A> {
-    /// Reads nodes up to the end of the tag that is begun, or of the text.
+    /// Adds the nodes up to the end of the tag that is open, or of the text.
     #[cycle(read)]
     pub(crate) fn read(
         &self,
@@ -212,6 +212,7 @@ impl<'a, 'p, 'g, A: Allocator + Copy> Reader<'a, 'p, 'g, A> {
             return self.read(cursor, within, nodes);
         };
         skip(cursor, tag, within.levels)?;
+        // It was written where only the blocks further out are given.
         let outer = &self.given[..block.outer.min(self.given.len())];
         let inside = Around {
             begun: Some(block.tag),
@@ -236,10 +237,12 @@ impl<'a, 'p, 'g, A: Allocator + Copy> Reader<'a, 'p, 'g, A> {
     // The partial that a tag asks for in the text with this number: the last one of its name that stands
     // before the text.
     fn partial(&self, text: usize, tag: Tag<'a>) -> Result<Cursor<'a>, ViewFault>
-        ensures start { IfOk result (λ start. asked_partial 1 (partials_of self.now.partials.now) text
-            tag.entry.name.now ≡ Some (here_of start)) }
+        ensures start { IfOk result (λ start.
+            asked_partial 1 (partials_of self.now.partials.now) text tag.entry.name.now
+            ≡ Some (here_of start)) }
         ensures fault { IfErr result (λ fault. (fault ≡ view.Tag tag.entry.position NoPartial)
-            × (asked_partial 1 (partials_of self.now.partials.now) text tag.entry.name.now ≡ None)) }
+            × (asked_partial 1 (partials_of self.now.partials.now) text tag.entry.name.now
+            ≡ None)) }
     {
         let mut found = None;
         for index in 0..self.partials.len() {

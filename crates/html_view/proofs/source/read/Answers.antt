@@ -1,4 +1,4 @@
-use Rattle.std.proofs.Common.{rules, refl}
+use Rattle.std.proofs.Common.{refl}
 use Rattle.html_view.specs.Cursors.{here_of}
 use Rattle.html_view.specs.Kept.{asked_nodes}
 use Rattle.html_view.specs.Nodes as node

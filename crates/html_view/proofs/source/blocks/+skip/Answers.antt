@@ -1,6 +1,6 @@
-use Rattle.std.proofs.Common.{rules, ◌≡◌, ◌≢◌, Bool, true, false, Some, sym, ap, ◌∙◌, arith}
+use Rattle.std.proofs.Common.{rules, ◌≡◌, ◌≢◌, true, false, Some, sym, ap, ◌∙◌, arith}
 use Rattle.html_view.specs.Cursors.{Passes, here_of}
-use Rattle.html_view.specs.Reading.{Closes, Skips, has_end, skips_past, skips_to_end, skips_within}
+use Rattle.html_view.specs.Reading.{has_end, skips_past, skips_to_end, skips_within}
 use Rattle.html_view.specs.declared.source.cursor.Tag.{Tag}
 use Rattle.html_view.specs.declared.source.tag.Sign.TheVariants.{End}
 use Rattle.html_view.proofs.SourceReads.{on_ok}

@@ -1,6 +1,6 @@
-use Rattle.std.proofs.Common.{rules, ◌≡◌, ◌≢◌, Bool, true, false, List, [], ◌∷◌, ◌++◌, length, Some, refl, sym, ap, ◌∙◌, append-nil, append_assoc, arith}
+use Rattle.std.proofs.Common.{rules, ◌≡◌, ◌≢◌, true, false, [], ◌∷◌, ◌++◌, length, Some, refl, sym, ap, ◌∙◌, append-nil, append_assoc, arith}
 use Rattle.html_view.specs.Cursors.{Passes, here_of}
-use Rattle.html_view.specs.Reading.{Gives, Skips, gives_behind, gives_block, gives_none, gives_past, has_end}
+use Rattle.html_view.specs.Reading.{gives_behind, gives_block, gives_none, gives_past, has_end}
 use Rattle.html_view.specs.declared.source.blocks.Block.{Block}
 use Rattle.html_view.specs.declared.source.cursor.Tag.{Tag}
 use Rattle.html_view.specs.declared.source.tag.Sign.TheVariants.{End}

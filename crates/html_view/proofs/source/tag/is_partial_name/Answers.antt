@@ -1,4 +1,4 @@
-use Rattle.std.proofs.Common.{rules, sym, ◌∙◌, ap}
+use Rattle.std.proofs.Common.{rules}
 use Rattle.std.proofs.lemmas.Bool.{MatchBool-at_false, not-true}
 use Rattle.std.proofs.lemmas.Fn.{always_returns_same}
 use Rattle.html_view.specs.Tags.{is_apart}

@@ -1,7 +1,6 @@
-use Rattle.std.proofs.Common.{rules, ◌≡◌, ◌≢◌, Bool, true, false, not, List, [], ◌∷◌, ◌++◌, Some, refl, sym, ap, subst, ◌∙◌, append-nil, append_assoc, arith}
+use Rattle.std.proofs.Common.{rules, ◌≡◌, ◌≢◌, true, false, [], Some, sym, ap, subst, ◌∙◌, append-nil, arith}
 use Rattle.html_view.specs.Cursors.{Passes, here_of}
-use Rattle.html_view.specs.Reading.{Turns, TurnsNot, at_comment, at_end, at_markup, at_tag, is_space, spaces_of, turns, turns_behind, with_space}
-use Rattle.html_view.specs.declared.source.cursor.Tag.{Tag}
+use Rattle.html_view.specs.Reading.{Turns, at_comment, at_end, at_markup, at_tag, is_space, spaces_of, turns, turns_behind, with_space}
 use Rattle.html_view.specs.declared.source.tag.Sign.TheVariants.{Comment, Unless}
 use Rattle.html_view.proofs.source.sections.Otherwise.pass.Goals as goal
 

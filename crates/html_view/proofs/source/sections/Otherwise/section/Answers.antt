@@ -1,5 +1,4 @@
-use Rattle.std.proofs.Common.{rules, ◌≡◌, ◌≢◌, ◌==◌, false, length, sym, ap, ◌∙◌}
-use Rattle.html_view.specs.Kept.{asked_nodes}
+use Rattle.std.proofs.Common.{rules, ◌≡◌, ◌≢◌, ◌==◌, false, length}
 use Rattle.html_view.specs.declared.node.Times.TheVariants.{Once, Whether}
 use Rattle.html_view.proofs.SourceReads.{opened_is, two_sides}
 use Rattle.html_view.proofs.source.sections.Otherwise.section.Goals as goal
