@@ -23,8 +23,8 @@ after_last_is : (path : List ℕ) (n : ℕ) → n ≤ length path → ((k : ℕ)
     (0 < n → get_or path (n - 1) 0 ≡ slash) → drop n path ≡ after_last (λ b. b == slash) path
 after_last_is path n within none before =
     let rest : suffix_len is_no_slash path ≡ length path - n =
-        suffix_len_is is_no_slash path n 0 within (λ k from below. other_byte (get_or path k 0) (none k from below))
-        (λ some. ap is_no_slash (before some)) in
+    suffix_len_is is_no_slash path n 0 within (λ k from below. other_byte (get_or path k 0) (none k from below))
+    (λ some. ap is_no_slash (before some)) in
     let place : n ≡ length path - suffix_len is_no_slash path = omega (arith, rest, within) in
     ap (λ m. drop m path) place
 
@@ -35,13 +35,13 @@ behind_last path back i j found is whole =
     let within : j ≤ length path = omega (arith, whole) in
     let left : length (drop j path) ≡ length back = ap (λ (n : List ℕ). length n) (sym is) in
     let none : (k : ℕ) → j ≤ k → k < length path → get_or path k 0 ≢ slash = λ k from below same.
-        let here : get_or (drop j path) (k - j) 0 ≡ get_or path (j + (k - j)) 0 = get_or-drop j path (k - j) 0 in
-        let place : j + (k - j) ≡ k = omega (arith, from) in
-        NoCharPasses-char slash (drop j path) (k - j) found.0 (omega arith) (omega (arith, left, whole, from, below))
-        (here ∙ (ap (λ n. get_or path n 0) place ∙ same)) in
+    let here : get_or (drop j path) (k - j) 0 ≡ get_or path (j + (k - j)) 0 = get_or-drop j path (k - j) 0 in
+    let place : j + (k - j) ≡ k = omega (arith, from) in
+    NoCharPasses-char slash (drop j path) (k - j) found.0 (omega arith) (omega (arith, left, whole, from, below))
+    (here ∙ (ap (λ n. get_or path n 0) place ∙ same)) in
     let before : 0 < j → get_or path (j - 1) 0 ≡ slash = λ some.
-        let place : j - 1 ≡ i = omega (arith, found.1.ends) in
-        ap (λ n. get_or path n 0) place ∙ found.1.byte (omega arith) in
+    let place : j - 1 ≡ i = omega (arith, found.1.ends) in
+    ap (λ n. get_or path n 0) place ∙ found.1.byte (omega arith) in
     is ∙ after_last_is path j within none before
 
 -- without a slash it is all

@@ -1,9 +1,10 @@
 //! The program: what it does with the words that the system gave it, and how it ends.
-ghost use Rattle.std.specs.Prelude.{◌≡◌, map};
+ghost use Rattle.std.specs.Prelude.{◌≡◌, map, Err, IsOk, MatchResult};
 ghost use Rattle.hesc_tool.specs.Faults as tool;
 ghost use Rattle.hesc_tool.specs.Program.{words_given};
 ghost use Rattle.hesc_views.specs.Program.{EndsAs, ServedAs, Tells, TellsFault};
 ghost use Rattle.hesc_views.specs.Run.{RanAs};
+ghost use Rattle.hesc_views.specs.declared.faults.Fault.{Fault};
 
 use crate::faults::Fault;
 use crate::lines::line_of;
@@ -62,8 +63,17 @@ fn run_and_flush<A: Allocator, S: Sources, R: Read, W: Write>(
     ensures { RanAs (map (λ word. word.now) words.now) (R.remaining input.old) (R.remaining input.new)
         (W.contents output.old) (W.contents output.new) result }
 {
-    run(alloc, heap, words, sources, input, output)?;
-    match output.flush() {
+    match run(alloc, heap, words, sources, input, output) {
+        Ok(()) => after_flush(output.flush()),
+        Err(fault) => Err(fault),
+    }
+}
+
+// A flush that fails is `Write`.
+fn after_flush(flushed: io::Result<()>) -> Result<(), Fault>
+    ensures { MatchResult flushed (λ _. IsOk result) (λ _. result ≡ Err Fault.Write) }
+{
+    match flushed {
         Ok(()) => Ok(()),
         Err(_) => Err(Fault::Write),
     }
