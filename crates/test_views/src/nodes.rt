@@ -32,24 +32,20 @@ fn show_node(shown: &mut String, node: &Node<'_, Placed<'_>, Global>) -> Result<
             let place = slot.place;
             write!(shown, "{{{name} {place:?}}}")
         }
-        Node::Section(opening, body, others) => show_section(shown, *opening, body, others),
+        Node::Section(opening, body, others) => {
+            open_section(shown, *opening)?;
+            show_nodes(shown, body)?;
+            if !others.is_empty() {
+                shown.push('|')?;
+                show_nodes(shown, others)?;
+            }
+            shown.push(']')
+        }
     }
 }
 
-#[cycle(show)]
-fn show_section(
-    shown: &mut String,
-    opening: Opening<'_>,
-    body: &Vec<Node<'_, Placed<'_>, Global>>,
-    others: &Vec<Node<'_, Placed<'_>, Global>>,
-) -> Result<(), AllocError> {
+fn open_section(shown: &mut String, opening: Opening<'_>) -> Result<(), AllocError> {
     let word = word_of(opening.times);
     let name = opening.name;
-    write!(shown, "[{word} {name}: ")?;
-    show_nodes(shown, body)?;
-    if !others.is_empty() {
-        shown.push('|')?;
-        show_nodes(shown, others)?;
-    }
-    shown.push(']')
+    write!(shown, "[{word} {name}: ")
 }
