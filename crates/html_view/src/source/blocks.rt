@@ -1,7 +1,8 @@
 //! The blocks that are given to a layout.
-ghost use Rattle.std.specs.Prelude.{◌≡◌, ◌++◌, ◌∷◌, [], ◌≤◌, OnOk, length};
+ghost use Rattle.std.specs.Prelude.{◌≡◌, ◌++◌, ◌∷◌, [], ◌≤◌, IfErr, OnOk, length};
 ghost use Rattle.html_view.specs.Cursors.{here_of};
 ghost use Rattle.html_view.specs.Reading.{AddsBlocks, Skips, given_block};
+ghost use Rattle.html_view.specs.declared.faults.ViewFault.TheVariants.{Memory};
 
 use crate::faults::ViewFault;
 use crate::source::around::{deeper, end};
@@ -63,7 +64,8 @@ fn add_block<'a, A: Allocator>(
     given: &mut Vec<Block<'a>, A>,
     block: Block<'a>,
 ) -> Result<(), ViewFault>
-    ensures { OnOk result (given.new.items ≡ given.old.items ++ block.entry ∷ []) }
+    ensures given { OnOk result (given.new.items ≡ given.old.items ++ block.entry ∷ []) }
+    ensures fault { IfErr result (λ fault. fault ≡ Memory) }
 {
     match given.push(block) {
         Ok(()) => Ok(()),

@@ -1,5 +1,5 @@
 //! Nodes, and the two sides of a section.
-ghost use Rattle.std.specs.Prelude.{◌≡◌, ◌≢◌, ◌↔◌, ◌++◌, ◌≤◌, ℕ, List, IfOk, IsTrue, MatchOption, OnOk, length};
+ghost use Rattle.std.specs.Prelude.{◌≡◌, ◌≢◌, ◌↔◌, ◌++◌, ◌≤◌, ℕ, List, IfErr, IfOk, IsTrue, MatchOption, OnOk, length};
 ghost use Rattle.html_view.specs.Cursors.{here_of};
 ghost use Rattle.html_view.specs.Kept.{asked_node, asked_nodes};
 ghost use Rattle.html_view.specs.Nodes as spec;
@@ -13,6 +13,7 @@ ghost use Rattle.html_view.specs.Reading.{
   spaces_of,
   with_space,
 };
+ghost use Rattle.html_view.specs.declared.faults.ViewFault.TheVariants.{Memory};
 ghost use Rattle.html_view.specs.declared.node.Times.TheVariants.{Once};
 ghost use Rattle.html_view.specs.declared.source.tag.Sign.TheVariants.{Unless};
 
@@ -69,8 +70,9 @@ impl<'a, A: Allocator + Copy> Otherwise<'a, A> {
 
     /// Adds the white space to nodes.
     pub(crate) fn add_space(&self, nodes: &mut Nodes<'a, A>) -> Result<(), ViewFault>
-        ensures { OnOk result ((after : spec.Nodes spec.Asked) → asked_nodes nodes.new.items after
+        ensures nodes { OnOk result ((after : spec.Nodes spec.Asked) → asked_nodes nodes.new.items after
             ≡ asked_nodes nodes.old.items (all_marked (spaces_of self.now.space.items) after)) }
+        ensures fault { IfErr result (λ fault. fault ≡ Memory) }
     {
         for piece in &self.space {
             add(nodes, Node::Markup(piece.markup, piece.position))?;
@@ -89,11 +91,12 @@ impl<'a, A: Allocator + Copy> Otherwise<'a, A> {
         others: Nodes<'a, A>,
     ) -> Result<Node<'a, Asked<'a>, A>, ViewFault>
         requires { times ≢ Once }
-        ensures { IfOk result (λ section. (rest after : spec.Nodes spec.Asked)
+        ensures section { IfOk result (λ section. (rest after : spec.Nodes spec.Asked)
             → asked_nodes others.entry.items spec.End
             ≡ all_marked (spaces_of self.now.space.items) rest
             → asked_node section after ≡ sectioned tag.entry times (spaces_of self.now.space.items)
             (asked_nodes body.entry.items spec.End) rest after) }
+        ensures fault { IfErr result (λ fault. fault ≡ Memory) }
     {
         if self.space.is_empty() {
             return Ok(Node::Section(opening(tag, times), body, others));
@@ -125,8 +128,9 @@ fn keep_space<'a, A: Allocator>(
     space: &mut Vec<Piece<'a>, A>,
     piece: Piece<'a>,
 ) -> Result<(), ViewFault>
-    ensures { OnOk result ((spaces : List (List ℕ)) → spaces_of space.new.items ++ spaces
+    ensures spaces { OnOk result ((spaces : List (List ℕ)) → spaces_of space.new.items ++ spaces
         ≡ spaces_of space.old.items ++ with_space piece.entry.markup.now spaces) }
+    ensures fault { IfErr result (λ fault. fault ≡ Memory) }
 {
     if piece.markup.is_empty() {
         return Ok(());
@@ -155,8 +159,9 @@ pub(crate) fn add_markup<'a, A: Allocator>(
     nodes: &mut Nodes<'a, A>,
     piece: Piece<'a>,
 ) -> Result<(), ViewFault>
-    ensures { OnOk result ((after : spec.Nodes spec.Asked) → asked_nodes nodes.new.items after
+    ensures nodes { OnOk result ((after : spec.Nodes spec.Asked) → asked_nodes nodes.new.items after
         ≡ asked_nodes nodes.old.items (marked piece.entry.markup.now after)) }
+    ensures fault { IfErr result (λ fault. fault ≡ Memory) }
 {
     if piece.markup.is_empty() {
         return Ok(());
@@ -169,8 +174,9 @@ pub(crate) fn add<'a, A: Allocator>(
     nodes: &mut Nodes<'a, A>,
     node: Node<'a, Asked<'a>, A>,
 ) -> Result<(), ViewFault>
-    ensures { OnOk result ((after : spec.Nodes spec.Asked) → asked_nodes nodes.new.items after
+    ensures nodes { OnOk result ((after : spec.Nodes spec.Asked) → asked_nodes nodes.new.items after
         ≡ asked_nodes nodes.old.items (asked_node node.entry after)) }
+    ensures fault { IfErr result (λ fault. fault ≡ Memory) }
 {
     let Ok(()) = nodes.push(node) else {
         return Err(ViewFault::Memory);

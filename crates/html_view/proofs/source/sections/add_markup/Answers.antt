@@ -3,9 +3,9 @@ use Rattle.html_view.specs.Kept.{asked_nodes}
 use Rattle.html_view.proofs.SourceReads.{asked_markup, marked_some, on_ok}
 use Rattle.html_view.proofs.source.sections.add_markup.Goals as goal
 
-pub returns : goal.returns
-returns g c =
-    on_ok c.add.result _ _ c.add.ensures
+pub returns-clause-nodes : goal.returns-clause-nodes
+returns-clause-nodes g c =
+    on_ok c.add.result _ _ c.add.ensures.nodes
     (λ added after. added after
     ∙ ap (asked_nodes c.args.nodes.now.items)
     (asked_markup _ c.args.piece.markup c.args.piece.position after ∙ marked_some c.args.piece.markup.now after (sym c.is_empty.ensures ∙ c.if-is_empty.false)))

@@ -20,7 +20,7 @@ read-returns-in-None-clause-nodes g t c =
     let ends : Ends c.args.around.begun (here_of c.loop-piece.cursor) c.in_ok-piece.piece.markup.now (here_of c.next.new.self) =
     record { found = None; passes = passes; is_end = tt; closes = closes } in
     let all = c.loop-piece.invariant.leads after (marked c.in_ok-piece.piece.markup.now after) (here_of c.next.new.self) (reads_end ends) in
-    record { found = all.0; reads = all.1; same = c.in_ok-add_markup.ensures after ∙ all.2 })
+    record { found = all.0; reads = all.1; same = c.in_ok-add_markup.ensures.nodes after ∙ all.2 })
 
 pub read-returns-in-Some-clause-nodes : goal.read-returns-in-Some-clause-nodes
 read-returns-in-Some-clause-nodes g t c =
@@ -37,7 +37,7 @@ read-returns-in-Some-clause-nodes g t c =
       closes = subst (λ (tag : Tag). Closes (Some tag) c.args.around.begun) c.in-Some.tag-is closes;
     } in
     let all = c.loop-piece.invariant.leads after (marked c.in_ok-piece.piece.markup.now after) (here_of c.next.new.self) (reads_end ends) in
-    record { found = all.0; reads = all.1; same = c.in_ok-add_markup.ensures after ∙ all.2 })
+    record { found = all.0; reads = all.1; same = c.in_ok-add_markup.ensures.nodes after ∙ all.2 })
 
 pub read_block-returns-in_default-clause-nodes : goal.read_block-returns-in_default-clause-nodes
 read_block-returns-in_default-clause-nodes g t c =
@@ -73,7 +73,7 @@ pub read_section-returns-in-None-clause-nodes : goal.read_section-returns-in-Non
 read_section-returns-in-None-clause-nodes g t c =
     let turns = rw c.in-None.is at c.in_ok-pass.ensures.turns in
     let once = times_once c.args.tag.sign c.args.times c.requires in
-    on_ok c.add.result _ _ c.add.ensures
+    on_ok c.add.result _ _ c.add.ensures.nodes
     (λ added after. adds_section (partials_of c.args.self.now.partials.now) c.args.self.now.given.now c.args.tag c.args.times c.in_ok-within.field-0.begun
     (here_of c.args.cursor.now) (here_of c.read.new.cursor) (here_of c.pass.new.cursor) (asked_nodes c.new-body.result.items) (asked_nodes c.read.new.nodes.items)
     (asked_nodes c.args.nodes.now.items) (asked_nodes c.add.new.nodes.items) after c.requires c.in_ok-within.ensures.begun (c.in_ok-read.ensures.nodes node.End)
@@ -85,7 +85,7 @@ read_section-returns-in-None-clause-nodes g t c =
 pub read_section-returns-in_ok-section-in-Some-clause-nodes : goal.read_section-returns-in_ok-section-in-Some-clause-nodes
 read_section-returns-in_ok-section-in-Some-clause-nodes g t c =
     let turns = rw c.in-Some.is at c.in_ok-pass.ensures.turns in
-    on_ok c.add-in-Some.result _ _ c.add-in-Some.ensures
+    on_ok c.add-in-Some.result _ _ c.add-in-Some.ensures.nodes
     (λ added after. adds_sides (partials_of c.args.self.now.partials.now) c.args.self.now.given.now c.args.tag c.args.times c.in_ok-within.field-0.begun
     c.in_ok-within-in-Some.field-0.begun c.in-Some.otherwise.tag (spaces_of c.in-Some.otherwise.space.items)
     (here_of c.args.cursor.now) (here_of c.read.new.cursor) (here_of c.pass.new.cursor) (here_of c.read-in-Some.new.cursor)
@@ -93,8 +93,8 @@ read_section-returns-in_ok-section-in-Some-clause-nodes g t c =
     (asked_nodes c.args.nodes.now.items) (asked_nodes c.add-in-Some.new.nodes.items) after c.requires c.in_ok-within.ensures.begun
     (c.in_ok-read.ensures.nodes node.End) (λ x. none_before c.new-body.result.items x c.new-body.ensures.items) turns
     c.in_ok-within-in-Some.ensures.begun (c.in_ok-read-in-Some.ensures.nodes node.End)
-    (λ x. c.in_ok-add_space-in-Some.ensures x ∙ none_before c.new-others.result.items (all_marked (spaces_of c.in-Some.otherwise.space.items) x) c.new-others.ensures.items)
-    (λ rest spaced. added after ∙ ap (asked_nodes c.args.nodes.now.items) (c.in_ok-section-in-Some.ensures rest after spaced)))
+    (λ x. c.in_ok-add_space-in-Some.ensures.nodes x ∙ none_before c.new-others.result.items (all_marked (spaces_of c.in-Some.otherwise.space.items) x) c.new-others.ensures.items)
+    (λ rest spaced. added after ∙ ap (asked_nodes c.args.nodes.now.items) (c.in_ok-section-in-Some.ensures.section rest after spaced)))
 
 pub read_tag-returns-in-Comment-clause-nodes : goal.read_tag-returns-in-Comment-clause-nodes
 read_tag-returns-in-Comment-clause-nodes g t c = λ after.
@@ -104,7 +104,7 @@ read_tag-returns-in-Comment-clause-nodes g t c = λ after.
 pub read_tag-returns-in-Slot-clause-nodes : goal.read_tag-returns-in-Slot-clause-nodes
 read_tag-returns-in-Slot-clause-nodes g t c =
     let is : c.args.tag.sign ≡ sign.Slot = search rules in
-    on_ok c.add.result _ _ c.add.ensures
+    on_ok c.add.result _ _ c.add.ensures.nodes
     (λ added after. record {
       found = node.Slot (asked c.args.tag) after;
       stands = a_slot is;
@@ -114,7 +114,7 @@ read_tag-returns-in-Slot-clause-nodes g t c =
 pub read_tag-returns-in-Quoted-clause-nodes : goal.read_tag-returns-in-Quoted-clause-nodes
 read_tag-returns-in-Quoted-clause-nodes g t c =
     let is : c.args.tag.sign ≡ sign.Quoted = search rules in
-    on_ok c.add-in-Quoted.result _ _ c.add-in-Quoted.ensures
+    on_ok c.add-in-Quoted.result _ _ c.add-in-Quoted.ensures.nodes
     (λ added after. record {
       found = node.Markup opening after;
       stands = a_quoted is;
@@ -128,7 +128,7 @@ read_tag-returns-in-Partial-clause-nodes g t c =
 pub read_unless-returns-clause-nodes : goal.read_unless-returns-clause-nodes
 read_unless-returns-clause-nodes g t c =
     let other : times.If ≢ times.Once = search rules in
-    on_ok c.add.result _ _ c.add.ensures
+    on_ok c.add.result _ _ c.add.ensures.nodes
     (λ added after. adds_unless (partials_of c.args.self.now.partials.now) c.args.self.now.given.now c.args.tag c.in_ok-within.field-0.begun
     (here_of c.args.cursor.now) (here_of c.read.new.cursor) (asked_nodes c.new-others.result.items) (asked_nodes c.read.new.nodes.items)
     (asked_nodes c.args.nodes.now.items) (asked_nodes c.add.new.nodes.items) after c.requires c.in_ok-within.ensures.begun (c.in_ok-read.ensures.nodes node.End)
@@ -146,5 +146,5 @@ read-loop-piece-preserved g t c =
       leads = λ after found next more.
           let adds = c.in_ok-read_tag-in-Some-2.ensures.nodes found in
           let all = c.loop-piece.invariant.leads after (marked c.in_ok-piece.piece.markup.now adds.found) next (reads_tag passes adds.stands more) in
-          (all.0, all.1, adds.same ∙ c.in_ok-add_markup.ensures adds.found ∙ all.2);
+          (all.0, all.1, adds.same ∙ c.in_ok-add_markup.ensures.nodes adds.found ∙ all.2);
     }

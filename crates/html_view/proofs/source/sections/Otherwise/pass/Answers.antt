@@ -27,7 +27,7 @@ loop-space-preserved g c =
       shorter = omega arith;
       still = c.loop-space.invariant.still;
       leads = λ spaces unless next turns.
-          rw (c.in_ok-keep_space.ensures spaces) (c.loop-space.invariant.leads (with_space c.in_ok-piece.piece.markup.now spaces) unless next (turns_behind passes space is turns));
+          rw (c.in_ok-keep_space.ensures.spaces spaces) (c.loop-space.invariant.leads (with_space c.in_ok-piece.piece.markup.now spaces) unless next (turns_behind passes space is turns));
       leads_not = λ other. c.loop-space.invariant.leads_not (at_comment passes space is other);
     }
 
@@ -40,7 +40,7 @@ returns-then-is_unless-clause-turns g c =
     let all = c.loop-space.invariant.leads (with_space c.in_ok-piece.piece.markup.now []) c.in-Some.tag (here_of c.next.new.self)
     (turns passes space is.0 is.1) in
     subst (λ s. Turns c.args.name.now (here_of c.args.cursor.now) s c.in-Some.tag (here_of c.next.new.self))
-    (sym (c.in_ok-keep_space.ensures []) ∙ append-nil (spaces_of c.keep_space.new.space.items)) all
+    (sym (c.in_ok-keep_space.ensures.spaces []) ∙ append-nil (spaces_of c.keep_space.new.space.items)) all
 
 pub returns-in-loop-space-clause-turns : goal.returns-in-loop-space-clause-turns
 returns-in-loop-space-clause-turns g c =
