@@ -1,3 +1,4 @@
 mod Numbered
 mod Checked
 mod Named
+mod Flushed

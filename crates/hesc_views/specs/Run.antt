@@ -1,11 +1,13 @@
 -- What a run reads, writes and answers.
-use Rattle.std.specs.Prelude.{◌≡◌, ⊤, ℕ, List, Option, Result, Ok, Err}
+use Rattle.std.specs.Prelude.{◌≡◌, ⊤, ℕ, List, [], ◌∷◌, map, Option, Result, Ok, Err}
 use Rattle.std.specs.Io.KnownBytes.{Appends, Keeps}
-use Rattle.html_view.specs.Nodes.{Nodes, Placed}
+use Rattle.html_view.specs.Nodes.{Nodes, Placed, written}
+use Rattle.html_view.specs.Reading.{IsSource, PartialText}
 use Rattle.html_view.specs.Unrolled.{AreTemplates}
 use Rattle.json.specs.Json.{Json}
 use Rattle.hesc_specs.specs.Text.Beginning.{AppendsBeginning}
 use Rattle.hesc_tool.specs.Steps.{WasRead}
+use Rattle.hesc_views.specs.Names.{name_in}
 use Rattle.hesc_views.specs.Pages.{IsPageFor, IsStrictly}
 use Rattle.hesc_views.specs.Words.{CallForNothing, words_of}
 use Rattle.hesc_views.specs.declared.faults.Fault.{Fault}
@@ -27,16 +29,36 @@ IsMakingFault Usage = ⊥
 IsMakingFault Write = ⊥
 IsMakingFault other = ⊤
 
--- the text is a page of some view for the JSON that was read; or nothing was read, where the command only checks
-abbrev pub Answers : Command → Option (List ℕ) → Option (List ℕ) → List ℕ → Type 0
-Answers Render reader reader' text =
-    (nodes : Nodes Placed) × (json : List ℕ) × (value : Json)
-    × AreTemplates nodes × WasRead reader reader' json × IsStrictly json value × IsPageFor nodes value text
-Answers Check reader reader' text = Keeps reader reader'
+-- each text with the name of its path
+abbrev pub partials_named : List (List ℕ) → List (List ℕ) → List PartialText
+partials_named (path ∷ paths) (text ∷ texts) = record { name = name_in path; source = text } ∷ partials_named paths texts
+partials_named paths texts = []
+
+-- the nodes are those of a view of this text, and of partials with these paths and texts
+pub record AreOfView (paths : List (List ℕ)) (view : List ℕ) (partials : List (List ℕ)) (nodes : Nodes Placed) : Type 0 where
+  pub source : IsSource (partials_named paths partials) view (written nodes)
+  pub sound : AreTemplates nodes
+
+-- the text is a page of a view for the JSON that was read; or nothing was read, where the command only checks
+abbrev pub Answers : Command → Nodes Placed → Option (List ℕ) → Option (List ℕ) → List ℕ → Type 0
+Answers Render nodes reader reader' text =
+    (json : List ℕ) × (value : Json) × WasRead reader reader' json × IsStrictly json value × IsPageFor nodes value text
+Answers Check nodes reader reader' text = Keeps reader reader'
+
+-- the same for the view of these texts
+abbrev pub AnswersTexts : Call → List ℕ → List (List ℕ) → Option (List ℕ) → Option (List ℕ) → List ℕ → Type 0
+AnswersTexts call view partials reader reader' text =
+    (nodes : Nodes Placed) × AreOfView (map (λ path. path.now) call.partials.now) view partials nodes
+    × Answers call.command nodes reader reader' text
+
+-- for some texts, which are those of the files
+abbrev pub AnswersFiles : Call → Option (List ℕ) → Option (List ℕ) → List ℕ → Type 0
+AnswersFiles call reader reader' text =
+    (view : List ℕ) × (partials : List (List ℕ)) × AnswersTexts call view partials reader reader' text
 
 -- the words call for a command, and this is its text
 abbrev pub AnswersCall : List (List ℕ) → Option (List ℕ) → Option (List ℕ) → List ℕ → Type 0
-AnswersCall words reader reader' text = (call : Call) × (words_of call ≡ words) × Answers call.command reader reader' text
+AnswersCall words reader reader' text = (call : Call) × (words_of call ≡ words) × AnswersFiles call reader reader' text
 
 -- a run, by its words, by its reader and its writer before and after, and by what it answers: a fault, but for that of the writer,
 -- leaves the output as it was

@@ -4,7 +4,16 @@ ghost use Rattle.std.specs.Prelude.{◌≡◌, map, string_bytes, IfErr, IfOk, O
 ghost use Rattle.std.specs.Io.KnownBytes.{Appends};
 ghost use Rattle.hesc_specs.specs.Text.Beginning.{AppendsBeginning};
 ghost use Rattle.hesc_tool.specs.Steps.{WasRead};
-ghost use Rattle.hesc_views.specs.Run.{Answers, IsMakingFault, RanAs};
+ghost use Rattle.html_view.specs.Reading.{partials_of};
+ghost use Rattle.html_view.specs.Views.{nodes_in};
+ghost use Rattle.hesc_views.specs.Run.{
+  AnswersFiles,
+  AnswersTexts,
+  AreOfView,
+  IsMakingFault,
+  RanAs,
+  partials_named,
+};
 ghost use Rattle.hesc_views.specs.declared.faults.Fault.{Fault};
 
 use crate::check::append_nodes;
@@ -53,7 +62,7 @@ fn answer_to<A: Allocator + Copy, S: Sources, R: Read>(
     sources: &S,
     input: &mut R,
 ) -> Result<String<A>, Fault>
-    ensures made { IfOk result (λ text. Answers call.entry.command
+    ensures made { IfOk result (λ text. AnswersFiles call.entry
         (R.remaining input.old) (R.remaining input.new) (string_bytes text)) }
     ensures fault { IfErr result IsMakingFault }
 {
@@ -75,7 +84,8 @@ fn answer_of<A: Allocator + Copy, R: Read>(
     texts: Texts<'_>,
     input: &mut R,
 ) -> Result<String<A>, Fault>
-    ensures made { IfOk result (λ text. Answers call.entry.command
+    ensures made { IfOk result (λ text. AnswersTexts call.entry texts.entry.view.now
+        (map (λ text. text.now) texts.entry.partials.now)
         (R.remaining input.old) (R.remaining input.new) (string_bytes text)) }
     ensures fault { IfErr result IsMakingFault }
 {
@@ -99,7 +109,9 @@ fn view_of<'t, A: Allocator + Copy>(
     paths: &[&str],
     texts: Texts<'t>,
 ) -> Result<View<'t, A>, Fault>
-    ensures { IfErr result IsMakingFault }
+    ensures made { IfOk result (λ view. AreOfView (map (λ path. path.now) paths.now)
+        texts.entry.view.now (map (λ text. text.now) texts.entry.partials.now) (nodes_in view)) }
+    ensures fault { IfErr result IsMakingFault }
 {
     let partials = named(alloc, paths, texts.partials)?;
     match View::parse(alloc, texts.view, partials.as_slice()) {
@@ -113,10 +125,20 @@ fn named<'w, 't, A: Allocator>(
     alloc: A,
     paths: &[&'w str],
     texts: &[&'t str],
-) -> Result<Vec<(&'w str, &'t str), A>, AllocError> {
+) -> Result<Vec<(&'w str, &'t str), A>, AllocError>
+    ensures { IfOk result (λ partials. partials_of partials.items
+        ≡ partials_named (map (λ path. path.now) paths.now) (map (λ text. text.now) texts.now)) }
+{
     let mut partials = Vec::new(alloc);
-    for (path, text) in paths.iter().zip(texts.iter()) {
+    let mut paths_left = paths;
+    let mut texts_left = texts;
+    'partials: while let [path, other_paths @ ..] = paths_left {
+        let [text, other_texts @ ..] = texts_left else {
+            return Ok(partials);
+        };
         partials.push((partial_name(*path), *text))?;
+        paths_left = other_paths;
+        texts_left = other_texts;
     }
     Ok(partials)
 }
