@@ -1,14 +1,14 @@
 -- The lines of nodes.
-use Rattle.std.proofs.Common.{Vec, rules, ◌≡◌, ◌+◌, ◌==◌, ◌<◌, ◌≤◌, ℕ, suc, List, [], ◌∷◌, ◌++◌, Option, Result, Ok, Err, get_or, length, take, map, refl, sym, ap, ◌∙◌, append_assoc, append-nil, arith, OnOk, flat_map, subst}
+use Rattle.std.proofs.Common.{Vec, rules, ◌≡◌, ◌==◌, ◌<◌, ℕ, suc, List, [], ◌∷◌, ◌++◌, Option, Result, Ok, Err, get_or, length, take, map, refl, sym, ap, ◌∙◌, append_assoc, append-nil, OnOk, subst}
 use Rattle.std.specs.List.{concat}
 use Rattle.std.specs.Vec.{vec_len}
 use Rattle.std.proofs.Math.Seq.{take-suc}
 use Rattle.std.proofs.lemmas.Grind.{flat_map-append}
 use Rattle.std.proofs.lemmas.List.{length-map}
-use Rattle.html_view.specs.declared.node.Node.{Markup, Node, Section, Slot, the_lemmas}
+use Rattle.html_view.specs.declared.node.Node.{Node, Section, the_lemmas}
 use Rattle.html_view.specs.declared.node.Opening.{Opening}
 use Rattle.html_view.specs.declared.node.Placed.{Placed}
-use Rattle.hesc_views.specs.Checks.{body_sign, has_none, lines_of, node_lines, otherwise_sign, section_lines, slot_line, tag_line}
+use Rattle.hesc_views.specs.Checks.{body_sign, has_none, lines_of, node_lines, otherwise_sign, section_lines, tag_line}
 
 pub vec_has_none : {X A : Type 0} (v : Vec X A) → (vec_len v == 0) ≡ has_none v.items
 vec_has_none v = ap (λ n. n == 0) v.ok.0

@@ -3,7 +3,6 @@ use Rattle.std.specs.Prelude.{◌++◌, ℕ, List, [], codes, decimal}
 use Rattle.html_template.specs.declared.faults.PartFault.{PartFault}
 use Rattle.html_template.specs.declared.faults.PartFault.TheVariants as part
 use Rattle.html_template.specs.declared.faults.TextFault.TheVariants as text
-use Rattle.html_view.specs.declared.faults.Position.{Position}
 use Rattle.html_view.specs.declared.faults.DataFault.{DataFault}
 use Rattle.html_view.specs.declared.faults.DataFault.TheVariants as of_data
 use Rattle.html_view.specs.declared.faults.TagFault.{TagFault}

@@ -1,5 +1,5 @@
 -- The words that call for a command for views, and for its files.
-use Rattle.std.specs.Prelude.{◌≡◌, ℕ, List, [], ◌∷◌, codes, map, Result, Ok, Err}
+use Rattle.std.specs.Prelude.{◌≡◌, ℕ, List, [], ◌∷◌, codes, map, Result, Ok}
 use Rattle.hesc_tool.specs.declared.faults.Fault.{Fault}
 use Rattle.hesc_views.specs.declared.words.Call.{Call}
 use Rattle.hesc_views.specs.declared.words.Command.{Command}
