@@ -2,3 +2,4 @@ mod Numbered
 mod Checked
 mod Named
 mod Flushed
+mod Read

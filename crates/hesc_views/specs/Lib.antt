@@ -1,6 +1,7 @@
 pub mod Words
 pub mod Names
 pub mod Places
+pub mod Sources
 pub mod Faults
 pub mod Pages
 pub mod Checks

@@ -7,6 +7,7 @@ use Rattle.hesc_tool.specs.Faults as tool
 use Rattle.hesc_tool.specs.declared.faults.Fault as tool_fault
 use Rattle.hesc_views.specs.Faults.{line_text, status_of}
 use Rattle.hesc_views.specs.Run.{RanAs}
+use Rattle.hesc_views.specs.Sources.{Files}
 use Rattle.hesc_views.specs.Words.{paths_in}
 use Rattle.hesc_views.specs.declared.faults.Fault.{Fault}
 use Rattle.hesc_views.specs.declared.faults.Fault.TheVariants.{Memory}
@@ -24,10 +25,10 @@ abbrev pub EndsAs : List (List ℕ) → Result (Unit {0}) Fault → Option (List
 EndsAs words (Ok _) errors errors' status = (status ≡ 0) × Keeps errors errors'
 EndsAs words (Err fault) errors errors' status = (status ≡ status_of fault) × TellsFault (paths_in words) fault errors errors'
 
--- the program, by its words, by its reader, its writer and its error stream before and after, and by its status
-abbrev pub ServedAs : Result (List (List ℕ)) tool_fault.Fault → Option (List ℕ) → Option (List ℕ) → Option (List ℕ) → Option (List ℕ)
+-- the program, by the files, by its words, by its reader, its writer and its error stream before and after, and by its status
+abbrev pub ServedAs : Files → Result (List (List ℕ)) tool_fault.Fault → Option (List ℕ) → Option (List ℕ) → Option (List ℕ) → Option (List ℕ)
     → Option (List ℕ) → Option (List ℕ) → ℕ → Type 0
-ServedAs (Ok words) reader reader' writer writer' errors errors' status =
-    (outcome : Result (Unit {0}) Fault) × RanAs words reader reader' writer writer' outcome × EndsAs words outcome errors errors' status
-ServedAs (Err fault) reader reader' writer writer' errors errors' status =
+ServedAs files (Ok words) reader reader' writer writer' errors errors' status =
+    (outcome : Result (Unit {0}) Fault) × RanAs files words reader reader' writer writer' outcome × EndsAs words outcome errors errors' status
+ServedAs files (Err fault) reader reader' writer writer' errors errors' status =
     Keeps reader reader' × Keeps writer writer' × (status ≡ tool.status_of fault) × Tells (tool.line_of fault) errors errors'

@@ -9,6 +9,7 @@ use Rattle.hesc_specs.specs.Text.Beginning.{AppendsBeginning}
 use Rattle.hesc_tool.specs.Steps.{WasRead}
 use Rattle.hesc_views.specs.Names.{name_in}
 use Rattle.hesc_views.specs.Pages.{IsPageFor, IsStrictly}
+use Rattle.hesc_views.specs.Sources.{AreTextsOf, Files, IsTextOf}
 use Rattle.hesc_views.specs.Words.{CallForNothing, words_of}
 use Rattle.hesc_views.specs.declared.faults.Fault.{Fault}
 use Rattle.hesc_views.specs.declared.faults.Fault.TheVariants.{Usage, UnreadableFile, FileNotUtf8, Memory, Write}
@@ -51,23 +52,24 @@ AnswersTexts call view partials reader reader' text =
     (nodes : Nodes Placed) × AreOfView (map (λ path. path.now) call.partials.now) view partials nodes
     × Answers call.command nodes reader reader' text
 
--- for some texts, which are those of the files
-abbrev pub AnswersFiles : Call → Option (List ℕ) → Option (List ℕ) → List ℕ → Type 0
-AnswersFiles call reader reader' text =
-    (view : List ℕ) × (partials : List (List ℕ)) × AnswersTexts call view partials reader reader' text
+-- for the texts of the files, where these are known
+abbrev pub AnswersFiles : Files → Call → Option (List ℕ) → Option (List ℕ) → List ℕ → Type 0
+AnswersFiles files call reader reader' text =
+    (view : List ℕ) × (partials : List (List ℕ)) × IsTextOf (files call.view.now) view
+    × AreTextsOf files (map (λ path. path.now) call.partials.now) partials × AnswersTexts call view partials reader reader' text
 
 -- the words call for a command, and this is its text
-abbrev pub AnswersCall : List (List ℕ) → Option (List ℕ) → Option (List ℕ) → List ℕ → Type 0
-AnswersCall words reader reader' text = (call : Call) × (words_of call ≡ words) × AnswersFiles call reader reader' text
+abbrev pub AnswersCall : Files → List (List ℕ) → Option (List ℕ) → Option (List ℕ) → List ℕ → Type 0
+AnswersCall files words reader reader' text = (call : Call) × (words_of call ≡ words) × AnswersFiles files call reader reader' text
 
--- a run, by its words, by its reader and its writer before and after, and by what it answers: a fault, but for that of the writer,
+-- a run, by the files, by its words, by its reader and its writer before and after, and by what it answers: a fault, but for that of the writer,
 -- leaves the output as it was
-abbrev pub RanAs : List (List ℕ) → Option (List ℕ) → Option (List ℕ) → Option (List ℕ) → Option (List ℕ)
+abbrev pub RanAs : Files → List (List ℕ) → Option (List ℕ) → Option (List ℕ) → Option (List ℕ) → Option (List ℕ)
     → Result (Unit {0}) Fault → Type 0
-RanAs words reader reader' writer writer' (Ok _) =
-    (text : List ℕ) × AnswersCall words reader reader' text × Appends writer writer' text
-RanAs words reader reader' writer writer' (Err Write) =
-    (text : List ℕ) × AnswersCall words reader reader' text × AppendsBeginning writer writer' text
-RanAs words reader reader' writer writer' (Err Usage) =
+RanAs files words reader reader' writer writer' (Ok _) =
+    (text : List ℕ) × AnswersCall files words reader reader' text × Appends writer writer' text
+RanAs files words reader reader' writer writer' (Err Write) =
+    (text : List ℕ) × AnswersCall files words reader reader' text × AppendsBeginning writer writer' text
+RanAs files words reader reader' writer writer' (Err Usage) =
     CallForNothing words × Keeps reader reader' × Keeps writer writer'
-RanAs words reader reader' writer writer' (Err other) = Keeps writer writer'
+RanAs files words reader reader' writer writer' (Err other) = Keeps writer writer'

@@ -33,7 +33,8 @@ pub fn serve<A: Allocator, B: Allocator, S: Sources, R: Read, W: Write, E: Write
     output: &mut W,
     errors: &mut E,
 ) -> u8
-    ensures { ServedAs (words_given args) (R.remaining input.old) (R.remaining input.new)
+    ensures { ServedAs (λ path. S.bytes sources.now path) (words_given args)
+        (R.remaining input.old) (R.remaining input.new)
         (W.contents output.old) (W.contents output.new)
         (E.contents errors.old) (E.contents errors.new) result }
 {
@@ -60,7 +61,8 @@ fn run_and_flush<A: Allocator, S: Sources, R: Read, W: Write>(
     input: &mut R,
     output: &mut W,
 ) -> Result<(), Fault>
-    ensures { RanAs (map (λ word. word.now) words.now) (R.remaining input.old) (R.remaining input.new)
+    ensures { RanAs (λ path. S.bytes sources.now path) (map (λ word. word.now) words.now)
+        (R.remaining input.old) (R.remaining input.new)
         (W.contents output.old) (W.contents output.new) result }
 {
     match run(alloc, heap, words, sources, input, output) {

@@ -1,6 +1,8 @@
 //! The files of a view.
-ghost use Rattle.std.specs.Prelude.{IfErr};
+ghost use Rattle.std.specs.Prelude.{List, None, Option, map, string_bytes, ℕ, IfErr, IfOk};
+ghost use Rattle.std.specs.Io.KnownBytes.{Keeps};
 ghost use Rattle.hesc_views.specs.Run.{IsFileFault};
+ghost use Rattle.hesc_views.specs.Sources.{AreTextsOf, IsTextOf};
 
 use crate::faults::Fault;
 use hesc_tool::read_whole;
@@ -14,8 +16,12 @@ pub trait Sources {
     /// What reads a file.
     type File: Read + Drop;
 
+    // The bytes of the file of a path, where they are known.
+    ghost bytes: { Self → List ℕ → Option (List ℕ) } = { λ _ _. None };
+
     /// The file of this path.
-    fn open(&self, path: &str) -> io::Result<Self::File>;
+    fn open(&self, path: &str) -> io::Result<Self::File>
+        ensures { IfOk result (λ file. Keeps (bytes self.now path.now) (Self.File.remaining file)) };
 }
 
 /// The files of the system.
@@ -37,7 +43,8 @@ pub(crate) fn read_file<A: Allocator, S: Sources>(
     path: &str,
     number: usize,
 ) -> Result<String<A>, Fault>
-    ensures { IfErr result IsFileFault }
+    ensures text { IfOk result (λ text. IsTextOf (S.bytes sources.now path.now) (string_bytes text)) }
+    ensures fault { IfErr result IsFileFault }
 {
     let Ok(mut file) = sources.open(path) else {
         return Err(Fault::UnreadableFile(number));
@@ -59,11 +66,14 @@ pub(crate) fn read_files<A: Allocator + Copy, S: Sources>(
     sources: &S,
     paths: &[&str],
 ) -> Result<Vec<String<A>, A>, Fault>
-    ensures { IfErr result IsFileFault }
+    ensures texts { IfOk result (λ texts. AreTextsOf (λ path. S.bytes sources.now path)
+        (map (λ path. path.now) paths.now) (map string_bytes texts.items)) }
+    ensures fault { IfErr result IsFileFault }
 {
     let mut texts = Vec::new(alloc);
-    for (number, path) in paths.iter().enumerate() {
-        let text = read_file(alloc, sources, *path, number.saturating_add(1))?;
+    for path in paths {
+        let number = texts.len().saturating_add(1);
+        let text = read_file(alloc, sources, *path, number)?;
         match texts.push(text) {
             Ok(()) => {}
             Err(_) => return Err(Fault::Memory),

@@ -44,7 +44,8 @@ pub fn run<A: Allocator, S: Sources, R: Read, W: Write>(
     input: &mut R,
     output: &mut W,
 ) -> Result<(), Fault>
-    ensures { RanAs (map (λ word. word.now) words.now) (R.remaining input.old) (R.remaining input.new)
+    ensures { RanAs (λ path. S.bytes sources.now path) (map (λ word. word.now) words.now)
+        (R.remaining input.old) (R.remaining input.new)
         (W.contents output.old) (W.contents output.new) result }
 {
     let Some(call) = call_of(words) else {
@@ -62,7 +63,7 @@ fn answer_to<A: Allocator + Copy, S: Sources, R: Read>(
     sources: &S,
     input: &mut R,
 ) -> Result<String<A>, Fault>
-    ensures made { IfOk result (λ text. AnswersFiles call.entry
+    ensures made { IfOk result (λ text. AnswersFiles (λ path. S.bytes sources.now path) call.entry
         (R.remaining input.old) (R.remaining input.new) (string_bytes text)) }
     ensures fault { IfErr result IsMakingFault }
 {
