@@ -25,6 +25,7 @@ use crate::sources::{Sources, read_file, read_files};
 use crate::words::{Call, Command, call_of};
 use hesc_tool::{lent, read_whole, write_whole};
 use html_view::View;
+use simdutf8::basic::from_utf8;
 use std::alloc::{AllocError, Allocator, Global};
 use std::io::{Read, Write};
 
@@ -98,8 +99,9 @@ fn answer_of<A: Allocator + Copy, R: Read>(
             Ok(lines)
         }
         Command::Render => {
-            let data = read_text(alloc, input)?;
-            page_of(alloc, heap, &view, texts, data.as_str())
+            let input = read_input(alloc, input)?;
+            let data = text_of(&input)?;
+            page_of(alloc, heap, &view, texts, data)
         }
     }
 }
@@ -144,18 +146,25 @@ fn named<'w, 't, A: Allocator>(
     Ok(partials)
 }
 
-// All of the input, which has to be a text.
-fn read_text<A: Allocator, R: Read>(alloc: A, input: &mut R) -> Result<String<A>, Fault>
+// All of the input.
+fn read_input<A: Allocator, R: Read>(alloc: A, input: &mut R) -> Result<Vec<u8, A>, Fault>
     ensures whole { IfOk result
-        (λ text. WasRead (R.remaining input.old) (R.remaining input.new) (string_bytes text)) }
+        (λ bytes. WasRead (R.remaining input.old) (R.remaining input.new) bytes.items) }
     ensures fault { IfErr result IsMakingFault }
 {
-    let bytes = match read_whole(alloc, input) {
-        Ok(bytes) => bytes,
-        Err(hesc_tool::Fault::Memory) => return Err(Fault::Memory),
-        Err(_) => return Err(Fault::UnreadableInput),
-    };
-    match String::from_utf8(bytes) {
+    match read_whole(alloc, input) {
+        Ok(bytes) => Ok(bytes),
+        Err(hesc_tool::Fault::Memory) => Err(Fault::Memory),
+        Err(_) => Err(Fault::UnreadableInput),
+    }
+}
+
+// The input, which has to be a text.
+fn text_of(input: &[u8]) -> Result<&str, Fault>
+    ensures text { IfOk result (λ text. text.now ≡ input.now) }
+    ensures fault { IfErr result IsMakingFault }
+{
+    match from_utf8(input) {
         Ok(text) => Ok(text),
         Err(_) => Err(Fault::InputNotUtf8),
     }
