@@ -2,6 +2,7 @@
 use Rattle.std.specs.Prelude.{◌≡◌, ⊤, ℕ, List, [], ◌∷◌, ◌++◌, Option, Result, Ok, Err, map}
 use Rattle.std.specs.Io.KnownBytes.{Appends}
 use Rattle.hesc_specs.specs.Text.Beginning.{AppendsBeginning}
+use Rattle.html_template.specs.FilledUrls.{HasUrlsOf}
 use Rattle.html_template.specs.Structure.{IsPageOf, JoinsWritten}
 use Rattle.html_template.specs.Templates.{Given, part_of}
 use Rattle.html_template.specs.declared.faults.WriteFault.{WriteFault}
@@ -44,13 +45,16 @@ abbrev pub IsOfTexts : {F : Type 0} → WriteFault F → Type 0
 IsOfTexts (Texts fault) = ⊤
 IsOfTexts (Writer refusal) = ⊥
 
--- what data makes is a page, and behind a page it makes a page of the joined parts
+-- what data makes is a page, whose URLs are those of the unrolling, filled by the texts; and behind a page it makes a page of the
+-- joined parts
 pub record AddsPage (told : Unrolled) (old new : List ℕ) : Type 0 where
   pub page : (found : Unrolling) → told ≡ Ok found → IsPageOf (parts_of found) found.texts (rendered found)
   pub joins : (found : Unrolling) → told ≡ Ok found → (parts : List Given) (before : List (List ℕ)) → IsPageOf parts before old →
       IsPageOf (parts ++ parts_of found) (before ++ found.texts) new
+  pub filled : (found : Unrolling) → told ≡ Ok found → HasUrlsOf (joined found.pieces) found.texts
 
 -- the same of a writer, where it is known what it holds
 pub record WritesPage (told : Unrolled) (old new : Option (List ℕ)) : Type 0 where
   pub page : (found : Unrolling) → told ≡ Ok found → IsPageOf (parts_of found) found.texts (rendered found)
   pub joins : (found : Unrolling) → told ≡ Ok found → JoinsWritten (parts_of found) found.texts old new
+  pub filled : (found : Unrolling) → told ≡ Ok found → HasUrlsOf (joined found.pieces) found.texts

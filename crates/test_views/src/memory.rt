@@ -1,5 +1,6 @@
 //! Memory that is refused.
-use html_view::{View, ViewFault};
+use html_view::{DataFault, Value, View, ViewFault};
+use json::Scratch;
 use std::test::Fail;
 use test_support::Refusing;
 
@@ -25,6 +26,35 @@ fn every_request_of_parse_is_refused_in_turn(rt: HostRuntime) -> Result<(), Fail
         };
         assert!(rt; fault == Some(ViewFault::Memory), "{number}");
         assert!(rt; heap.asked(number) == number);
+    }
+    Ok(())
+}
+
+const DATA: &str = "{\"l\": [\"<\", true], \"x\": \"a&b\"}";
+
+#[test]
+fn every_request_of_append_is_refused_in_turn(rt: HostRuntime) -> Result<(), Fail> {
+    let mut scratch = Scratch::new(rt.alloc());
+    let Ok(tree) = json::Value::parse(rt.alloc(), DATA, &mut scratch) else {
+        panic!(rt; "the data is JSON");
+    };
+    let heap = Refusing::new(rt.alloc(), 0);
+    let Ok(view) = View::parse(&heap, "{{#l}}<b>{{.}}</b>{{/l}}<p>{{x}}", &[]) else {
+        panic!(rt; "the source is a view");
+    };
+    let mut page = String::from_str(&heap, "x")?;
+    heap.refuse(0);
+    assert!(rt; view.append(&mut page, Value::of_json(&tree)) == Ok(()));
+    assert!(rt; page.as_str() == "x<b>&lt;</b><b>true</b><p>a&amp;b");
+    let requests = heap.asked(0);
+    assert!(rt; requests >= 3, "{requests}");
+    for number in 1..=requests {
+        heap.refuse(0);
+        let mut page = String::from_str(&heap, "x")?;
+        heap.refuse(number);
+        let outcome = view.append(&mut page, Value::of_json(&tree));
+        assert!(rt; outcome == Err(DataFault::Memory), "{number}");
+        assert!(rt; page.as_str() == "x", "{number}");
     }
     Ok(())
 }
