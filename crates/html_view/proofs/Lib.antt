@@ -1,6 +1,5 @@
 pub mod SourceTagged
 pub mod SourceReads
-pub mod Cuts
 pub mod SourceTags
 pub mod SourceNames
 pub mod SourceLines

@@ -7,7 +7,8 @@ use Rattle.std.specs.Str.Pattern.{CutsPrefixes, CutsSuffixes, FindsPrefixBy, Fin
 use Rattle.std.proofs.lemmas.Bool.{and_from, and_parts, cases_Bool, eqb-true, ne_eqb, or_cases}
 use Rattle.std.proofs.lemmas.List.{length-take, take-append-drop}
 use Rattle.std.proofs.lemmas.List.Folds.{list_all-append}
-use Rattle.html_view.specs.Lines.{begins_behind, behind_end, carriage_return, is_blank, line_feed, trim_end, trim_start}
+use Rattle.hesc_specs.specs.Text.Ascii.{carriage_return, line_feed}
+use Rattle.html_view.specs.Lines.{begins_behind, behind_end, is_blank, trim_end, trim_start}
 
 -- ---- blanks
 

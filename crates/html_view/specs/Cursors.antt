@@ -1,7 +1,8 @@
 -- Reading a text: the first tag from here, and the markup before it.
 use Rattle.std.specs.Prelude.{◌≡◌, ℕ, ◌+◌, Bool, true, false, List, ◌++◌, Option, Some, None, length, if◌then◌else◌}
 use Rattle.html_view.specs.Lines.{before_line, behind_line}
-use Rattle.html_view.specs.Tags.{IsTag, Lacks, closing, may_be_lone, opening}
+use Rattle.html_template_source.specs.Sources.{Lacks, closing, opening}
+use Rattle.html_view.specs.Tags.{IsTag, may_be_lone}
 use Rattle.html_view.specs.declared.faults.Position.{Position}
 use Rattle.html_view.specs.declared.faults.TagFault.TheVariants.{Unclosed}
 use Rattle.html_view.specs.declared.faults.ViewFault.{ViewFault}

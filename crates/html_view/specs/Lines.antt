@@ -1,15 +1,10 @@
 -- Lines. A tag that is all of its line, but for blanks, leaves no line behind.
 use Rattle.std.specs.Prelude.{ℕ, Bool, ◌&&◌, ◌||◌, List, [], ◌∷◌, Option, Some, None, ◌==◌, if◌then◌else◌}
 use Rattle.std.specs.List.{list_all}
-
-abbrev pub line_feed : ℕ
-line_feed = 10
-
-abbrev pub carriage_return : ℕ
-carriage_return = 13
+use Rattle.hesc_specs.specs.Text.Ascii.{carriage_return, line_feed, space, tab}
 
 abbrev pub is_blank : ℕ → Bool
-is_blank b = (32 == b) || (9 == b)
+is_blank b = (space == b) || (tab == b)
 
 -- bytes without the blanks that stand last
 abbrev pub trim_end : List ℕ → List ℕ

@@ -6,7 +6,7 @@ use Rattle.html_view.specs.Cursors.{Here, Passes, first, here_of}
 use Rattle.html_view.specs.Names.{words_of}
 use Rattle.html_view.specs.Nodes as node
 use Rattle.html_view.specs.Nodes.{Asked, Nodes, Opening}
-use Rattle.html_view.specs.Tags.{Lacks, opening}
+use Rattle.html_template_source.specs.Sources.{Lacks, opening}
 use Rattle.html_view.specs.declared.faults.TagFault.TheVariants.{Unended, Unopened}
 use Rattle.html_view.specs.declared.faults.ViewFault.{ViewFault}
 use Rattle.html_view.specs.declared.faults.ViewFault.TheVariants as view

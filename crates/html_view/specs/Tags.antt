@@ -3,27 +3,17 @@ use Rattle.std.specs.Prelude.{◌≡◌, ◌≢◌, ⊤, ℕ, Bool, true, false,
 use Rattle.std.specs.Char.{is_ascii_alphanumeric, is_not_whitespace, is_whitespace}
 use Rattle.std.specs.List.{AllByRecursion, list_all}
 use Rattle.std.specs.Str.{NoCharPasses}
+use Rattle.html_template_source.specs.Sources.{quoted_opening}
 use Rattle.html_view.specs.Names.{words_of}
 use Rattle.html_view.specs.declared.source.tag.Sign.{Sign}
 use Rattle.html_view.specs.declared.source.tag.Sign.TheVariants.{Block, Comment, Each, End, If, Layout, Partial, Quoted, Slot, Unless}
-
--- the marks around a tag
-abbrev pub opening : List ℕ
-opening = codes "{{"
-
-abbrev pub closing : List ℕ
-closing = codes "}}"
-
--- the mark stands nowhere in the bytes
-abbrev pub Lacks : List ℕ → List ℕ → Type 0
-Lacks mark bytes = (front rest : List ℕ) → bytes ≢ front ++ (mark ++ rest)
 
 -- ---- signs
 
 -- with `{{"{{"}}` a `{{` of the markup is written
 abbrev pub sign_text : Sign → List ℕ
 sign_text Slot = []
-sign_text Quoted = codes "\"{{\""
+sign_text Quoted = quoted_opening
 sign_text Comment = codes "!"
 sign_text Each = codes "#"
 sign_text If = codes "?"

@@ -8,7 +8,8 @@
 //! `[each name: body]`, where the first word says how often it may stand. What stands where it does not
 //! follows after `|`, if there is anything.
 //!
-//! A row `page PAGE JSON SOURCE` and so on has the page of JSON data, or the fault of the data.
+//! A row `page PAGE JSON SOURCE` and so on has the page of JSON data, or the fault of the data, and a row
+//! `names NAMES SOURCE` the names that a view asks for.
 //!
 //! Printed is each row whose answer is another one, and last how many rows there are, and how many of them
 //! are wrong.
@@ -16,9 +17,11 @@
 
 #[cfg(test)]
 mod memory;
+mod names;
 mod nodes;
 mod pages;
 
+use crate::names::names_of;
 use crate::nodes::show_nodes;
 use crate::pages::page_of;
 use html_view::View;
@@ -76,21 +79,19 @@ fn answer_to_data(alloc: Global, json: &str, texts: &[String]) -> Result<String,
 fn holds(rt: &impl Print, alloc: Global, row: &str) -> io::Result<bool> {
     let mut columns = row.split('\t');
     let first = columns.next().unwrap_or("");
-    let is_page = first == "page";
-    let wanted = text_of(
-        alloc,
-        if is_page {
-            columns.next().unwrap_or("")
-        } else {
-            first
-        },
-    )?;
+    let has_kind = first == "page" || first == "names";
+    let wanted = if has_kind {
+        columns.next().unwrap_or("")
+    } else {
+        first
+    };
+    let wanted = text_of(alloc, wanted)?;
     let source = text_of(alloc, columns.next().unwrap_or(""))?;
     let texts = texts_of(alloc, columns)?;
-    let answer = if is_page {
-        answer_to_data(alloc, source.as_str(), &texts)?
-    } else {
-        answer_to(alloc, source.as_str(), &texts)?
+    let answer = match first {
+        "page" => answer_to_data(alloc, source.as_str(), &texts)?,
+        "names" => names_of(alloc, source.as_str(), &partials_of(alloc, &texts)?)?,
+        _ => answer_to(alloc, source.as_str(), &texts)?,
     };
     if answer.as_str() != wanted.as_str() {
         let answer = answer.as_str().replace(alloc, "\n", "⏎")?;

@@ -1,6 +1,6 @@
 //! A cursor over one text: the next tag, and the markup before it.
 ghost use Rattle.std.specs.Prelude.{◌≡◌, ◌+◌, ◌++◌, ◌<◌, ◌≤◌, ◌^◌, IfErr, IfNone, IfOk, IfSome, IsSome, length};
-ghost use Rattle.html_view.specs.Tags.{Lacks};
+ghost use Rattle.html_template_source.specs.Sources.{Lacks};
 
 use crate::faults::{Position, TagFault, ViewFault};
 use crate::source::lines::{before_line, behind_line};

@@ -1,14 +1,7 @@
 //! The line of a tag.
 ghost use Rattle.std.specs.Prelude.{◌≡◌, ◌≤◌, IfSome, length};
 ghost use Rattle.std.specs.Option.{option_map};
-ghost use Rattle.html_view.specs.Lines.{
-  before_line,
-  begins_behind,
-  behind_end,
-  behind_line,
-  trim_end,
-  trim_start,
-};
+ghost use Rattle.html_view.specs.Lines.{before_line, begins_behind, behind_end, behind_line, trim_end, trim_start};
 
 // White space within a line.
 const BLANKS: [char; 2] = [' ', '\t'];

@@ -3,17 +3,7 @@ ghost use Rattle.std.specs.Prelude.{◌≡◌, ◌≢◌, ◌∷◌, ◌++◌, [
 ghost use Rattle.std.specs.List.{AllByRecursion};
 ghost use Rattle.html_view.specs.Names.{words_behind};
 ghost use Rattle.html_view.specs.Reading.{has_end};
-ghost use Rattle.html_view.specs.Tags.{
-  IsName,
-  IsNameOf,
-  IsPartialName,
-  IsTag,
-  IsWord,
-  is_apart,
-  is_letter,
-  may_be_lone,
-  sign_text,
-};
+ghost use Rattle.html_view.specs.Tags.{IsName, IsNameOf, IsPartialName, IsTag, IsWord, is_apart, is_letter, may_be_lone, sign_text};
 ghost use Rattle.html_view.specs.declared.faults.TagFault.TheVariants.{Unclosed};
 ghost use Rattle.html_view.specs.declared.source.tag.Sign.TheVariants.{Slot};
 

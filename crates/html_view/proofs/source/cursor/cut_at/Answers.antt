@@ -1,4 +1,4 @@
-use Rattle.html_view.proofs.Cuts.{first_of, none_of}
+use Rattle.html_template_source.proofs.Cuts.{first_of, none_of}
 use Rattle.html_view.proofs.source.cursor.cut_at.Goals as goal
 
 pub returns-clause-first : goal.returns-clause-first

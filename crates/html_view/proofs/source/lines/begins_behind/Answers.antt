@@ -1,6 +1,6 @@
 use Rattle.std.proofs.Common.{sym, ◌∙◌, arith}
 use Rattle.std.proofs.lemmas.Str.Pattern.{ends_char}
-use Rattle.html_view.specs.Lines.{line_feed}
+use Rattle.hesc_specs.specs.Text.Ascii.{line_feed}
 use Rattle.html_view.proofs.SourceLines.{begins_ends}
 use Rattle.html_view.proofs.source.lines.begins_behind.Goals as goal
 

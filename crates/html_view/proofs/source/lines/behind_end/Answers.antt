@@ -1,6 +1,6 @@
 use Rattle.std.proofs.Common.{sym, ◌∙◌, arith}
 use Rattle.std.proofs.lemmas.Str.Pattern.{strip_prefix_char}
-use Rattle.html_view.specs.Lines.{line_feed}
+use Rattle.hesc_specs.specs.Text.Ascii.{line_feed}
 use Rattle.html_view.proofs.SourceLines.{behind_line_feed}
 use Rattle.html_view.proofs.source.lines.behind_end.Goals as goal
 

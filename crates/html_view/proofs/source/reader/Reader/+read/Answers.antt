@@ -4,7 +4,7 @@ use Rattle.html_view.specs.Cursors.{Passes, here_of}
 use Rattle.html_view.specs.Kept.{asked_nodes}
 use Rattle.html_view.specs.Nodes as node
 use Rattle.html_view.specs.Reading.{Closes, Ends, all_marked, asked, asked_partial, marked, spaces_of, partials_of, reads_end, reads_tag, a_comment, a_quoted, a_slot}
-use Rattle.html_view.specs.Tags.{opening}
+use Rattle.html_template_source.specs.Sources.{opening}
 use Rattle.html_view.specs.declared.node.Times.TheVariants as times
 use Rattle.html_view.specs.declared.source.cursor.Tag.{Tag}
 use Rattle.html_view.specs.declared.source.tag.Sign.TheVariants as sign

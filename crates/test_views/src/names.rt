@@ -1,0 +1,24 @@
+//! The names that the view of a source asks for, a section's behind a `#`.
+use html_view::{Name, View};
+use std::alloc::{AllocError, Global};
+
+/// The names, each behind a blank, or the fault of the source.
+pub fn names_of(
+    alloc: Global,
+    source: &str,
+    partials: &[(&str, &str)],
+) -> Result<String, AllocError> {
+    let view = match View::parse(alloc, source, partials) {
+        Ok(view) => view,
+        Err(fault) => return format!(in alloc; "{fault:?}"),
+    };
+    let names = view.names()?;
+    let mut shown = String::new(alloc);
+    for name in &names {
+        match name {
+            Name::Slot(name) => write!(shown, " {name}")?,
+            Name::Section(name) => write!(shown, " #{name}")?,
+        }
+    }
+    Ok(shown)
+}
