@@ -1,3 +1,4 @@
+pub mod Bases
 pub mod Encoded
 pub mod Bytes
 pub mod Components

@@ -1,3 +1,4 @@
+pub mod Bases
 pub mod Components
 pub mod Decoded
 pub mod Heads
@@ -12,3 +13,4 @@ pub mod SlotFaults
 pub mod Shapes
 pub mod Slots
 pub mod TextFaults
+pub mod Words

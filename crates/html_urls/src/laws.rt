@@ -11,16 +11,18 @@ ghost use Rattle.url.specs.Ascii.{slash};
 ghost use Rattle.url.specs.Parser.{parse_url};
 ghost use Rattle.url.specs.Parts.{Parts};
 ghost use Rattle.url.specs.Relative.{segments};
+ghost use Rattle.html_urls.specs.Bases.{FillBehind, IsWebPage, goes_on_so, is_base};
 ghost use Rattle.html_urls.specs.Components.{component};
 ghost use Rattle.html_urls.specs.Decoded.{AreBytes, decoded_segments, has_pairs, query_pairs};
-ghost use Rattle.html_urls.specs.Heads.{on_ok};
+ghost use Rattle.html_urls.specs.Heads.{head_of, on_ok};
 ghost use Rattle.html_urls.specs.Hosts.{IsWebBase};
 ghost use Rattle.html_urls.specs.Links.{HasLinkOrPageScheme, HasLinkScheme, is_link};
 ghost use Rattle.html_urls.specs.Pieces.{filled_pieces, open_path, pieces};
 ghost use Rattle.html_urls.specs.Places.{EndsIn, Fits, SuitsPlace, goes_on};
-ghost use Rattle.html_urls.specs.Shapes.{HasShape, fill, shape_of};
-ghost use Rattle.html_urls.specs.Slots.{FillUrl, begins_in_path, given, slots_of, texts_of, url_of};
+ghost use Rattle.html_urls.specs.Shapes.{HasShape, fill, front_of, shape_of};
+ghost use Rattle.html_urls.specs.Slots.{FillUrl, Markup, begins_in_path, given, slots_of, texts_of, url_of};
 
+use crate::base::BehindBase;
 use crate::parts::UrlPart;
 use crate::place::UrlPlace;
 
@@ -112,4 +114,21 @@ pub fn link_law(text: &str)
     ensures link { (base : Option Parts) → IfSome base HasLinkScheme
         → IfOk (parse_url base text.now) HasLinkScheme }
     ensures page { (base : Option Parts) → IfOk (parse_url base text.now) (HasLinkOrPageScheme base) }
+{}
+
+/// A URL that begins with a base. Texts that fill the parts behind the base fill the URL's parts, of which
+/// the base is the first markup: so what the laws above say of parts holds of it. Its scheme, user,
+/// password, host and port are those of the base alone, whatever stands behind it.
+///
+/// For instance behind `https://a.example/b` and `/items/` the text `../c` stands in
+/// `https://a.example/b/items/..%2Fc`, whose host is that of `https://a.example/b`.
+pub fn base_law(behind: BehindBase, base: &str, parts: &[UrlPart<'_>])
+    requires { is_base behind base.now ≡ true }
+    ensures fills { (texts : List (List ℕ)) → FillBehind behind (map given parts.now) texts
+        → FillUrl (Markup base.now ∷ map given parts.now) texts }
+    ensures head { (page : Option Parts) (texts : List (List ℕ)) → IsWebPage page
+        → goes_on_so behind (front_of (map given parts.now)) ≡ true
+        → FillUrl (Markup base.now ∷ map given parts.now) texts
+        → head_of (parse_url page (base.now ++ url_of (map given parts.now) texts))
+        ≡ head_of (parse_url page base.now) }
 {}

@@ -7,6 +7,7 @@
 #![tactic(auto)]
 
 pub mod append;
+pub mod base;
 pub mod component;
 pub mod forms;
 pub mod laws;
@@ -19,6 +20,7 @@ pub mod segment;
 pub mod slots;
 
 pub use crate::append::append_url;
+pub use crate::base::{BehindBase, behind_base, is_base};
 pub use crate::component::{COMPONENT, Component, put_component};
 pub use crate::forms::{
     append_component, append_component_to_vec, encode_component, encode_component_to_string,

@@ -186,13 +186,13 @@ fn has_host(body: &[u8]) -> bool
 }
 
 // One `/`, and no second one after it.
-fn is_rooted(front: &[u8]) -> bool
+pub(crate) fn is_rooted(front: &[u8]) -> bool
     ensures { result ≡ spec.is_rooted front.now }
 {
     front.starts_with(b"/") && !front.starts_with(b"//")
 }
 
-fn is_web_scheme(scheme: &[u8]) -> bool
+pub(crate) fn is_web_scheme(scheme: &[u8]) -> bool
     ensures { result ≡ hosts.is_web_scheme scheme.now }
 {
     scheme.eq_ignore_ascii_case(b"http") || scheme.eq_ignore_ascii_case(b"https")

@@ -21,7 +21,6 @@ use Rattle.html_urls.specs.Parts.Segments.{HasNoDotSegments, last_segment}
 use Rattle.html_urls.specs.Places.{EndsIn, Fits, SuitsPlace, goes_on}
 use Rattle.html_urls.specs.declared.open_part.OpenPart.{OpenPart}
 use Rattle.html_urls.specs.declared.open_part.OpenPart.TheVariants.{NewSegment, DotSegment, NamedSegment, Query, Fragment}
-use Rattle.html_urls.specs.declared.parts.UrlFault.TheVariants as fault
 use Rattle.html_urls.specs.declared.parts.UrlSlot.{UrlSlot}
 use Rattle.html_urls.specs.declared.place.UrlPlace.{UrlPlace}
 use Rattle.html_urls.specs.declared.place.UrlPlace.TheVariants as place
@@ -36,7 +35,7 @@ use Rattle.html_urls.proofs.Filled.LaterSlots.{Good, of_path, path_over_text, te
 
 -- ---- the host is fixed
 
-begun : (front mark : List ℕ) → begins front mark ≡ true → front ≡ mark ++ drop (length mark) front
+pub begun : (front mark : List ℕ) → begins front mark ≡ true → front ≡ mark ++ drop (length mark) front
 begun front mark = (starts_is Decides-eqb front mark (begins front mark) refl).0
 
 rooted_front : (front : List ℕ) → begins front (codes "/") ≡ true → begins front (codes "//") ≡ false → FixesHost front

@@ -1,5 +1,5 @@
 -- What the parser has read when it comes to the path.
-use Rattle.std.proofs.Common.{◌≡◌, ◌≢◌, ℕ, ◌<◌, Bool, true, false, cond, not, ◌&&◌, ◌||◌, ◌==◌, List, [], ◌∷◌, ◌++◌, length, take, drop, Option, Some, None, Ok, Err, IfSome, IfOk, is_some, unwrap_or, codes, All, sym, refl, ap, ◌∙◌, subst, inl, inr, append_assoc, arith, take_at, drop_at, lit<}
+use Rattle.std.proofs.Common.{◌≡◌, ◌≢◌, ℕ, ◌<◌, Bool, true, false, cond, not, ◌&&◌, ◌||◌, ◌==◌, List, [], ◌∷◌, ◌++◌, length, take, drop, Option, Some, None, Ok, Err, IfSome, IfOk, is_some, unwrap_or, codes, All, sym, refl, ap, ◌∙◌, append_assoc, append-nil, arith, take_at, drop_at}
 use Rattle.std.proofs.lemmas.Bool.{cond-true, cond-false, cond_both, and_parts, and_right, ne_eqb}
 use Rattle.std.proofs.lemmas.Bool.Decides.{nat_tests}
 use Rattle.std.proofs.lemmas.List.Elements.{All-nil, All-cons, All-head, All-tail, All-weaker}
@@ -168,6 +168,18 @@ after_host scheme host rest kind plain =
     ∙ (λ i. and_then (parse_authority scheme (front i)) (λ url. Ok (with_path url (parse_path_start SpecialNotFile [] (back i)))))
     ∙ ap (λ p. and_then (parse_authority scheme host) (λ url. Ok (with_path url p))) (path_start rest)
 
+-- the authority, where nothing follows it
+after_host_alone : (scheme host : List ℕ) → scheme_type scheme ≡ SpecialNotFile → All (λ b. is_any_slash b ≡ false) host →
+    after_double_slash scheme (host ++ []) ≡ and_then (parse_authority scheme host) (λ url. Ok (with_path url (parse_path_start SpecialNotFile [] [])))
+unfolding after_double_slash
+after_host_alone scheme host kind plain =
+    let whole = All-weaker (λ b. is_any_slash b ≡ false) (Passes (λ b. not (is_slash SpecialNotFile b))) (λ b none. grind (arith, nat_tests)) host plain in
+    let len = prefix_len_at (λ b. not (is_slash SpecialNotFile b)) host [] whole tt in
+    let front = ap (λ n. take n (host ++ [])) len ∙ take_at host [] _ refl in
+    let back = ap (λ n. drop n (host ++ [])) len ∙ drop_at host [] _ refl in
+    (λ i. and_then (parse_authority scheme (take (segment_len (kind i) (host ++ [])) (host ++ []))) (λ url. Ok (with_path url (parse_path_start (kind i) [] (drop (segment_len (kind i) (host ++ [])) (host ++ []))))))
+    ∙ (λ i. and_then (parse_authority scheme (front i)) (λ url. Ok (with_path url (parse_path_start SpecialNotFile [] (back i)))))
+
 -- the base that counts has the scheme
 abbrev pub Fits : List ℕ → Option Parts → Type 0
 Fits scheme base = IfSome base (λ url. url.scheme ≡ scheme)
@@ -207,6 +219,30 @@ hosted_parts scheme base host rest query fragment kind fits some other plain =
     ∙ ap (λ r. and_then r (λ url. Ok (with_tail (before_tail url query fragment) query fragment)))
     (cond-false _ _ _ (ap is_file kind) ∙ with_any_base scheme base (host ++ 47 ∷ rest) kind fits ∙ ap (after_double_slash scheme) (skipped host (47 ∷ rest) some slashless) ∙ after_host scheme host rest kind slashless)
     ∙ finish_special scheme (parse_path SpecialNotFile [] rest) query fragment (parse_authority scheme host) kind (authority_scheme scheme host)
+
+-- the same where nothing follows the host
+hosted_alone : (scheme : List ℕ) (base : Option Parts) (host : List ℕ) (query fragment : Option (List ℕ)) → scheme_type scheme ≡ SpecialNotFile → Fits scheme base →
+    0 < length host → All (IsNot 47) host → All (IsNot 92) host →
+    parse_parts scheme base (47 ∷ 47 ∷ (host ++ [])) query fragment
+    ≡ and_then (parse_authority scheme host) (λ url. Ok (with_tail (with_path url (parse_path_start SpecialNotFile [] [])) query fragment))
+unfolding parse_body
+hosted_alone scheme base host query fragment kind fits some other plain =
+    let slashless = no_slashes host other plain in
+    all_reads scheme base (47 ∷ (host ++ [])) query fragment
+    ∙ ap (λ r. and_then r (λ url. Ok (with_tail (before_tail url query fragment) query fragment)))
+    (cond-false _ _ _ (ap is_file kind) ∙ with_any_base scheme base (host ++ []) kind fits ∙ ap (after_double_slash scheme) (skipped host [] some slashless) ∙ after_host_alone scheme host kind slashless)
+    ∙ finish_special scheme (parse_path_start SpecialNotFile [] []) query fragment (parse_authority scheme host) kind (authority_scheme scheme host)
+
+-- the URL of a scheme and a host alone is that of the authority, with a path
+pub alone_reads : (base : Option Parts) (scheme host : List ℕ) (query fragment : Option (List ℕ)) → IsWebScheme scheme → 0 < length host → All (IsNot 47) host → All (IsNot 92) host →
+    parse_by_scheme (split_scheme (scheme ++ codes "://" ++ host)) base (scheme ++ codes "://" ++ host) query fragment
+    ≡ and_then (parse_authority (lowercase scheme) host) (λ url. Ok (with_tail (with_path url (parse_path_start SpecialNotFile [] [])) query fragment))
+alone_reads base scheme host query fragment web some other plain =
+    let body = 47 ∷ 47 ∷ (host ++ []) in
+    let input = scheme ++ codes "://" ++ host in
+    let spelled : input ≡ scheme ++ 58 ∷ body = append_assoc scheme (codes "://") host ∙ ap (λ l. scheme ++ 58 ∷ 47 ∷ 47 ∷ l) (sym (append-nil host)) in
+    ap (λ s. parse_by_scheme s base input query fragment) (ap split_scheme spelled ∙ split_web scheme body web)
+    ∙ hosted_alone (lowercase scheme) (base_for_scheme base (lowercase scheme)) host query fragment (web_type scheme web) (fitting base (lowercase scheme)) some other plain
 
 pub absolute_reads : (base : Option Parts) (scheme host rest : List ℕ) → IsWebScheme scheme → 0 < length host → All (IsNot 47) host → All (IsNot 92) host →
     Reads base (scheme ++ codes "://" ++ host ++ 47 ∷ rest) (parse_authority (lowercase scheme) host) [] rest

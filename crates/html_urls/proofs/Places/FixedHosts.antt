@@ -14,7 +14,7 @@ use Rattle.html_urls.specs.Links.{is_mark, mark_at}
 use Rattle.html_urls.specs.OpenParts.{has_byte, has_host}
 use Rattle.html_urls.proofs.Splits.{some_value}
 
-web_scheme : (scheme : List ℕ) → is_web_scheme scheme ≡ true → IsWebScheme scheme
+pub web_scheme : (scheme : List ℕ) → is_web_scheme scheme ≡ true → IsWebScheme scheme
 web_scheme scheme known =
     let low = lowercase scheme in
     ⊎_elim

@@ -1,0 +1,5 @@
+pub mod Ends
+pub mod Filling
+pub mod Headings
+pub mod Opened
+pub mod Origins
