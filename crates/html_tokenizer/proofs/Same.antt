@@ -1,9 +1,8 @@
 -- Two running tokenizers in one state.
-use Rattle.std.proofs.Common.{ℕ, ◌≡◌, List, refl, sym, ap, ◌∙◌}
-use Rattle.html_tokenizer.specs.declared.elements.Content.{Content}
+use Rattle.std.proofs.Common.{ℕ, ◌≡◌, List, ap, ◌∙◌}
 use Rattle.html_tokenizer.specs.declared.reader.Reader.{Reader}
 use Rattle.html_tokenizer.specs.Tokenizer.Phases.{HoldsNoWord, attribute_in, state_of, tokenizer_of}
-use Rattle.html_tokenizer.specs.Tokenizer.States.{Tokenizer, at_value}
+use Rattle.html_tokenizer.specs.Tokenizer.States.{at_value}
 
 pub same_reader : {A : Type 0} (first second : Reader A) → first.phase ≡ second.phase → first.content ≡ second.content → first.kind ≡ second.kind →
     ((word other : List ℕ) → HoldsNoWord (state_of first.phase word) (state_of first.phase other) (attribute_in first.kind word) (attribute_in first.kind other)) →

@@ -1,10 +1,11 @@
 //! What the names of attributes, and the values of some of them, mean.
 pub(crate) mod encodings;
 
-ghost use Rattle.std.specs.Prelude.{◌≡◌, ℕ, List, [], true};
+ghost use Rattle.std.specs.Prelude.{◌≡◌, ℕ, IsTrue, List, [], true};
 ghost use Rattle.html_tokenizer.specs.Tokenizer.Attributes.{attribute_of, content_after, content_after_pragma, fixed, followed, holds_language, holds_url, holds_urls, is_javascript, is_script_tag, is_switch, names_script_type, raw_value, reference_read, value_but_of, value_byte_read, value_of};
 ghost use Rattle.html_tokenizer.specs.Tokenizer.Elements.{is_meta};
 ghost use Rattle.html_tokenizer.specs.Tokenizer.Phases.{attribute_in, moved, word_after};
+ghost use Rattle.html_tokenizer.specs.Tokenizer.States.{Ordinary};
 
 use crate::attributes::encodings::{is_utf_8, names_no_other};
 use crate::elements::{Content, OpenElement, is_meta, with_element};
@@ -59,10 +60,20 @@ fn is_switch(name: &[u8]) -> bool
         || name == b"charset".as_slice()
 }
 
+// The names of most attributes.
+#[inline(always)]
+fn is_class_or_id(name: &[u8]) -> bool
+    ensures { IsTrue result → attribute_of name.now ≡ Ordinary }
+{
+    matches!(name, [b'c', b'l', b'a', b's', b's'] | [b'i', b'd'])
+}
+
 fn attribute_of(name: &[u8]) -> Kind
     ensures { attribute_in result [] ≡ attribute_of name.now }
 {
-    if holds_language(name) || is_switch(name) || holds_urls(name) {
+    if is_class_or_id(name) {
+        Kind::Ordinary
+    } else if holds_language(name) || is_switch(name) || holds_urls(name) {
         Kind::Forbidden
     } else if holds_url(name) {
         Kind::Url

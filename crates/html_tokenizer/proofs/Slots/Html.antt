@@ -19,7 +19,7 @@ use Rattle.html_tokenizer.specs.declared.slot_place.SlotPlace.TheVariants as pla
 use Rattle.html_tokenizer.specs.declared.elements.Content.{Content}
 use Rattle.html_tokenizer.specs.Tokenizer.Actions.{read_byte}
 use Rattle.html_tokenizer.specs.Tokenizer.Attributes.{reference_read, value_byte_read}
-use Rattle.html_tokenizer.specs.Tokenizer.States.{Attribute, State, In, Within, BeforeValue, Link, Ordinary, Url, at_value}
+use Rattle.html_tokenizer.specs.Tokenizer.States.{Attribute, State, In, Within, BeforeValue, Ordinary, at_value}
 use Rattle.html_tokenizer.specs.Tokenizer.Tokenization.{consume, value_byte}
 use Rattle.html_tokenizer.specs.Tokenizer.Transitions.{moves}
 use Rattle.html_tokenizer.specs.Tokenizer.Values.References.{behind_word, goes_on, reference_byte}
@@ -33,12 +33,6 @@ pub record Remains (attribute : Attribute) : Type 0 where
 
 pub ordinary_remains : Remains Ordinary
 ordinary_remains = record { bytes = λ b. refl; references = refl }
-
-pub link_remains : Remains Link
-link_remains = record { bytes = λ b. refl; references = refl }
-
-pub url_remains : Remains Url
-url_remains = record { bytes = λ b. refl; references = refl }
 
 -- in the state a value begins or goes on that has references, and each byte outside of the class is kept
 pub record ReadsHtml (attribute : Attribute) (state : State) (p : SlotPlace) (content : Content) (class : Class) : Type 0 where

@@ -9,7 +9,6 @@ use Rattle.html_tokenizer.specs.declared.slot_place.SlotPlace.TheVariants as pla
 use Rattle.html_tokenizer.specs.declared.elements.Content.{Content}
 use Rattle.html_tokenizer.specs.Tokenizer.Actions.{NewComment, CommentByte, EmitComment}
 use Rattle.html_tokenizer.specs.Tokenizer.States as state
-use Rattle.html_tokenizer.specs.Tokenizer.States.{State}
 use Rattle.html_tokenizer.specs.Tokenizer.Tags.{exclamation_mark, is_space}
 use Rattle.html_tokenizer.specs.Tokenizer.Transitions.{Transition, goes, refuses, reconsumes}
 

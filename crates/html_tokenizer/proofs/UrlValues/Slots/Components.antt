@@ -12,17 +12,15 @@ use Rattle.html_tokenizer.specs.Tokenizer.Actions.{ValueByte, read_byte}
 use Rattle.html_tokenizer.specs.Tokenizer.Attributes.{value_byte_read}
 use Rattle.html_tokenizer.specs.Tokenizer.Code.Comments.{ends_line}
 use Rattle.html_tokenizer.specs.Tokenizer.Code.Strings.{string_byte}
-use Rattle.html_tokenizer.specs.Tokenizer.States.{Attribute, BeforeValue, In, at_value}
-use Rattle.html_tokenizer.specs.Tokenizer.Tags.{is_space}
+use Rattle.html_tokenizer.specs.Tokenizer.States.{Attribute, In, at_value}
 use Rattle.html_tokenizer.specs.Tokenizer.Tokenization.{consume, value_byte}
 use Rattle.html_tokenizer.specs.Tokenizer.Transitions.{moves}
 use Rattle.html_tokenizer.specs.Tokenizer.Values.{quoted_byte}
 use Rattle.html_tokenizer.specs.UrlValues.{is_url}
 use Rattle.html_tokenizer.proofs.Passing.{Passes, passes_none, passes_byte}
 use Rattle.html_tokenizer.proofs.UrlValues.Attributes.{byte_settled}
-use Rattle.html_tokenizer.proofs.UrlValues.FirstBytes.{first_as_other}
 use Rattle.html_tokenizer.proofs.UrlValues.Places.{is_value_place}
-use Rattle.html_tokenizer.proofs.UrlValues.Staying.{StaysUrl, stays_byte, stays_from, stays_none}
+use Rattle.html_tokenizer.proofs.UrlValues.Staying.{StaysUrl, stays_byte, stays_none}
 
 -- a letter, a digit, or `-`, `.`, `_`, `~` or `%`
 abbrev pub is_component_byte : ℕ → Bool
@@ -102,11 +100,6 @@ component_stays p content attribute (b ∷ bytes) settled all =
     let parts = and_parts (is_component_byte b) (list_all is_component_byte bytes) all in
     passes_byte (byte_stays p content attribute b (settled b) parts.0) (component_stays p content attribute bytes settled parts.1)
 
-pub component_stays_in_url : (p : SlotPlace) (content : Content) (attribute : Attribute) (bytes : List ℕ) →
-    is_url attribute ≡ true → list_all is_component_byte bytes ≡ true →
-    Passes (at_value (In p) content attribute) bytes (map (read_byte p) bytes) (at_value (In p) content attribute)
-component_stays_in_url p content attribute bytes is all = component_stays p content attribute bytes (λ b. byte_settled attribute b is) all
-
 -- ---- and to a URL that is open it adds itself
 
 reads_value : (p : SlotPlace) (b : ℕ) → is_value_place p ≡ true → read_byte p b ≡ ValueByte b
@@ -124,14 +117,3 @@ component_added p content attribute (b ∷ bytes) place url all =
     byte_stays p content attribute b (byte_settled attribute b url) parts.0
     ∙ ap (λ x. moves (at_value (In p) content attribute) (x ∷ [])) (reads_value p b place) in
     stays_byte (b ∷ []) is url url (component_added p content attribute bytes place url parts.1)
-
--- also where it begins the value
-pub first_component_added : (content : Content) (attribute : Attribute) (b : ℕ) (bytes : List ℕ) → is_url attribute ≡ true →
-    list_all is_component_byte (b ∷ bytes) ≡ true → StaysUrl (at_value BeforeValue content attribute) (b ∷ bytes) (b ∷ bytes) (at_value (In Unquoted) content attribute)
-first_component_added content attribute b bytes url all =
-    let no : (c : ℕ) → is_component_byte c ≡ false → (b == c) ≡ false =
-    λ c. other_byte b c (and_parts (is_component_byte b) (list_all is_component_byte bytes) all).0 in
-    let no_space : is_space b ≡ false = rw (no tab refl, no line_feed refl, no form_feed refl, no space refl, no carriage_return refl) refl in
-    stays_from (at_value (In Unquoted) content attribute) (at_value BeforeValue content attribute) b
-    (first_as_other content attribute b no_space (no double_quote refl) (no single_quote refl) (no greater_than refl)) url url
-    (component_added Unquoted content attribute (b ∷ bytes) refl url all)

@@ -1,4 +1,4 @@
-use Rattle.std.proofs.Common.{rules, ◌≡◌, true, false}
+use Rattle.std.proofs.Common.{rules}
 use Rattle.html_tokenizer.proofs.Same.{same_reader, same_word}
 use Rattle.html_tokenizer.proofs.reader.Reader.is_same.Goals as goal
 
