@@ -27,7 +27,7 @@ joined_placed first second one two =
 
 -- ---- their pages
 
-joined_page : (first second : List Chunk) (texts others : List (List ℕ)) → Fill first texts →
+pub joined_page : (first second : List Chunk) (texts others : List (List ℕ)) → Fill first texts →
     page (first ++ second) (texts ++ others) ≡ page first texts ++ page second others
 joined_page [] second [] others full = refl
 joined_page [] second (text ∷ texts) others full = absurd full
@@ -45,7 +45,7 @@ joined_fill (Markup bytes ∷ first) second texts others full more = joined_fill
 joined_fill (Slot p kind ∷ first) second [] others full more = absurd full
 joined_fill (Slot p kind ∷ first) second (text ∷ texts) others full more = (full.0, joined_fill first second texts others full.1 more)
 
-joined_utf8 : (texts others : List (List ℕ)) → AllByRecursion IsUtf8 texts → AllByRecursion IsUtf8 others → AllByRecursion IsUtf8 (texts ++ others)
+pub joined_utf8 : (texts others : List (List ℕ)) → AllByRecursion IsUtf8 texts → AllByRecursion IsUtf8 others → AllByRecursion IsUtf8 (texts ++ others)
 joined_utf8 [] others utf8 more = more
 joined_utf8 (text ∷ texts) others utf8 more = (utf8.0, joined_utf8 texts others utf8.1 more)
 

@@ -11,3 +11,4 @@ pub mod Walks
 pub mod PageUrls
 pub mod FilledUrls
 pub mod Writing
+pub mod Words

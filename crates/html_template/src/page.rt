@@ -7,7 +7,7 @@ ghost use Rattle.html_template.specs.Templates.{chunk_of, page, written};
 
 use crate::fill::total_length;
 use crate::parts::SlotKind;
-use crate::stored::{Stored, StoredSlot};
+use crate::stored::{Stored, StoredMarkup, StoredSlot};
 use crate::texts::Texts;
 use hesc_core::forms::Parts;
 use hesc_core::forms::measure::total;
@@ -122,30 +122,63 @@ fn put_pieces<T: Texts, S: Sink>(pieces: &[Stored], texts: &T, sink: &mut S) -> 
     let mut left = *texts;
     'pieces: while let [piece, others @ ..] = rest {
         rest = others;
-        let slot = match piece {
-            Stored::Markup(markup) => match markup.as_stretch() {
-                Some(segment) => {
-                    sink.put_stretch(segment)?;
+        match piece {
+            Stored::Markup(markup) => put_markup(markup, sink)?,
+            Stored::Slot(slot) => {
+                let Some((text, more)) = left.take_first() else {
                     continue 'pieces;
-                }
-                None => {
-                    sink.put(markup.text)?;
-                    continue 'pieces;
-                }
-            },
-            Stored::Slot(slot) => slot,
-        };
-        let Some((text, more)) = left.take_first() else {
-            continue 'pieces;
-        };
-        if let SlotKind::UrlPart(_) = slot.kind {
-            put_component(text, sink)?;
-        } else {
-            put_escaped(slot.class, text, sink)?;
+                };
+                put_text(slot, text, sink)?;
+                left = more;
+            }
         }
-        left = more;
     }
     Ok(())
+}
+
+/// Puts markup, or a beginning of it.
+///
+/// Of `<p>` it puts `<p>`.
+#[inline(always)]
+pub fn put_markup<S: Sink>(markup: &StoredMarkup<'_>, sink: &mut S) -> Result<(), S::Fault>
+    ensures ok_taken { OnOk result (S.taken sink.new ≡ S.taken sink.old ++ markup.now.text.now) }
+    ensures ok_failures { OnOk result (S.failures sink.new ≡ S.failures sink.old) }
+    ensures err_taken { OnErr result
+        (TookBeginning (S.taken sink.old) (S.taken sink.new) markup.now.text.now) }
+    ensures fits { length markup.now.text.now ≤ S.room sink.old → IsOk result }
+    ensures room { OnOk result (S.room sink.old ≤ S.room sink.new + length markup.now.text.now) }
+    ensures same_reference { S.reference sink.new ≡ S.reference sink.old }
+    ensures same_before { S.before sink.new ≡ S.before sink.old }
+{
+    match markup.as_stretch() {
+        Some(segment) => sink.put_stretch(segment),
+        None => sink.put(markup.text),
+    }
+}
+
+/// Puts what is written for the text of a slot, or a beginning of it. Whether it may fill the slot is the
+/// caller's to know.
+///
+/// Of `a<b` in text it puts `a&lt;b`.
+#[inline(always)]
+pub fn put_text<S: Sink>(slot: &StoredSlot, text: &str, sink: &mut S) -> Result<(), S::Fault>
+    ensures ok_taken { OnOk result (S.taken sink.new
+        ≡ S.taken sink.old ++ written slot.now.place slot.now.kind text.now) }
+    ensures ok_failures { OnOk result (S.failures sink.new ≡ S.failures sink.old) }
+    ensures err_taken { OnErr result (TookBeginning (S.taken sink.old) (S.taken sink.new)
+        (written slot.now.place slot.now.kind text.now)) }
+    ensures fits { length (written slot.now.place slot.now.kind text.now) ≤ S.room sink.old
+        → IsOk result }
+    ensures room { OnOk result (S.room sink.old
+        ≤ S.room sink.new + length (written slot.now.place slot.now.kind text.now)) }
+    ensures same_reference { S.reference sink.new ≡ S.reference sink.old }
+    ensures same_before { S.before sink.new ≡ S.before sink.old }
+{
+    if let SlotKind::UrlPart(_) = slot.kind {
+        put_component(text, sink)
+    } else {
+        put_escaped(slot.class, text, sink)
+    }
 }
 
 // Puts what the encoder of the class makes of a text. Most texts stay as they are.

@@ -5,3 +5,4 @@ pub mod Bindings
 pub mod Names
 pub mod Places
 pub mod SlotNames
+pub mod Words
