@@ -1,29 +1,24 @@
 -- The pages of data, appended and written.
-use Rattle.std.proofs.Common.{ℕ, ◌≡◌, List, ◌++◌, map, IsUtf8, Option, Ok, refl, sym, ap, ◌∙◌, subst, Bor}
+use Rattle.std.proofs.Common.{ℕ, ◌≡◌, List, ◌++◌, map, IsUtf8, Option, Result, Ok, Err, sym, ap, ◌∙◌, subst}
 use Rattle.std.specs.Io.KnownBytes.{Appends}
 use Rattle.std.specs.List.{AllByRecursion}
+use Rattle.std.specs.Prelude.{OnOk}
 use Rattle.html_template.specs.FilledUrls.{HasUrlsOf}
 use Rattle.html_template.specs.TemplateFaults.{template_of}
-use Rattle.html_template.specs.Templates.{Fill, chunk_of, page, part_of, texts_of}
-use Rattle.html_template.specs.declared.stored.Stored.{Stored}
+use Rattle.html_template.specs.Templates.{Fill, part_of}
 use Rattle.html_template.proofs.Joined.{page_after, written_after}
 use Rattle.html_template.proofs.PageUrls.Law.{has_urls_of}
-use Rattle.html_view.specs.Adding.{unrolling_of}
+use Rattle.html_view.specs.Appending.{PutsBehind}
 use Rattle.html_view.specs.Data.{Stack}
 use Rattle.html_view.specs.Nodes.{Nodes, Placed}
 use Rattle.html_view.specs.Rendered.{Unrolled, Unrolling, rendered, unrolled}
 use Rattle.html_view.specs.Unrolled.{AreTemplates, joined}
-use Rattle.html_view.specs.Views.{AddsPage, WritesPage, parts_of}
-use Rattle.html_view.specs.declared.unroll.Made.{Made}
+use Rattle.html_view.specs.Views.{AddsPage, Renders, Writes, WritesPage}
+use Rattle.html_view.specs.declared.faults.DataFault.{DataFault}
+use Rattle.html_view.specs.declared.faults.DataFault.TheVariants.{Value, Memory}
+use Rattle.html_template.specs.declared.faults.WriteFault.{WriteFault}
 use Rattle.html_view.proofs.Sound.{joined_fill, joined_page}
 use Rattle.html_view.proofs.Unrolling.{is_unrolling, rendered_page}
-
--- the page of what was made
-pub made_page : {A : Type 0} (made : Made A) (pieces : List Stored) (texts : List (Bor (List ℕ))) → pieces ≡ made.pieces.items → texts ≡ made.texts.items →
-    page (map chunk_of pieces) (texts_of texts) ≡ rendered (unrolling_of made)
-made_page made pieces texts same alike =
-    ap (λ (p : List Stored). page (map chunk_of p) (texts_of texts)) same
-    ∙ ap (λ (t : List (Bor (List ℕ))). page (map chunk_of made.pieces.items) (texts_of t)) alike
 
 same_found : (told : Unrolled) (made found : Unrolling) → told ≡ Ok made → told ≡ Ok found → made ≡ found
 same_found told made found is again = cc
@@ -69,3 +64,28 @@ writes_page nodes stack made old new sound is utf8 added = record {
       (ap rendered (same_found (unrolled nodes stack) made found is told) ∙ sym (joined_page found.pieces found.texts)) added);
   filled = λ found told. has_urls nodes found (fills nodes stack made found sound is utf8 told);
 }
+
+-- ---- of steps that stand for the nodes
+
+pub renders : (told again : Unrolled) (old new : List ℕ) (result : Result (Unit {0}) DataFault) → again ≡ told → PutsBehind told old new result →
+    Renders again old new result
+renders told again old new (Ok done) same put = (put.found, same ∙ put.same, put.taken)
+renders told again old new (Err (Value position why)) same stopped = (same ∙ stopped.0, stopped.1)
+renders told again old new (Err Memory) same kept = kept
+
+pub appends_page : (nodes : Nodes Placed) (stack : Stack) (told : Unrolled) (old new : List ℕ) (result : Result (Unit {0}) DataFault) → AreTemplates nodes →
+    unrolled nodes stack ≡ told → PutsBehind told old new result → OnOk result (AddsPage (unrolled nodes stack) old new)
+appends_page nodes stack told old new (Ok done) sound same put =
+    adds_page nodes stack put.found old new sound (same ∙ put.same) put.utf8 put.taken
+appends_page nodes stack told old new (Err fault) sound same stopped = tt
+
+pub writes : (told again : Unrolled) (old new : Option (List ℕ)) (result : Result (Unit {0}) (WriteFault DataFault)) → again ≡ told →
+    Writes told old new result → Writes again old new result
+writes told again old new result same written = subst (λ t. Writes t old new result) (sym same) written
+
+pub all_written : (nodes : Nodes Placed) (stack : Stack) (told : Unrolled) (old new : Option (List ℕ)) (result : Result (Unit {0}) (WriteFault DataFault)) →
+    AreTemplates nodes → unrolled nodes stack ≡ told → Writes told old new result →
+    OnOk result ((found : Unrolling) → told ≡ Ok found → AllByRecursion IsUtf8 found.texts) → OnOk result (WritesPage (unrolled nodes stack) old new)
+all_written nodes stack told old new (Ok done) sound same written utf8 =
+    writes_page nodes stack written.0 old new sound (same ∙ written.1) (utf8 written.0 written.1) written.2
+all_written nodes stack told old new (Err fault) sound same written utf8 = tt

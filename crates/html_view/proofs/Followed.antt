@@ -1,11 +1,11 @@
 -- Following nodes, one behind another, and through a section.
-use Rattle.std.proofs.Common.{Bor, Vec, rules, ℕ, zero, suc, ◌≡◌, ◌<◌, ◌≤◌, List, [], ◌∷◌, ◌++◌, get_or, length, take, map, refl, sym, ap, ◌∙◌, subst, arith}
+use Rattle.std.proofs.Common.{Bor, Vec, rules, ℕ, zero, suc, ◌≡◌, ◌<◌, ◌≤◌, List, [], ◌∷◌, ◌++◌, get_or, length, take, refl, sym, ap, ◌∙◌, subst, arith}
 use Rattle.html_view.specs.Following.{Follows, FollowsBody}
 use Rattle.html_view.specs.Kept.{Before, asked_node, asked_nodes, asked_of, behind, opening_of, placed_node, placed_nodes, placed_of}
 use Rattle.html_view.specs.Names.{words_of}
 use Rattle.html_view.specs.Nodes as node
 use Rattle.html_view.specs.Nodes.{Nodes, written, written_opening, written_times}
-use Rattle.html_view.specs.Takes.{Among, AreAmong, GoesOn, GoesPast, LeadsBack, Takes}
+use Rattle.html_view.specs.Takes.{Among, AreAmong, GoesOn, GoesPast, Takes}
 use Rattle.html_view.specs.Ways.{Way}
 use Rattle.html_view.specs.declared.faults.Position.{Position}
 use Rattle.html_view.specs.declared.node.Asked.{Asked}
@@ -33,7 +33,7 @@ followed_same asked told placed made ways next same again follows = record {
 
 -- ---- nodes, one behind another
 
-behind_more : {S : Type 0} (first : List (Before S)) (last : Before S) (rest : Nodes S) → behind (first ++ last ∷ []) rest ≡ behind first (last rest)
+pub behind_more : {S : Type 0} (first : List (Before S)) (last : Before S) (rest : Nodes S) → behind (first ++ last ∷ []) rest ≡ behind first (last rest)
 behind_more [] last rest = refl
 behind_more (one ∷ first) last rest = ap one (behind_more first last rest)
 
@@ -74,7 +74,7 @@ followed_more nodes all i j one old new made ways here next whole more below is 
           (before.takes (placed_node made rest) others (after.takes rest others takes));
     })))
 
-take_whole : {A : Type 0} (nodes : List (Node Asked A)) (i : ℕ) → length nodes ≤ i → take i nodes ≡ nodes
+pub take_whole : {A : Type 0} (nodes : List (Node Asked A)) (i : ℕ) → length nodes ≤ i → take i nodes ≡ nodes
 take_whole [] zero long = refl
 take_whole [] (suc i) long = refl
 take_whole (first ∷ nodes) zero long = absurd (omega arith)
@@ -87,13 +87,13 @@ followed_all nodes i placed ways here long follows =
 
 -- ---- one node
 
-asked_markup : (A : Type 0) (text : Bor (List ℕ)) (p : Position) (rest : Nodes node.Asked) → asked_node {A = A} (Markup text p) rest ≡ node.Markup text.now rest
+pub asked_markup : (A : Type 0) (text : Bor (List ℕ)) (p : Position) (rest : Nodes node.Asked) → asked_node {A = A} (Markup text p) rest ≡ node.Markup text.now rest
 asked_markup A text p rest = search (rules, the_lemmas)
 
 placed_markup : (A : Type 0) (text : Bor (List ℕ)) (p : Position) (rest : Nodes node.Placed) → placed_node {A = A} (Markup text p) rest ≡ node.Markup text.now rest
 placed_markup A text p rest = search (rules, the_lemmas)
 
-asked_slot : (A : Type 0) (slot : Asked) (rest : Nodes node.Asked) → asked_node {A = A} (Slot slot) rest ≡ node.Slot (asked_of slot) rest
+pub asked_slot : (A : Type 0) (slot : Asked) (rest : Nodes node.Asked) → asked_node {A = A} (Slot slot) rest ≡ node.Slot (asked_of slot) rest
 asked_slot A slot rest = search (rules, the_lemmas)
 
 placed_slot : (A : Type 0) (slot : Placed) (rest : Nodes node.Placed) → placed_node {A = A} (Slot slot) rest ≡ node.Slot (placed_of slot) rest
@@ -145,7 +145,7 @@ followed_section opening made body otherwise placed other ways out away next is 
   );
 }
 
-asked_section : {A : Type 0} (opening : Opening) (body otherwise : Vec (Node Asked A) A) (rest : Nodes node.Asked) →
+pub asked_section : {A : Type 0} (opening : Opening) (body otherwise : Vec (Node Asked A) A) (rest : Nodes node.Asked) →
     asked_node (Section opening body otherwise) rest
     ≡ node.Section (written_opening (opening_of opening)) (asked_nodes body.items node.End) (asked_nodes otherwise.items node.End) rest
 asked_section opening body otherwise rest = search (rules, the_lemmas)

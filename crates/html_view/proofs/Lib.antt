@@ -9,11 +9,14 @@ pub mod Sound
 pub mod Followed
 pub mod Unrolling
 pub mod CutNames
-pub mod Adding
+pub mod Putting
 pub mod Sections
+pub mod StepsOf
 pub mod Forms
 pub mod Pages
 pub mod DataPages
 pub mod WaySets
 pub mod RunningWays
 pub mod Views
+pub mod Refusals
+pub mod Retraced

@@ -10,7 +10,7 @@ use Rattle.html_tokenizer.specs.declared.reader.Standing.{Standing}
 use Rattle.html_tokenizer.specs.Standing.{AfterStanding, is_refused, may_end, standing}
 use Rattle.html_tokenizer.specs.Tokenizer.States.{Tokenizer}
 use Rattle.html_template.proofs.Walks.{same_after_slot}
-use Rattle.html_view.specs.Ways.{MayEnd, Way, past_slot, way_slot}
+use Rattle.html_view.specs.Ways.{EndsWithin, MayEnd, Way, past_slot, way_slot}
 
 pub slot_taken : (way : Way) (left : List ℕ) (opened : OpenUrl) (s : Standing) (slot : PlacedSlot) (new : Tokenizer) → left ≡ [] →
     is_refused way.tokenizer.state ≡ false → url_markup way.url way.markup ≡ Ok opened → s ≡ standing way.tokenizer →
@@ -28,3 +28,8 @@ pub end_told : (way : Way) (found : Result OpenUrl PartFault) → found ≡ url_
     may_end way.tokenizer ≡ true → is_ok found ≡ true → MayEnd way
 end_told way (Ok url) told read may ok = record { may = may; read = read; url = url; told = sym told }
 end_told way (Err why) told read may ok = absurd (cc)
+
+pub unfinished_told : (way : Way) (found : Result OpenUrl PartFault) → found ≡ url_markup way.url way.markup → is_refused way.tokenizer.state ≡ false →
+    may_end way.tokenizer ≡ false → is_ok found ≡ true → EndsWithin way
+unfinished_told way (Ok url) told read may ok = record { may_not = may; read = read; url = url; told = sym told }
+unfinished_told way (Err why) told read may ok = absurd (cc)

@@ -1,76 +1,107 @@
--- What is added for a node, as the code keeps it.
-use Rattle.std.proofs.Common.{Bor, Vec, rules, ℕ, zero, suc, ◌≡◌, ◌<◌, ◌+◌, List, [], ◌∷◌, length, get_or, drop, arith, Option, Result, refl, sym, ap, ◌∙◌, subst}
-use Rattle.html_view.specs.Adding.{AddedFront, Adds, AddsFront, both, markup_alone}
+-- What is put for a step.
+use Rattle.std.proofs.Common.{Vec, rules, ℕ, zero, suc, ◌≡◌, ◌<◌, ◌+◌, List, [], ◌∷◌, length, get_or, drop, arith, Option, Ok, Err, Result, refl, sym, ap, ◌∙◌, subst}
+use Rattle.html_template.specs.Templates.{Fill}
+use Rattle.html_template.specs.declared.stored.StoredMarkup.{StoredMarkup}
 use Rattle.html_view.specs.Data.{Datum, Stack, look_up, stacks}
-use Rattle.html_view.specs.Kept.{nodes_of, opening_of, placed_node}
-use Rattle.html_view.specs.Names.{words_of}
 use Rattle.html_view.specs.Nodes as node
-use Rattle.html_view.specs.Nodes.{Nodes}
-use Rattle.html_view.specs.Rendered.{Unrolled, Unrolling, unrolled, unrolled_section}
-use Rattle.html_view.specs.declared.faults.DataFault.{DataFault}
+use Rattle.html_view.specs.Nodes.{Nodes, Opening}
+use Rattle.html_view.specs.Putting.{Puts, PutsFront}
+use Rattle.html_view.specs.Rendered.{Unrolled, Unrolling, text_for, unrolled, unrolled_section}
 use Rattle.html_view.specs.declared.faults.Position.{Position}
-use Rattle.html_view.specs.declared.node.Node.{Markup, Node, Section, the_lemmas}
-use Rattle.html_view.specs.declared.node.Opening.{Opening}
-use Rattle.html_view.specs.declared.node.Placed.{Placed}
-use Rattle.html_view.proofs.Adding.{IsSoFar, front_same, markup_added, same_told, section_added}
-use Rattle.html_view.proofs.Followed.{placed_section}
+use Rattle.html_view.specs.declared.faults.ValueFault.{ValueFault}
+use Rattle.html_view.specs.Stepped.{opened_of, slot_of, step_node, stepped}
+use Rattle.html_view.specs.declared.step.OpeningStep.{OpeningStep}
+use Rattle.html_view.specs.declared.step.SlotStep.{SlotStep}
+use Rattle.html_view.specs.declared.step.Step.{Markup, Section, Slot, Step, the_lemmas}
+use Rattle.html_view.specs.declared.unroll.Refusal.{Refusal}
+use Rattle.html_view.specs.declared.unroll.Stop.{Stop}
+use Rattle.html_view.proofs.Putting.{IsSoFar, front_same, same_told, section_put}
+use Rattle.html_view.proofs.Unrolling.{are_either, is_unrolling}
 
-placed_markup : (A : Type 0) (text : Bor (List ℕ)) (p : Position) (rest : Nodes node.Placed) →
-    placed_node {A = A} (Markup text p) rest ≡ node.Markup text.now rest
-placed_markup A text p rest = search (rules, the_lemmas)
+pub stepped_markup : (A : Type 0) (markup : StoredMarkup) (rest : Nodes node.Placed) →
+    step_node {A = A} (Markup markup) rest ≡ node.Markup markup.text.now rest
+stepped_markup A markup rest = search (rules, the_lemmas)
 
-pub markup_made : {A : Type 0} (kept : Node Placed A) (text : Bor (List ℕ)) (p : Position) (stack : Stack) (old new : Unrolling) →
-    kept ≡ Markup text p → new ≡ both old (markup_alone text.now) → AddedFront (λ rest. unrolled (placed_node kept rest) stack) stack old new
-markup_made {A} kept text p stack old new is grown =
-    let here = markup_added text.now stack old new grown in record {
-      front = here.front;
-      goes = λ rest. ap (λ (n : Node Placed A). unrolled (placed_node n rest) stack) is ∙ ap (λ n. unrolled n stack) (placed_markup A text p rest) ∙ here.goes rest;
-      grown = here.grown;
-    }
+pub stepped_slot : {A : Type 0} (slot : SlotStep A) (rest : Nodes node.Placed) → step_node (Slot slot) rest ≡ node.Slot (slot_of slot) rest
+stepped_slot slot rest = search (rules, the_lemmas)
 
-section_of : {A : Type 0} (opening : Opening) (body otherwise : Vec (Node Placed A) A) (value : Option Datum) (stack : Stack) → Unrolled
-section_of opening body otherwise value stack =
-    unrolled_section (opening_of opening) (λ inner. unrolled (nodes_of body.items) inner) (unrolled (nodes_of otherwise.items) stack)
-    (stacks opening.times value stack)
+pub stepped_section : {A : Type 0} (opening : OpeningStep A) (body otherwise : Vec (Step A) A) (rest : Nodes node.Placed) →
+    step_node (Section opening body otherwise) rest ≡ node.Section (opened_of opening) (stepped body.items) (stepped otherwise.items) rest
+stepped_section opening body otherwise rest = search (rules, the_lemmas)
 
-section_stands : {A : Type 0} (opening : Opening) (body otherwise : Vec (Node Placed A) A) (stack : Stack) (old new : Unrolling)
-    (result : Result (Unit {0}) DataFault) → Adds (section_of opening body otherwise (look_up (words_of opening.name.now) stack) stack) old new result →
-    AddsFront (λ rest. unrolled (placed_node (Section opening body otherwise) rest) stack) stack old new result
-unfolding section_of
-section_stands opening body otherwise stack old new result adds =
-    front_same (λ rest. unrolled (node.Section (opening_of opening) (nodes_of body.items) (nodes_of otherwise.items) rest) stack)
-    (λ rest. unrolled (placed_node (Section opening body otherwise) rest) stack) stack old new result
-    (λ rest. ap (λ n. unrolled n stack) (placed_section opening body otherwise rest))
-    (section_added (section_of opening body otherwise (look_up (words_of opening.name.now) stack) stack) stack old new result adds)
+-- what is put for a node is put for its step
+pub step_put : {A F : Type 0} (step : Step A) (seen : Nodes node.Placed → Nodes node.Placed) (stack : Stack) (old new : List ℕ) (refusal : Refusal)
+    (result : Result (Unit {0}) (Stop F)) → ((rest : Nodes node.Placed) → step_node step rest ≡ seen rest) →
+    PutsFront (λ rest. unrolled (seen rest) stack) stack old new refusal result →
+    PutsFront (λ rest. unrolled (step_node step rest) stack) stack old new refusal result
+step_put step seen stack old new refusal result same puts =
+    front_same (λ rest. unrolled (seen rest) stack) (λ rest. unrolled (step_node step rest) stack) stack old new refusal result
+    (λ rest. ap (λ n. unrolled n stack) (same rest)) puts
 
--- a section whose name means this value makes what is added
-pub section_made : {A : Type 0} (kept : Node Placed A) (opening : Opening) (body otherwise : Vec (Node Placed A) A) (value : Option Datum) (stack : Stack)
-    (told : Unrolled) (old new : Unrolling) (result : Result (Unit {0}) DataFault) → kept ≡ Section opening body otherwise →
-    value ≡ look_up (words_of opening.name.now) stack →
-    unrolled_section (opening_of opening) (λ inner. unrolled (nodes_of body.items) inner) (unrolled (nodes_of otherwise.items) stack)
-    (stacks opening.times value stack) ≡ told → Adds told old new result →
-    AddsFront (λ rest. unrolled (placed_node kept rest) stack) stack old new result
-unfolding section_of
-section_made kept opening body otherwise value stack told old new result is means same adds =
-    subst (λ (n : Node Placed _). AddsFront (λ rest. unrolled (placed_node n rest) stack) stack old new result) (sym is)
-    (section_stands opening body otherwise stack old new result
-    (same_told told (section_of opening body otherwise (look_up (words_of opening.name.now) stack) stack) old new result
-    (ap (λ v. section_of opening body otherwise v stack) (sym means) ∙ same) adds))
+pub markup_step : {A F : Type 0} (step : Step A) (markup : StoredMarkup) (stack : Stack) (old new : List ℕ) (refusal : Refusal)
+    (result : Result (Unit {0}) (Stop F)) → step ≡ Markup markup →
+    PutsFront (λ rest. unrolled (node.Markup markup.text.now rest) stack) stack old new refusal result →
+    PutsFront (λ rest. unrolled (step_node step rest) stack) stack old new refusal result
+markup_step {A} step markup stack old new refusal result is puts =
+    step_put step (λ rest. node.Markup markup.text.now rest) stack old new refusal result
+    (λ rest. ap (λ (s : Step A). step_node s rest) is ∙ stepped_markup A markup rest) puts
 
--- ---- nodes from one on
+pub slot_step : {A F : Type 0} (step : Step A) (slot : SlotStep A) (stack : Stack) (old new : List ℕ) (refusal : Refusal)
+    (result : Result (Unit {0}) (Stop F)) → step ≡ Slot slot →
+    PutsFront (λ rest. unrolled (node.Slot (slot_of slot) rest) stack) stack old new refusal result →
+    PutsFront (λ rest. unrolled (step_node step rest) stack) stack old new refusal result
+slot_step {A} step slot stack old new refusal result is puts =
+    step_put step (λ rest. node.Slot (slot_of slot) rest) stack old new refusal result
+    (λ rest. ap (λ (s : Step A). step_node s rest) is ∙ stepped_slot slot rest) puts
 
-nodes_at : {A : Type 0} (nodes : List (Node Placed A)) (i : ℕ) (n : Node Placed A) → i < length nodes → n ≡ get_or nodes i n →
-    nodes_of (drop i nodes) ≡ placed_node n (nodes_of (drop (suc i) nodes))
-nodes_at [] i n below is = absurd (omega arith)
-nodes_at {A} (m ∷ nodes) zero n below is = ap (λ (x : Node Placed A). placed_node x (nodes_of nodes)) (sym is)
-nodes_at (m ∷ nodes) (suc i) n below is = nodes_at nodes i n (omega arith) is
+pub section_step : {A F : Type 0} (step : Step A) (opening : OpeningStep A) (body otherwise : Vec (Step A) A) (stack : Stack) (old new : List ℕ)
+    (refusal : Refusal) (result : Result (Unit {0}) (Stop F)) → step ≡ Section opening body otherwise →
+    PutsFront (λ rest. unrolled (node.Section (opened_of opening) (stepped body.items) (stepped otherwise.items) rest) stack) stack old new refusal result →
+    PutsFront (λ rest. unrolled (step_node step rest) stack) stack old new refusal result
+section_step {A} step opening body otherwise stack old new refusal result is puts =
+    step_put step (λ rest. node.Section (opened_of opening) (stepped body.items) (stepped otherwise.items) rest) stack old new refusal result
+    (λ rest. ap (λ (s : Step A). step_node s rest) is ∙ stepped_section opening body otherwise rest) puts
 
--- so far all before this node is added
-pub before_node : {A : Type 0} (told : Unrolled) (nodes all : List (Node Placed A)) (i : ℕ) (n : Node Placed A) (stack : Stack) (old new : Unrolling) →
-    nodes ≡ all → i < length nodes → n ≡ get_or nodes i n → IsSoFar told (unrolled (nodes_of (drop i all)) stack) old new →
-    IsSoFar told (unrolled (placed_node n (nodes_of (drop (i + 1) all))) stack) old new
-before_node {A} told nodes all i n stack old new same below is so_far =
-    let here = subst (λ (l : List (Node Placed A)). nodes_of (drop i l) ≡ placed_node n (nodes_of (drop (suc i) l))) same (nodes_at nodes i n below is) in
+-- a text that is refused
+pub slot_refused : (slot : node.Placed) (stack : Stack) (position : Position) (why : ValueFault) → text_for slot (look_up slot.asked.name stack) ≡ Err (position, why) →
+    (rest : Nodes node.Placed) → unrolled (node.Slot slot rest) stack ≡ Err (position, why)
+slot_refused slot stack position why told rest = rw told refl
+
+pub nodes_fill : (nodes : Nodes node.Placed) (stack : Stack) (found : Unrolling) → unrolled nodes stack ≡ Ok found → Fill found.pieces found.texts
+nodes_fill nodes stack found told = (is_unrolling nodes stack found told).full
+
+section_fills : (opening : Opening) (body otherwise : Nodes node.Placed) (stack : Stack) (around : List Stack) (found : Unrolling) →
+    unrolled_section opening (λ inner. unrolled body inner) (unrolled otherwise stack) around ≡ Ok found → Fill found.pieces found.texts
+section_fills opening body otherwise stack around found told =
+    (are_either opening body otherwise (λ inner. unrolled body inner) (unrolled otherwise stack)
+    (λ inner value is. is_unrolling body inner value is) (λ value is. is_unrolling otherwise stack value is) around found told).full
+
+-- a section whose name means this value makes what is put
+pub section_made : {F : Type 0} (opening : Opening) (body otherwise : Nodes node.Placed) (value : Option Datum) (stack : Stack)
+    (told : Unrolled) (old new : List ℕ) (refusal : Refusal) (result : Result (Unit {0}) (Stop F)) → value ≡ look_up opening.name stack →
+    unrolled_section opening (λ inner. unrolled body inner) (unrolled otherwise stack) (stacks opening.times value stack) ≡ told →
+    Puts told old new refusal result → PutsFront (λ rest. unrolled (node.Section opening body otherwise rest) stack) stack old new refusal result
+section_made opening body otherwise value stack told old new refusal result means same puts =
+    let around = stacks opening.times (look_up opening.name stack) stack in
+    section_put (unrolled_section opening (λ inner. unrolled body inner) (unrolled otherwise stack) around) stack old new refusal result
+    (section_fills opening body otherwise stack around)
+    (same_told told (unrolled_section opening (λ inner. unrolled body inner) (unrolled otherwise stack) around) old new refusal result
+    (ap (λ v. unrolled_section opening (λ inner. unrolled body inner) (unrolled otherwise stack) (stacks opening.times v stack)) (sym means) ∙ same) puts)
+
+-- ---- steps from one on
+
+steps_at : {A : Type 0} (steps : List (Step A)) (i : ℕ) (s : Step A) → i < length steps → s ≡ get_or steps i s →
+    stepped (drop i steps) ≡ step_node s (stepped (drop (suc i) steps))
+steps_at [] i s below is = absurd (omega arith)
+steps_at {A} (m ∷ steps) zero s below is = ap (λ (x : Step A). step_node x (stepped steps)) (sym is)
+steps_at (m ∷ steps) (suc i) s below is = steps_at steps i s (omega arith) is
+
+-- so far all before this step is put
+pub before_step : {A : Type 0} (told : Unrolled) (steps all : List (Step A)) (i : ℕ) (s : Step A) (stack : Stack) (old new : List ℕ) →
+    steps ≡ all → i < length steps → s ≡ get_or steps i s → IsSoFar told (unrolled (stepped (drop i all)) stack) old new →
+    IsSoFar told (unrolled (step_node s (stepped (drop (i + 1) all))) stack) old new
+before_step {A} told steps all i s stack old new same below is so_far =
+    let here = subst (λ (l : List (Step A)). stepped (drop i l) ≡ step_node s (stepped (drop (suc i) l))) same (steps_at steps i s below is) in
     let next : suc i ≡ i + 1 = omega arith in
-    let there = subst (λ k. nodes_of (drop i all) ≡ placed_node n (nodes_of (drop k all))) next here in
+    let there = subst (λ k. stepped (drop i all) ≡ step_node s (stepped (drop k all))) next here in
     subst (λ x. IsSoFar told (unrolled x stack) old new) there so_far

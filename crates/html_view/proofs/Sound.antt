@@ -1,10 +1,10 @@
 -- Each unrolling of sound nodes is a template, and its page is one of that template.
-use Rattle.std.proofs.Common.{ℕ, ◌≡◌, ◌⊎◌, ◌+◌, Bool, true, false, List, [], ◌∷◌, ◌++◌, map, IsUtf8, Result, Ok, Err, refl, sym, ap, ◌∙◌, subst, inl, inr, ⊎_elim, append_assoc, append-nil, if◌then◌else◌}
+use Rattle.std.proofs.Common.{ℕ, ◌≡◌, ◌⊎◌, ◌+◌, true, false, List, [], ◌∷◌, ◌++◌, map, IsUtf8, Result, Ok, Err, refl, sym, ap, ◌∙◌, subst, inl, inr, ⊎_elim, append_assoc, append-nil}
 use Rattle.std.specs.List.{AllByRecursion}
 use Rattle.std.proofs.lemmas.Bool.{cases_Bool}
 use Rattle.html_template.specs.OpenUrls.{url_markup}
 use Rattle.html_template.specs.Structure.{IsPageOf}
-use Rattle.html_template.specs.TemplateFaults.{Walk, at_beginning, behind_markup, behind_slot, pieces_from, put, slot_at, template_of}
+use Rattle.html_template.specs.TemplateFaults.{Walk, at_beginning, behind_markup, behind_slot, pieces_from, put, slot_at}
 use Rattle.html_template.specs.Templates.{Chunk, Fill, Given, Markup, Slot, after_slot, page, part_of, written}
 use Rattle.html_template.specs.declared.faults.PartFault.{PartFault}
 use Rattle.html_template.specs.declared.faults.PartFault.TheVariants as fault
@@ -20,68 +20,70 @@ use Rattle.html_template.proofs.JoinedParts.{is_template_of, placed_of}
 use Rattle.html_view.specs.Nodes.{Nodes, Placed}
 use Rattle.html_view.specs.Takes.{AreSound}
 use Rattle.html_view.specs.Unrolled.{AreTemplates, Unrolls, joined, joined_behind}
-use Rattle.html_view.specs.Ways.{MayEnd, Way, behind, first_way, let_go, on_ok, past_slot, settled, slot_in, way_behind, way_slot}
+use Rattle.html_view.specs.Ways.{MayEnd, Way, behind, first_way, let_go, on_ok, settled, slot_in, way_behind, way_slot}
 use Rattle.html_view.proofs.Runs.{Runs, leads}
 use Rattle.html_view.proofs.Steps.{ended_more, slot_more}
 
 -- ---- what a way keeps
 
 -- all of the markup since the last slot, and what was open of a URL there
-record Holds (way : Way) (url : OpenUrl) (markup : List ℕ) : Type 0 where
-  same : way.markup ≡ markup
-  url_same : way.url ≡ url
+pub record Holds (way : Way) (url : OpenUrl) (markup : List ℕ) : Type 0 where
+  pub same : way.markup ≡ markup
+  pub url_same : way.url ≡ url
 
--- or it let the front go, in which the URL ended
-record LetGo (way : Way) (url : OpenUrl) (markup : List ℕ) : Type 0 where
-  front : List ℕ
-  whole : markup ≡ front ++ way.markup
-  outside : way.url ≡ Outside
-  ended : url_markup url front ≡ Ok Outside
+-- or it let the front go, in which the URL ended, and behind which no URL is open
+pub record LetGo (way : Way) (t : Tokenizer) (url : OpenUrl) (markup : List ℕ) : Type 0 where
+  pub front : List ℕ
+  pub whole : markup ≡ front ++ way.markup
+  pub outside : way.url ≡ Outside
+  pub ended : url_markup url front ≡ Ok Outside
+  pub free : is_url (state_after t front).attribute ≡ false
 
 -- the way is where the tokenizer comes from the last slot by this markup
-record Reads (way : Way) (t : Tokenizer) (url : OpenUrl) (markup : List ℕ) : Type 0 where
-  state : way.tokenizer ≡ state_after t markup
-  kept : Holds way url markup ⊎ LetGo way url markup
+pub record Reads (way : Way) (t : Tokenizer) (url : OpenUrl) (markup : List ℕ) : Type 0 where
+  pub state : way.tokenizer ≡ state_after t markup
+  pub kept : Holds way url markup ⊎ LetGo way t url markup
 
 -- ---- markup
 
-reads_behind : (way : Way) (t : Tokenizer) (url : OpenUrl) (markup bytes : List ℕ) → Reads way t url markup → Reads (behind way bytes) t url (markup ++ bytes)
+pub reads_behind : (way : Way) (t : Tokenizer) (url : OpenUrl) (markup bytes : List ℕ) → Reads way t url markup → Reads (behind way bytes) t url (markup ++ bytes)
 reads_behind way t url markup bytes reads = record {
   state = ap (λ u. state_after u bytes) reads.state ∙ sym (state_after-append t markup bytes);
   kept = ⊎_elim
       (λ (holds : Holds way url markup). inl (record { same = ap (λ x. x ++ bytes) holds.same; url_same = holds.url_same }))
-      (λ (let_go : LetGo way url markup). inr (record {
+      (λ (let_go : LetGo way t url markup). inr (record {
         front = let_go.front;
         whole = ap (λ x. x ++ bytes) let_go.whole ∙ append_assoc let_go.front way.markup bytes;
         outside = let_go.outside;
         ended = let_go.ended;
+        free = let_go.free;
       }))
       reads.kept;
 }
 
 -- the URL that was open at the last slot ended in all of the markup
-ended_in : (way : Way) (url : OpenUrl) (markup : List ℕ) → Holds way url markup ⊎ LetGo way url markup → url_markup way.url way.markup ≡ Ok Outside →
+ended_in : (way : Way) (t : Tokenizer) (url : OpenUrl) (markup : List ℕ) → Holds way url markup ⊎ LetGo way t url markup → url_markup way.url way.markup ≡ Ok Outside →
     url_markup url markup ≡ Ok Outside
-ended_in way url markup kept told =
+ended_in way t url markup kept told =
     ⊎_elim
     (λ (holds : Holds way url markup). sym (ap (λ u. url_markup u markup) holds.url_same) ∙ sym (ap (λ m. url_markup way.url m) holds.same) ∙ told)
-    (λ (gone : LetGo way url markup). ap (url_markup url) gone.whole ∙ ended_more url gone.front way.markup gone.ended)
+    (λ (gone : LetGo way t url markup). ap (url_markup url) gone.whole ∙ ended_more url gone.front way.markup gone.ended)
     kept
 
 reads_let_go : (way next : Way) (t : Tokenizer) (url : OpenUrl) (markup : List ℕ) → Reads way t url markup →
-    (found : Result OpenUrl PartFault) → url_markup way.url way.markup ≡ found → on_ok found (λ u. Ok (let_go way u)) ≡ Ok next →
+    is_url way.tokenizer.attribute ≡ false → (found : Result OpenUrl PartFault) → url_markup way.url way.markup ≡ found → on_ok found (λ u. Ok (let_go way u)) ≡ Ok next →
     Reads next t url markup
-reads_let_go way next t url markup reads (Err f) is told = absurd (cc)
-reads_let_go way next t url markup reads (Ok Outside) is told =
+reads_let_go way next t url markup reads free (Err f) is told = absurd (cc)
+reads_let_go way next t url markup reads free (Ok Outside) is told =
     let here : let_go way Outside ≡ next = cc in
     subst (λ w. Reads w t url markup) here (record {
       state = reads.state;
-      kept = inr (record { front = markup; whole = sym (append-nil markup); outside = refl; ended = ended_in way url markup reads.kept is });
+      kept = inr (record { front = markup; whole = sym (append-nil markup); outside = refl; ended = ended_in way t url markup reads.kept is; free = sym (ap (λ (u : Tokenizer). is_url u.attribute) reads.state) ∙ free });
     })
-reads_let_go way next t url markup reads (Ok (Within q open_part)) is told =
+reads_let_go way next t url markup reads free (Ok (Within q open_part)) is told =
     let here : way ≡ next = cc in
     subst (λ w. Reads w t url markup) here reads
-reads_let_go way next t url markup reads (Ok (Whole q)) is told =
+reads_let_go way next t url markup reads free (Ok (Whole q)) is told =
     let here : way ≡ next = cc in
     subst (λ w. Reads w t url markup) here reads
 
@@ -93,10 +95,10 @@ reads_settled way next t url markup reads told =
     let here : way ≡ next = cc in
     subst (λ w. Reads w t url markup) here reads)
     (λ (outside : is_url way.tokenizer.attribute ≡ false).
-    reads_let_go way next t url markup reads (url_markup way.url way.markup) refl (rw outside at told))
+    reads_let_go way next t url markup reads outside (url_markup way.url way.markup) refl (rw outside at told))
     (cases_Bool (is_url way.tokenizer.attribute))
 
-reads_markup : (way next : Way) (t : Tokenizer) (url : OpenUrl) (markup bytes : List ℕ) → Reads way t url markup → way_behind way bytes ≡ Ok next →
+pub reads_markup : (way next : Way) (t : Tokenizer) (url : OpenUrl) (markup bytes : List ℕ) → Reads way t url markup → way_behind way bytes ≡ Ok next →
     Reads next t url (markup ++ bytes)
 reads_markup way next t url markup bytes reads told =
     ⊎_elim
@@ -109,11 +111,11 @@ reads_markup way next t url markup bytes reads told =
 -- ---- slots
 
 -- a slot behind markup, as the parts have it
-record AtSlot (t : Tokenizer) (url : OpenUrl) (markup : List ℕ) (slot : PlacedSlot) : Type 0 where
-  read : is_refused (state_after t markup).state ≡ false
-  opened : OpenUrl
-  told : url_markup url markup ≡ Ok opened
-  stands : slot_at markup opened (standing (state_after t markup)) ≡ Ok slot
+pub record AtSlot (t : Tokenizer) (url : OpenUrl) (markup : List ℕ) (slot : PlacedSlot) : Type 0 where
+  pub read : is_refused (state_after t markup).state ≡ false
+  pub opened : OpenUrl
+  pub told : url_markup url markup ≡ Ok opened
+  pub stands : slot_at markup opened (standing (state_after t markup)) ≡ Ok slot
 
 slot_held : (way : Way) (t : Tokenizer) (url opened : OpenUrl) (markup : List ℕ) (slot : PlacedSlot) → way.tokenizer ≡ state_after t markup →
     is_refused way.tokenizer.state ≡ false → Holds way url markup → url_markup way.url way.markup ≡ Ok opened → slot_in way opened ≡ Ok slot →
@@ -127,7 +129,7 @@ slot_held way t url opened markup slot state read holds told is = record {
 }
 
 slot_behind_gone : (way : Way) (t : Tokenizer) (url : OpenUrl) (markup : List ℕ) (slot : PlacedSlot) → way.tokenizer ≡ state_after t markup →
-    is_refused way.tokenizer.state ≡ false → LetGo way url markup → slot_in way Outside ≡ Ok slot → AtSlot t url markup slot
+    is_refused way.tokenizer.state ≡ false → LetGo way t url markup → slot_in way Outside ≡ Ok slot → AtSlot t url markup slot
 slot_behind_gone way t url markup slot state read gone is = record {
   read = sym (ap (λ (u : Tokenizer). is_refused u.state) state) ∙ read;
   opened = Outside;
@@ -137,7 +139,7 @@ slot_behind_gone way t url markup slot state read gone is = record {
       ∙ slot_more (standing way.tokenizer) slot gone.front way.markup is);
 }
 
-opened_outside : (way : Way) (opened : OpenUrl) → way.url ≡ Outside → url_markup way.url way.markup ≡ Ok opened → opened ≡ Outside
+pub opened_outside : (way : Way) (opened : OpenUrl) → way.url ≡ Outside → url_markup way.url way.markup ≡ Ok opened → opened ≡ Outside
 opened_outside way opened outside told =
     let here : Ok Outside ≡ Ok opened = sym (ap (λ u. url_markup u way.markup) outside) ∙ told in
     cc
@@ -149,12 +151,12 @@ slot_told way t url markup slot reads read (Err f) is told = absurd (cc)
 slot_told way t url markup slot reads read (Ok opened) is told =
     ⊎_elim
     (λ (holds : Holds way url markup). slot_held way t url opened markup slot reads.state read holds is told)
-    (λ (gone : LetGo way url markup).
+    (λ (gone : LetGo way t url markup).
     slot_behind_gone way t url markup slot reads.state read gone
     (subst (λ u. slot_in way u ≡ Ok slot) (opened_outside way opened gone.outside is) told))
     reads.kept
 
-reads_slot : (way : Way) (t : Tokenizer) (url : OpenUrl) (markup : List ℕ) (slot : PlacedSlot) → Reads way t url markup →
+pub reads_slot : (way : Way) (t : Tokenizer) (url : OpenUrl) (markup : List ℕ) (slot : PlacedSlot) → Reads way t url markup →
     way_slot way ≡ Ok slot → AtSlot t url markup slot
 reads_slot way t url markup slot reads told =
     ⊎_elim
@@ -180,7 +182,7 @@ reads_end way t url markup reads end =
       told = (sym (ap (λ u. url_markup u markup) holds.url_same) ∙ sym (ap (λ m. url_markup way.url m) holds.same) ∙ end.told);
       may = sym (ap may_end reads.state) ∙ end.may;
     })
-    (λ (gone : LetGo way url markup). record {
+    (λ (gone : LetGo way t url markup). record {
       read = sym (ap (λ (u : Tokenizer). is_refused u.state) reads.state) ∙ end.read;
       opened = Outside;
       told = (ap (url_markup url) gone.whole ∙ ended_more url gone.front way.markup gone.ended);

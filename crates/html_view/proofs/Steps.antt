@@ -1,9 +1,8 @@
 -- Markup that was let go is not looked at.
 use Rattle.std.proofs.Common.{ℕ, ◌≡◌, ◌+◌, ◌<◌, ◌≤◌, ◌||◌, Bool, true, false, List, [], ◌∷◌, ◌++◌, Option, Some, None, Ok, length, take, nat_lt, arith, refl, ap, ⊎_elim, length-append, ltb-true, lt-ltb}
-use Rattle.std.specs.List.{list_any, position_or_len, prefix_len}
+use Rattle.std.specs.List.{list_any, position_or_len}
 use Rattle.std.proofs.lemmas.Bool.{cases_Bool}
 use Rattle.std.proofs.lemmas.List.{take-append-le}
-use Rattle.std.proofs.lemmas.List.Folds.{prefix_len-append}
 use Rattle.html_urls.specs.OpenParts.{after_markup}
 use Rattle.html_urls.specs.declared.open_part.OpenPart.{OpenPart}
 use Rattle.html_template.specs.OpenUrls.{url_markup, url_slot, value_length, behind_part, first_slot, plain_text}
@@ -85,7 +84,7 @@ has_mark test (b ∷ markup) text told =
     any_true true = refl
     any_true false = refl
 
-any_more : (test : ℕ → Bool) (front markup : List ℕ) → list_any test markup ≡ true → list_any test (front ++ markup) ≡ true
+pub any_more : (test : ℕ → Bool) (front markup : List ℕ) → list_any test markup ≡ true → list_any test (front ++ markup) ≡ true
 any_more test [] markup any = any
 any_more test (b ∷ front) markup any = rw (any_more test front markup any) (any_true (test b))
   where

@@ -1,11 +1,11 @@
 -- What data makes of nodes is an unrolling, whose slots its texts fill.
-use Rattle.std.proofs.Common.{ℕ, ◌≡◌, ◌⊎◌, ◌≢◌, true, false, List, [], ◌∷◌, ◌++◌, map, IsUtf8, Option, Some, None, Result, Ok, Err, length, refl, sym, ap, ◌∙◌, subst, inl, inr, ⊎_elim, append_assoc, arith, ◌==◌}
+use Rattle.std.proofs.Common.{ℕ, ◌≡◌, ◌⊎◌, true, false, List, [], ◌∷◌, ◌++◌, map, IsUtf8, Option, Some, None, Result, Ok, Err, length, refl, ap, subst, inl, inr, ⊎_elim, arith, ◌==◌}
 use Rattle.std.specs.List.{AllByRecursion}
 use Rattle.std.proofs.lemmas.Bool.{cases_Bool}
 use Rattle.html_template.specs.FillFaults.{empty_fault, segment_fault, text_fault}
 use Rattle.html_template.specs.Slots.{FitsPlace, MayFill}
 use Rattle.html_template.specs.Structure.{IsPageOf}
-use Rattle.html_template.specs.Templates.{Chunk, Fill, Markup, Slot, page, part_of}
+use Rattle.html_template.specs.Templates.{Chunk, Fill, Markup, Slot, part_of}
 use Rattle.html_template.specs.declared.faults.TextFault.{TextFault}
 use Rattle.html_template.specs.declared.faults.TextFault.TheVariants as fault
 use Rattle.html_template.specs.declared.parts.SlotKind.{SlotKind}
@@ -121,9 +121,9 @@ are_passes body rendering each (stack ∷ stacks) found told =
     })
 
 -- a body, as often as it may stand, or what stands where it does not
-record AreSome (times : Times) (body otherwise : Nodes Placed) (found : Unrolling) : Type 0 where
-  either : Stands times (λ pass. Unrolls body pass) found.pieces ⊎ Unrolls otherwise found.pieces
-  full : Fill found.pieces found.texts
+pub record AreSome (times : Times) (body otherwise : Nodes Placed) (found : Unrolling) : Type 0 where
+  pub either : Stands times (λ pass. Unrolls body pass) found.pieces ⊎ Unrolls otherwise found.pieces
+  pub full : Fill found.pieces found.texts
 
 are_repeated : (body : Nodes Placed) (rendering : Stack → Unrolled) →
     ((inner : Stack) (found : Unrolling) → rendering inner ≡ Ok found → IsUnrolling body found) →
@@ -156,7 +156,7 @@ are_some opening Whether body otherwise rendering each stack [] found told =
     let here = each stack found told in record { either = inl here.unrolls; full = here.full }
 are_some opening Whether body otherwise rendering each stack (another ∷ stacks) found told = absurd (cc)
 
-are_either : (opening : Opening) (body otherwise : Nodes Placed) (rendering : Stack → Unrolled) (other : Unrolled) →
+pub are_either : (opening : Opening) (body otherwise : Nodes Placed) (rendering : Stack → Unrolled) (other : Unrolled) →
     ((inner : Stack) (found : Unrolling) → rendering inner ≡ Ok found → IsUnrolling body found) →
     ((found : Unrolling) → other ≡ Ok found → IsUnrolling otherwise found) →
     (around : List Stack) (found : Unrolling) → unrolled_section opening rendering other around ≡ Ok found → AreSome opening.times body otherwise found

@@ -66,3 +66,10 @@ pub record MayEnd (way : Way) : Type 0 where
   pub read : is_refused way.tokenizer.state ≡ false
   pub url : OpenUrl
   pub told : url_markup way.url way.markup ≡ Ok url
+
+-- it would end within a tag, a reference or an element
+pub record EndsWithin (way : Way) : Type 0 where
+  pub may_not : may_end way.tokenizer ≡ false
+  pub read : is_refused way.tokenizer.state ≡ false
+  pub url : OpenUrl
+  pub told : url_markup way.url way.markup ≡ Ok url

@@ -1,10 +1,14 @@
 //! The data of a page, and what a name means in it.
-ghost use Rattle.std.specs.Prelude.{◌≡◌, ◌<◌, option_map, [], ◌∷◌, IfNone, IfSome, length};
+ghost use Rattle.std.specs.Prelude.{◌≡◌, bytes_eq, option_map, IfNone, IfSome};
 ghost use Rattle.json.specs.Value.{members_view, value_view};
+ghost use Rattle.html_template.specs.Templates.{texts_of};
 ghost use Rattle.html_view.specs.Data as data_of;
 ghost use Rattle.html_view.specs.JsonData.{datum_of_json, fields_of_json};
-ghost use Rattle.html_view.specs.Names.{words_behind, words_of};
+ghost use Rattle.html_view.specs.CutNames.{words_in};
 ghost use Rattle.html_view.specs.Values.{datum_of, fields_of, items_in, stack_of};
+
+use crate::words::Words;
+use std::alloc::Allocator;
 
 /// A value: nothing, a text, a flag, a list, or named values, also as JSON has them. Of two values with
 /// one name the first counts.
@@ -69,13 +73,22 @@ pub(crate) enum Around<'s, 'p, 't> {
     Inside(Value<'p, 't>, &'s Around<'s, 'p, 't>),
 }
 
+// Most names that are not the same differ in their lengths.
+#[inline(always)]
+fn is_same(name: &str, word: &str) -> bool
+    ensures { result ≡ bytes_eq name.now word.now }
+{
+    name.len() == word.len() && name == word
+}
+
 // The first value of this name.
+#[inline(always)]
 fn field_of<'p, 't>(fields: &'p [(&'p str, Value<'p, 't>)], word: &str) -> Option<Value<'p, 't>>
     ensures { option_map datum_of result ≡ data_of.field_of word.now (fields_of fields.now) }
 {
     let mut rest = fields;
     'fields: while let [(name, value), others @ ..] = rest {
-        if *name == word {
+        if is_same(*name, word) {
             return Some(*value);
         }
         rest = others;
@@ -84,13 +97,14 @@ fn field_of<'p, 't>(fields: &'p [(&'p str, Value<'p, 't>)], word: &str) -> Optio
 }
 
 // The first member of this name.
+#[inline(always)]
 fn member_in<'p, 't>(members: &'p [(&'t str, json::Value<'t>)], word: &str) -> Option<Value<'p, 't>>
     ensures { option_map datum_of result
         ≡ data_of.field_of word.now (fields_of_json (members_view members.now)) }
 {
     let mut rest = members;
     'members: while let [(name, json), others @ ..] = rest {
-        if *name == word {
+        if is_same(*name, word) {
             return Some(Value::of_json(json));
         }
         rest = others;
@@ -98,30 +112,36 @@ fn member_in<'p, 't>(members: &'p [(&'t str, json::Value<'t>)], word: &str) -> O
     None
 }
 
+#[inline(always)]
 fn member_of<'p, 't>(value: Value<'p, 't>, word: &str) -> Option<Value<'p, 't>>
     ensures { option_map datum_of result ≡ data_of.member_of word.now (datum_of value.entry) }
 {
-    match value {
-        Value::Record(fields) => field_of(fields, word),
-        Value::Object(members) => member_in(members, word),
-        Value::Null | Value::Text(_) | Value::Flag(_) => None,
-        Value::List(_) | Value::Array(_) => None,
+    // Most values with names in them are records, which is asked first.
+    if let Value::Record(fields) = value {
+        return field_of(fields, word);
     }
+    if let Value::Object(members) = value {
+        return member_in(members, word);
+    }
+    None
 }
 
 // The value of a word, from inside out.
+#[inline(always)]
 fn find<'s, 'p, 't>(around: &Around<'s, 'p, 't>, word: &str) -> Option<Value<'p, 't>>
     ensures { option_map datum_of result ≡ data_of.around word.now (stack_of around.now) }
 {
-    match around {
-        Around::Nothing => None,
-        Around::Inside(value, outer) => match member_of(*value, word) {
-            Some(found) => Some(found),
-            None => find(*outer, word),
-        },
+    let mut here = around;
+    'values: while let Around::Inside(value, outer) = here {
+        if let Some(found) = member_of(*value, word) {
+            return Some(found);
+        }
+        here = *outer;
     }
+    None
 }
 
+#[inline(always)]
 fn innermost<'s, 'p, 't>(around: &Around<'s, 'p, 't>) -> Option<Value<'p, 't>>
     ensures { option_map datum_of result ≡ data_of.innermost (stack_of around.now) }
 {
@@ -131,27 +151,19 @@ fn innermost<'s, 'p, 't>(around: &Around<'s, 'p, 't>) -> Option<Value<'p, 't>>
     }
 }
 
-// The first word of a name and its other words, `None` where it is one word.
-fn cut_word(words: &str) -> Option<(&str, &str)>
-    ensures some { IfSome result (λ r. words_behind [] words.now
-        ≡ r.0.now ∷ words_behind [] r.1.now) }
-    ensures none { IfNone result (words_behind [] words.now ≡ words.now ∷ []) }
-    ensures shorter { IfSome result (λ r. length r.1.now < length words.now) }
-{
-    words.split_once('.')
-}
-
 /// What a name means: the innermost value of its first word, and in that what its other words mean.
-pub(crate) fn look_up<'s, 'p, 't>(name: &str, around: &Around<'s, 'p, 't>) -> Option<Value<'p, 't>>
+#[inline(always)]
+pub(crate) fn look_up<'s, 'p, 't, A: Allocator>(
+    name: &Words<'_, A>,
+    around: &Around<'s, 'p, 't>,
+) -> Option<Value<'p, 't>>
     ensures { option_map datum_of result
-        ≡ data_of.look_up (words_of name.now) (stack_of around.now) }
+        ≡ data_of.look_up (words_in name.now) (stack_of around.now) }
 {
-    if name == "." {
-        return innermost(around);
-    }
-    match cut_word(name) {
-        None => find(around, name),
-        Some((word, others)) => match find(around, word) {
+    match name {
+        Words::Innermost => innermost(around),
+        Words::One(word) => find(around, *word),
+        Words::Several(first, others) => match find(around, *first) {
             None => None,
             Some(found) => within(others, found),
         },
@@ -159,15 +171,18 @@ pub(crate) fn look_up<'s, 'p, 't>(name: &str, around: &Around<'s, 'p, 't>) -> Op
 }
 
 // What these words mean in a value.
-fn within<'p, 't>(words: &str, value: Value<'p, 't>) -> Option<Value<'p, 't>>
+fn within<'p, 't>(words: &[&str], value: Value<'p, 't>) -> Option<Value<'p, 't>>
     ensures { option_map datum_of result
-        ≡ data_of.within (words_behind [] words.now) (datum_of value.entry) }
+        ≡ data_of.within (texts_of words.now) (datum_of value.entry) }
 {
-    match cut_word(words) {
-        None => member_of(value, words),
-        Some((word, others)) => match member_of(value, word) {
-            None => None,
-            Some(found) => within(others, found),
-        },
+    let mut found = value;
+    let mut rest = words;
+    'words: while let [word, others @ ..] = rest {
+        match member_of(found, *word) {
+            None => return None,
+            Some(member) => found = member,
+        }
+        rest = others;
     }
+    Some(found)
 }

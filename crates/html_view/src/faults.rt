@@ -1,6 +1,6 @@
 //! Why nodes are no view, and why data has no page.
 use html_template::{PartFault, TextFault};
-use std::alloc::AllocError;
+use std::alloc::{AllocError, Allocator, Global};
 
 /// Where a node stands, as it was given.
 #[derive(Clone, Copy, Debug, PartialEq, Eq)]
@@ -49,6 +49,16 @@ pub enum ViewFault {
     Unfinished,
     /// A growth was refused.
     Memory,
+}
+
+/// Why nodes are no view, and where that shows.
+#[derive(Drop)]
+pub struct Refused<A: Allocator = Global> {
+    pub fault: ViewFault,
+    /// Where the tags of the sections are that stand in the unrolling that shows the fault, in its order: one
+    /// whose body stands again is told again, and one that is not told does not stand. Only `Part` and
+    /// `Unfinished` have such an unrolling; of the others nothing is told here.
+    pub standing: Vec<Position, A>,
 }
 
 impl From<AllocError> for ViewFault {

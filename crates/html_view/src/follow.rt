@@ -7,6 +7,7 @@ ghost use Rattle.html_view.specs.declared.node.Times.TheVariants.{Each};
 
 use crate::faults::{Position, ViewFault};
 use crate::heads::{Heads, Known};
+use crate::history::Entry;
 use crate::node::{Asked, Node, Opening, Placed, Times};
 use crate::ways::{MOST_WAYS, Ways};
 use std::alloc::Allocator;
@@ -33,10 +34,11 @@ struct FollowedBody<'a, A: Allocator> {
     ways: Ways<A>,
 }
 
-/// Follows these ways through nodes.
+/// Follows these ways through nodes, which begin there.
 #[cycle(follow)]
 pub(crate) fn follow<'a, A: Allocator + Copy>(
     alloc: A,
+    entry: Entry,
     nodes: &Vec<Node<'a, Asked<'a>, A>, A>,
     ways: &Ways<A>,
     heads: &mut Heads<A>,
@@ -45,7 +47,7 @@ pub(crate) fn follow<'a, A: Allocator + Copy>(
         (ways_of ways.now) (ways_of f.ways)) }
 {
     let mut placed = Vec::new(alloc);
-    let mut here = ways.copy()?;
+    let mut here = ways.enter(entry, &mut heads.history)?;
     for node in nodes {
         let followed = follow_node(alloc, node, &here, heads)?;
         match placed.push(followed.node) {
@@ -73,14 +75,14 @@ fn follow_node<'a, A: Allocator + Copy>(
 {
     match node {
         Node::Markup(text, position) => {
-            let ways = ways.behind_markup(text.as_bytes(), *position)?;
+            let ways = ways.behind_markup(text.as_bytes(), *position, &mut heads.history)?;
             Ok(FollowedNode {
                 node: Node::Markup(*text, *position),
                 ways,
             })
         }
         Node::Slot(slot) => {
-            let past = ways.behind_slot(slot.position)?;
+            let past = ways.behind_slot(slot.position, &mut heads.history)?;
             Ok(FollowedNode {
                 node: Node::Slot(Placed {
                     asked: *slot,
@@ -91,10 +93,12 @@ fn follow_node<'a, A: Allocator + Copy>(
             })
         }
         Node::Section(opening, body, otherwise) => {
-            let passes = follow_body(alloc, *opening, body, ways, heads)?;
-            let other = follow(alloc, otherwise, ways, heads)?;
-            let mut next = passes.ways;
-            let _has_grown = next.add_all(&other.ways, opening.position)?;
+            let number = heads.open()?;
+            let passes = follow_body(alloc, number, *opening, body, ways, heads)?;
+            let other = follow(alloc, Entry::Other(number), otherwise, ways, heads)?;
+            // Of two ways that are one, that with fewer sections standing is kept.
+            let mut next = other.ways;
+            let _has_grown = next.add_all(&passes.ways, opening.position)?;
             let times = passes.times;
             let opening = Opening {
                 name: opening.name,
@@ -113,6 +117,7 @@ fn follow_node<'a, A: Allocator + Copy>(
 #[cycle(follow)]
 fn follow_body<'a, A: Allocator + Copy>(
     alloc: A,
+    number: usize,
     opening: Opening<'a>,
     body: &Vec<Node<'a, Asked<'a>, A>, A>,
     ways: &Ways<A>,
@@ -122,16 +127,15 @@ fn follow_body<'a, A: Allocator + Copy>(
     ensures body { IfOk result (λ f. FollowsBody (asked_nodes body.now.items)
         (placed_nodes f.nodes.items) f.times (ways_of ways.now) (ways_of f.ways)) }
 {
-    let number = heads.open()?;
     match opening.times {
-        Times::If => return follow_once(alloc, Times::If, body, ways, heads),
-        Times::Whether => return follow_once(alloc, Times::Whether, body, ways, heads),
+        Times::If => return follow_once(alloc, Times::If, number, body, ways, heads),
+        Times::Whether => return follow_once(alloc, Times::Whether, number, body, ways, heads),
         Times::Each | Times::Once => {}
     }
     match heads.known(number) {
         Known::Nothing => follow_new(alloc, opening.position, number, body, ways, heads),
         Known::Repeated => follow_again(alloc, opening.position, number, body, ways, heads),
-        Known::Once => follow_once(alloc, Times::Once, body, ways, heads),
+        Known::Once => follow_once(alloc, Times::Once, number, body, ways, heads),
     }
 }
 
@@ -140,6 +144,7 @@ fn follow_body<'a, A: Allocator + Copy>(
 fn follow_once<'a, A: Allocator + Copy>(
     alloc: A,
     times: Times,
+    number: usize,
     body: &Vec<Node<'a, Asked<'a>, A>, A>,
     ways: &Ways<A>,
     heads: &mut Heads<A>,
@@ -149,7 +154,7 @@ fn follow_once<'a, A: Allocator + Copy>(
     ensures body { IfOk result (λ f. FollowsBody (asked_nodes body.now.items)
         (placed_nodes f.nodes.items) f.times (ways_of ways.now) (ways_of f.ways)) }
 {
-    let once = follow(alloc, body, ways, heads)?;
+    let once = follow(alloc, Entry::Body(number), body, ways, heads)?;
     Ok(FollowedBody {
         times,
         nodes: once.nodes,
@@ -172,7 +177,7 @@ fn follow_new<'a, A: Allocator + Copy>(
         (placed_nodes f.nodes.items) f.times (ways_of ways.now) (ways_of f.ways)) }
 {
     let first = heads.next();
-    let once = follow(alloc, body, ways, heads)?;
+    let once = follow(alloc, Entry::Body(number), body, ways, heads)?;
     let end = heads.next();
     let mut head = ways.copy()?;
     match head.add_all(&once.ways, position) {
@@ -232,7 +237,7 @@ fn follow_again<'a, A: Allocator + Copy>(
         Err(_) => {}
     }
     heads.go_to(first);
-    let once = follow_once(alloc, Times::Once, body, ways, heads)?;
+    let once = follow_once(alloc, Times::Once, number, body, ways, heads)?;
     heads.note_once(number);
     Ok(once)
 }
@@ -256,7 +261,7 @@ fn follow_rounds<'a, A: Allocator + Copy>(
     let mut head = ways;
     for _round in 0..MOST_WAYS {
         heads.go_to(first);
-        let round = match follow(alloc, body, &head, heads) {
+        let round = match follow(alloc, Entry::Body(number), body, &head, heads) {
             Ok(round) => round,
             Err(ViewFault::Memory) => return Err(ViewFault::Memory),
             Err(_) => return Ok(None),

@@ -1,4 +1,5 @@
 //! What was found of sections that are followed again.
+use crate::history::History;
 use crate::ways::Ways;
 use std::alloc::{AllocError, Allocator};
 
@@ -29,6 +30,8 @@ pub(crate) enum Known {
 pub(crate) struct Heads<A: Allocator> {
     heads: Vec<Head<A>, A>,
     next: usize,
+    /// The steps of all ways.
+    pub(crate) history: History<A>,
 }
 
 impl<A: Allocator + Copy> Heads<A> {
@@ -37,6 +40,7 @@ impl<A: Allocator + Copy> Heads<A> {
         Heads {
             heads: Vec::new(alloc),
             next: 0,
+            history: History::new(alloc),
         }
     }
 

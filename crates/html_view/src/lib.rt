@@ -6,21 +6,26 @@
 //! data alone and never on what a text says: the [`laws`].
 #![tactic(auto)]
 
+mod append;
 mod data;
 mod faults;
 mod follow;
 mod heads;
+mod history;
 pub mod laws;
 mod names;
 mod node;
+mod retrace;
 mod source;
+mod step;
 mod unroll;
 mod view;
 mod way;
 mod ways;
+mod words;
 
 pub use crate::data::Value;
-pub use crate::faults::{DataFault, Position, TagFault, ValueFault, ViewFault};
+pub use crate::faults::{DataFault, Position, Refused, TagFault, ValueFault, ViewFault};
 pub use crate::names::Name;
 pub use crate::node::{Asked, Node, Opening, Placed, Times};
 pub use crate::view::View;

@@ -1,87 +1,58 @@
-//! What data makes of nodes: pieces, and the texts of their slots.
-ghost use Rattle.std.specs.Prelude.{◌≡◌, ◌≤◌, ◌++◌, ◌∷◌, [], IfErr, IfOk, OnOk, Ok, Err, length, option_map};
-ghost use Rattle.html_view.specs.Adding.{Adds, AddsFront, StandsSo, both, markup_alone, text_alone, unrolling_of};
+//! What data makes of nodes, put into a sink.
+ghost use Rattle.std.specs.Prelude.{◌≡◌, IfErr, IfOk, Ok, Err, option_map};
+ghost use Rattle.std.specs.Str.{IsUtf8};
 ghost use Rattle.html_view.specs.Data.{inside, item_stacks, list_stacks, stacks};
-ghost use Rattle.html_view.specs.Kept.{nodes_of, placed_node, placed_of};
 ghost use Rattle.html_view.specs.Nodes as node;
-ghost use Rattle.html_view.specs.Rendered.{no_unrolling, text_for, unrolled, unrolled_each};
+ghost use Rattle.html_view.specs.Putting.{Puts, PutsFront, StandsSo};
+ghost use Rattle.html_view.specs.Rendered.{text_for, unrolled, unrolled_each};
+ghost use Rattle.html_view.specs.Stepped.{slot_of, step_node, stepped};
 ghost use Rattle.html_view.specs.Values.{datum_of, items_in, stack_of};
 
 use crate::data::{Around, Items, Value, look_up};
-use crate::faults::{DataFault, ValueFault};
-use crate::node::{Node, Opening, Placed, Times};
-use html_template::{Page, Stored, StoredMarkup, StoredSlot, text_fault};
-use std::alloc::{AllocError, Allocator};
+use crate::faults::{Position, ValueFault};
+use crate::node::Times;
+use crate::step::{SlotStep, Step};
+use hesc_core::Sink;
+use html_template::{put_markup, put_text, text_fault};
+use std::alloc::Allocator;
 
-/// Pieces and the texts of their slots, as far as they are known.
-#[derive(Drop)]
-pub(crate) struct Made<'p, A: Allocator> {
-    pub(crate) pieces: Vec<Stored<'p>, A>,
-    pub(crate) texts: Vec<&'p str, A>,
-    /// The length of all markup, in bytes.
-    pub(crate) markup: usize,
+/// Where a value is refused, and why.
+#[derive(Clone, Copy)]
+pub(crate) struct Refusal {
+    pub(crate) position: Position,
+    pub(crate) why: ValueFault,
 }
 
-impl<'p, A: Allocator + Copy> Made<'p, A> {
-    /// No pieces.
-    pub(crate) fn new(alloc: A) -> Made<'p, A>
-        ensures { unrolling_of result ≡ no_unrolling }
-    {
-        Made {
-            pieces: Vec::new(alloc),
-            texts: Vec::new(alloc),
-            markup: 0,
+impl Refusal {
+    /// Nothing that was refused.
+    pub(crate) fn none() -> Refusal {
+        Refusal {
+            position: Position { text: 0, byte: 0 },
+            why: ValueFault::Missing,
         }
     }
+}
 
-    /// The page of the pieces and the texts.
-    pub(crate) fn page<'s>(&'s self) -> Page<'s, &'s [&'s str]>
-        ensures pieces { result.pieces.now ≡ self.now.pieces.items }
-        ensures texts { result.texts.now ≡ self.now.texts.items }
-    {
-        Page {
-            pieces: &self.pieces,
-            texts: &self.texts,
-            markup: self.markup,
-        }
-    }
-
-    fn add_piece(&mut self, piece: Stored<'p>) -> Result<(), AllocError>
-        ensures pieces { OnOk result (self.new.pieces.items ≡ self.old.pieces.items ++ piece.entry ∷ []) }
-        ensures texts { self.new.texts.items ≡ self.old.texts.items }
-    {
-        match self.pieces.push(piece) {
-            Ok(()) => Ok(()),
-            Err(_) => Err(AllocError),
-        }
-    }
-
-    fn add_markup(&mut self, text: &'p str) -> Result<(), AllocError>
-        ensures { OnOk result (unrolling_of self.new
-            ≡ both (unrolling_of self.old) (markup_alone text.now)) }
-    {
-        self.markup = self.markup.saturating_add(text.len());
-        self.add_piece(Stored::Markup(StoredMarkup::new(text)))
-    }
-
-    fn add_text(&mut self, slot: &Placed, text: &'p str) -> Result<(), AllocError>
-        ensures { OnOk result (unrolling_of self.new
-            ≡ both (unrolling_of self.old) (text_alone (placed_of slot.now) text.now)) }
-    {
-        self.add_piece(Stored::Slot(StoredSlot::new(slot.place, slot.kind)))?;
-        match self.texts.push(text) {
-            Ok(()) => Ok(()),
-            Err(_) => Err(AllocError),
-        }
-    }
+/// Why a page is not put to its end.
+#[derive(Drop)]
+pub(crate) enum Stop<F> {
+    /// A value was refused, as is put down.
+    Refused,
+    /// The sink has failed.
+    Failed(F),
 }
 
 // The text for a slot, of what its name means.
-fn text_for<'p, 't: 'p>(slot: &Placed, value: Option<Value<'p, 't>>) -> Result<&'p str, ValueFault>
-    ensures ok { IfOk result (λ text. text_for (placed_of slot.now)
+#[inline(always)]
+fn text_for<'p, 't: 'p, A: Allocator>(
+    slot: &SlotStep<'_, A>,
+    value: Option<Value<'p, 't>>,
+) -> Result<&'p str, ValueFault>
+    ensures ok { IfOk result (λ text. text_for (slot_of slot.now)
         (option_map datum_of value.entry) ≡ Ok text.now) }
-    ensures err { IfErr result (λ fault. text_for (placed_of slot.now)
-        (option_map datum_of value.entry) ≡ Err (slot.now.asked.position, fault)) }
+    ensures utf8 { IfOk result (λ text. IsUtf8 text.now) }
+    ensures err { IfErr result (λ fault. text_for (slot_of slot.now)
+        (option_map datum_of value.entry) ≡ Err (slot.now.position, fault)) }
 {
     let text = match value {
         None => return Err(ValueFault::Missing),
@@ -94,28 +65,40 @@ fn text_for<'p, 't: 'p>(slot: &Placed, value: Option<Value<'p, 't>>) -> Result<&
         Some(Value::Array(_)) => return Err(ValueFault::NotAText),
         Some(Value::Object(_)) => return Err(ValueFault::NotAText),
     };
-    match text_fault(&StoredSlot::new(slot.place, slot.kind), text) {
+    // For the proof alone that it is UTF-8.
+    let _length = text.len();
+    match text_fault(&slot.stored, text) {
         None => Ok(text),
         Some(fault) => Err(ValueFault::Unfit(fault)),
     }
 }
 
-fn add_slot<'s, 'p, 't: 'p, A: Allocator + Copy>(
-    slot: &Placed,
-    around: &'s Around<'s, 'p, 't>,
-    made: &mut Made<'p, A>,
-) -> Result<(), DataFault>
-    ensures { AddsFront (λ rest. unrolled (node.Slot (placed_of slot.now) rest)
-        (stack_of around.now)) (stack_of around.now) (unrolling_of made.old)
-        (unrolling_of made.new) result }
+#[inline(always)]
+fn put_slot<'s, 'p, 't: 'p, A: Allocator, S: Sink>(
+    slot: &SlotStep<'_, A>,
+    around: &Around<'s, 'p, 't>,
+    sink: &mut S,
+    refusal: &mut Refusal,
+) -> Result<(), Stop<S::Fault>>
+    ensures puts { PutsFront (λ rest. unrolled (node.Slot (slot_of slot.now) rest)
+        (stack_of around.now)) (stack_of around.now) (S.taken sink.old) (S.taken sink.new)
+        refusal.new result }
+    ensures same_reference { S.reference sink.new ≡ S.reference sink.old }
+    ensures same_before { S.before sink.new ≡ S.before sink.old }
 {
-    let value = look_up(slot.asked.name, around);
+    let value = look_up(&slot.name, around);
     match text_for(slot, value) {
-        Ok(text) => {
-            made.add_text(slot, text)?;
-            Ok(())
+        Ok(text) => match put_text(&slot.stored, text, sink) {
+            Ok(()) => Ok(()),
+            Err(fault) => Err(Stop::Failed(fault)),
+        },
+        Err(why) => {
+            *refusal = Refusal {
+                position: slot.position,
+                why,
+            };
+            Err(Stop::Refused)
         }
-        Err(why) => Err(DataFault::Value(slot.asked.position, why)),
     }
 }
 
@@ -132,6 +115,7 @@ enum Stand<'s, 'p, 't> {
 }
 
 // What is around in a body that stands once.
+#[inline(always)]
 fn around_body<'s, 'p, 't>(
     times: Times,
     value: Value<'p, 't>,
@@ -146,6 +130,7 @@ fn around_body<'s, 'p, 't>(
 }
 
 // How the body of a section of a list stands.
+#[inline(always)]
 fn stand_of_list<'s, 'p, 't>(
     times: Times,
     items: Items<'p, 't>,
@@ -168,6 +153,7 @@ fn stand_of_list<'s, 'p, 't>(
 }
 
 // How the body of a section stands whose name means this.
+#[inline(always)]
 fn stand_of<'s, 'p, 't>(
     times: Times,
     value: Option<Value<'p, 't>>,
@@ -194,67 +180,89 @@ fn stand_of<'s, 'p, 't>(
     }
 }
 
-// Adds what data makes of a node.
-#[cycle(add)]
-fn add_node<'s, 'a: 'p, 'p, 't: 'p, A: Allocator + Copy>(
-    node: &Node<'a, Placed<'a>, A>,
+// Puts what data makes of a step.
+#[cycle(put)]
+#[inline(always)]
+fn put_step<'s, 'a, 'p, 't: 'p, A: Allocator, S: Sink>(
+    step: &Step<'a, A>,
     around: &'s Around<'s, 'p, 't>,
-    made: &mut Made<'p, A>,
-) -> Result<(), DataFault>
-    ensures { AddsFront (λ rest. unrolled (placed_node node.now rest) (stack_of around.now))
-        (stack_of around.now) (unrolling_of made.old) (unrolling_of made.new) result }
+    sink: &mut S,
+    refusal: &mut Refusal,
+) -> Result<(), Stop<S::Fault>>
+    ensures puts { PutsFront (λ rest. unrolled (step_node step.now rest) (stack_of around.now))
+        (stack_of around.now) (S.taken sink.old) (S.taken sink.new) refusal.new result }
+    ensures same_reference { S.reference sink.new ≡ S.reference sink.old }
+    ensures same_before { S.before sink.new ≡ S.before sink.old }
 {
-    match node {
-        Node::Markup(text, _) => {
-            made.add_markup(*text)?;
-            Ok(())
-        }
-        Node::Slot(slot) => add_slot(slot, around, made),
-        Node::Section(opening, body, otherwise) => {
-            let value = look_up(opening.name, around);
+    match step {
+        Step::Markup(markup) => match put_markup(markup, sink) {
+            Ok(()) => Ok(()),
+            Err(fault) => Err(Stop::Failed(fault)),
+        },
+        Step::Slot(slot) => put_slot(slot, around, sink, refusal),
+        Step::Section(opening, body, otherwise) => {
+            let value = look_up(&opening.name, around);
             match stand_of(opening.times, value, around) {
-                Stand::Never => add_nodes(otherwise, around, made),
-                Stand::Once(inner) => add_nodes(body, &inner, made),
-                Stand::Each(items) => add_each(body, items, around, made),
-                Stand::Repeated => Err(DataFault::Value(opening.position, ValueFault::Repeated)),
+                Stand::Never => put_steps(otherwise, around, sink, refusal),
+                Stand::Once(inner) => put_steps(body, &inner, sink, refusal),
+                Stand::Each(items) => put_each(body, items, around, sink, refusal),
+                Stand::Repeated => {
+                    *refusal = Refusal {
+                        position: opening.position,
+                        why: ValueFault::Repeated,
+                    };
+                    Err(Stop::Refused)
+                }
             }
         }
     }
 }
 
-// Adds what data makes of a body, once for each item.
-#[cycle(add)]
-fn add_each<'s, 'a: 'p, 'p, 't: 'p, A: Allocator + Copy>(
-    body: &Vec<Node<'a, Placed<'a>, A>, A>,
+// Puts what data makes of a body, once for each item.
+#[cycle(put)]
+fn put_each<'s, 'a, 'p, 't: 'p, A: Allocator, S: Sink>(
+    body: &Vec<Step<'a, A>, A>,
     items: Items<'p, 't>,
     around: &'s Around<'s, 'p, 't>,
-    made: &mut Made<'p, A>,
-) -> Result<(), DataFault>
-    ensures { Adds (unrolled_each (λ inner. unrolled (nodes_of body.now.items) inner)
+    sink: &mut S,
+    refusal: &mut Refusal,
+) -> Result<(), Stop<S::Fault>>
+    ensures puts { Puts (unrolled_each (λ inner. unrolled (stepped body.now.items) inner)
         (item_stacks (items_in items.entry) (stack_of around.now)))
-        (unrolling_of made.old) (unrolling_of made.new) result }
+        (S.taken sink.old) (S.taken sink.new) refusal.new result }
+    ensures same_reference { S.reference sink.new ≡ S.reference sink.old }
+    ensures same_before { S.before sink.new ≡ S.before sink.old }
 {
     let mut rest = items;
     'items: while let Some((item, others)) = rest.take_first() {
         let inner = Around::Inside(item, around);
-        add_nodes(body, &inner, made)?;
+        match put_steps(body, &inner, sink, refusal) {
+            Ok(()) => {}
+            Err(stop) => return Err(stop),
+        }
         rest = others;
     }
     Ok(())
 }
 
-// Adds what data makes of nodes, one after the other.
-#[cycle(add)]
-pub(crate) fn add_nodes<'s, 'a: 'p, 'p, 't: 'p, A: Allocator + Copy>(
-    nodes: &Vec<Node<'a, Placed<'a>, A>, A>,
+/// Puts what data makes of steps, one after the other.
+#[cycle(put)]
+pub(crate) fn put_steps<'s, 'a, 'p, 't: 'p, A: Allocator, S: Sink>(
+    steps: &Vec<Step<'a, A>, A>,
     around: &'s Around<'s, 'p, 't>,
-    made: &mut Made<'p, A>,
-) -> Result<(), DataFault>
-    ensures { Adds (unrolled (nodes_of nodes.now.items) (stack_of around.now))
-        (unrolling_of made.old) (unrolling_of made.new) result }
+    sink: &mut S,
+    refusal: &mut Refusal,
+) -> Result<(), Stop<S::Fault>>
+    ensures puts { Puts (unrolled (stepped steps.now.items) (stack_of around.now))
+        (S.taken sink.old) (S.taken sink.new) refusal.new result }
+    ensures same_reference { S.reference sink.new ≡ S.reference sink.old }
+    ensures same_before { S.before sink.new ≡ S.before sink.old }
 {
-    for node in nodes {
-        add_node(node, around, made)?;
+    for step in steps {
+        match put_step(step, around, sink, refusal) {
+            Ok(()) => {}
+            Err(stop) => return Err(stop),
+        }
     }
     Ok(())
 }

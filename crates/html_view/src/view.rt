@@ -1,28 +1,30 @@
 //! Views.
 ghost use Rattle.std.specs.Prelude.{◌≡◌, IfErr, IfOk, OnOk, map};
 ghost use Rattle.html_view.specs.AskedNames.{asked_name, names_in};
-ghost use Rattle.std.specs.List.{AllByRecursion};
-ghost use Rattle.std.specs.Str.{IsUtf8};
 ghost use Rattle.std.specs.String.{string_bytes};
-ghost use Rattle.html_view.specs.Adding.{Answers, unrolling_of};
 ghost use Rattle.html_view.specs.Kept.{asked_nodes, nodes_of};
 ghost use Rattle.html_view.specs.Nodes as node;
 ghost use Rattle.html_view.specs.Nodes.{written};
+ghost use Rattle.html_view.specs.Reached.{Shows, ShowsOf};
 ghost use Rattle.html_view.specs.Reading.{IsSource, partials_of};
+ghost use Rattle.html_view.specs.Stepped.{MakeTheSame};
 ghost use Rattle.html_view.specs.Unrolled.{AreTemplates};
 ghost use Rattle.html_view.specs.Values.{datum_of};
 
+use crate::append::{Rendering, appended, write};
 use crate::data::{Around, Value};
-use crate::faults::{DataFault, ViewFault};
+use crate::faults::{DataFault, Refused, ViewFault};
 use crate::follow::follow;
 use crate::heads::Heads;
+use crate::history::Entry;
 use crate::names::{Name, add_names};
 use crate::node::{Asked, Node, Placed};
+use crate::retrace::{refused, without};
 use crate::source::read;
-use crate::unroll::{Made, add_nodes};
+use crate::step::{Step, steps_of};
 use crate::ways::Ways;
-use hesc_core::forms::append_parts;
-use html_template::{Page, WriteFault, total_length, write_page};
+use core::mem::replace_with;
+use html_template::WriteFault;
 use std::alloc::{AllocError, Allocator, Global};
 use std::io::Write;
 
@@ -31,7 +33,10 @@ use std::io::Write;
 pub struct View<'a, A: Allocator = Global> {
     alloc: A,
     nodes: Vec<Node<'a, Placed<'a>, A>, A>,
+    // The nodes, as they are rendered.
+    steps: Vec<Step<'a, A>, A>,
     ghost sound: { AreTemplates (nodes_of nodes.items) },
+    ghost same: { MakeTheSame steps.items (nodes_of nodes.items) },
 }
 
 impl<'a, A: Allocator + Copy> View<'a, A> {
@@ -41,19 +46,39 @@ impl<'a, A: Allocator + Copy> View<'a, A> {
     /// The body of a section of [`Times::Each`](crate::Times::Each) that cannot be repeated stands once.
     ///
     /// Of `<ul>`, a section with the body `<li>`, a slot and `</li>`, and `</ul>` the slot stands in text.
-    pub fn new(alloc: A, nodes: &Vec<Node<'a, Asked<'a>, A>, A>) -> Result<View<'a, A>, ViewFault>
+    pub fn new(alloc: A, nodes: &Vec<Node<'a, Asked<'a>, A>, A>) -> Result<View<'a, A>, Refused<A>>
+        ensures nodes { IfOk result (λ view. written (nodes_in view)
+            ≡ asked_nodes nodes.now.items node.End) }
+        ensures refused { IfErr result (λ refused. Shows (asked_nodes nodes.now.items node.End)
+            refused.standing.items refused.fault) }
+    {
+        let mut heads = Heads::new(alloc);
+        match View::placed(alloc, nodes, &mut heads) {
+            Ok(view) => Ok(view),
+            Err(fault) => Err(refused(alloc, nodes, fault, &heads)),
+        }
+    }
+
+    // The view, or the fault that some way has, whose steps are then kept.
+    fn placed(
+        alloc: A,
+        nodes: &Vec<Node<'a, Asked<'a>, A>, A>,
+        heads: &mut Heads<A>,
+    ) -> Result<View<'a, A>, ViewFault>
         ensures { IfOk result (λ view. written (nodes_in view)
             ≡ asked_nodes nodes.now.items node.End) }
     {
         let first = Ways::first(alloc)?;
-        let mut heads = Heads::new(alloc);
-        let followed = follow(alloc, nodes, &first, &mut heads)?;
-        if !followed.ways.may_end()? {
+        let followed = follow(alloc, Entry::Page, nodes, &first, heads)?;
+        if !followed.ways.may_end(&mut heads.history)? {
             return Err(ViewFault::Unfinished);
         }
+        let nodes = followed.nodes;
+        let steps = steps_of(alloc, &nodes)?;
         Ok(View {
             alloc,
-            nodes: followed.nodes,
+            nodes,
+            steps,
         })
     }
 
@@ -74,12 +99,21 @@ impl<'a, A: Allocator + Copy> View<'a, A> {
         alloc: A,
         source: &'a str,
         partials: &[(&str, &'a str)],
-    ) -> Result<View<'a, A>, ViewFault>
-        ensures { IfOk result (λ view. IsSource (partials_of partials.now) source.now
+    ) -> Result<View<'a, A>, Refused<A>>
+        ensures nodes { IfOk result (λ view. IsSource (partials_of partials.now) source.now
             (written (nodes_in view))) }
+        ensures refused { IfErr result (λ refused. ShowsOf (partials_of partials.now) source.now
+            refused.standing.items refused.fault) }
     {
-        let nodes = read(alloc, source, partials)?;
-        View::new(alloc, &nodes)
+        match read(alloc, source, partials) {
+            Ok(nodes) => View::new(alloc, &nodes),
+            Err(ViewFault::Tag(position, why)) => Err(without(
+                alloc,
+                ViewFault::Tag(position, why),
+            )),
+            // Reading has no other fault.
+            Err(_) => Err(without(alloc, ViewFault::Memory)),
+        }
     }
 
     /// The nodes, each slot placed.
@@ -101,22 +135,6 @@ impl<'a, A: Allocator + Copy> View<'a, A> {
         Ok(names)
     }
 
-    // What data makes of the nodes.
-    fn unroll<'p, 't: 'p>(&self, value: Value<'p, 't>) -> Result<Made<'p, A>, DataFault>
-    where
-        'a: 'p,
-        ensures told { Answers (unrolled_by self.now (datum_of value.entry)) unrolling_of result }
-        ensures utf8 { IfOk result (λ made. AllByRecursion IsUtf8 (unrolling_of made).texts) }
-    {
-        let mut made = Made::new(self.alloc);
-        let outermost = Around::Nothing;
-        let around = Around::Inside(value, &outermost);
-        add_nodes(&self.nodes, &around, &mut made)?;
-        // For the proof alone: no code is left of a sum that no one reads.
-        let _length = total_length(&made.texts.as_slice());
-        Ok(made)
-    }
-
     /// Appends the page of this data. On a fault `output` is as it was.
     ///
     /// The page is one of the unrolled template, so all laws of `html_template` hold of it. Behind a page
@@ -135,9 +153,13 @@ impl<'a, A: Allocator + Copy> View<'a, A> {
         ensures page { OnOk result (AddsPage (unrolled_by self.now (datum_of value.entry))
             (string_bytes output.old) (string_bytes output.new)) }
     {
-        let made = self.unroll(value)?;
-        append_parts(output, &made.page())?;
-        Ok(())
+        let outermost = Around::Nothing;
+        let around = Around::Inside(value, &outermost);
+        let rendering = Rendering {
+            steps: &self.steps,
+            around: &around,
+        };
+        replace_with(output, &rendering, appended)
     }
 
     /// Writes the page of this data: markup as it stands, and each text as it is encoded. No page is made
@@ -158,13 +180,12 @@ impl<'a, A: Allocator + Copy> View<'a, A> {
         ensures page { OnOk result (WritesPage (unrolled_by self.now (datum_of value.entry))
             (W.contents output.old) (W.contents output.new)) }
     {
-        let made = match self.unroll(value) {
-            Ok(made) => made,
-            Err(fault) => return Err(WriteFault::Texts(fault)),
+        let outermost = Around::Nothing;
+        let around = Around::Inside(value, &outermost);
+        let rendering = Rendering {
+            steps: &self.steps,
+            around: &around,
         };
-        match write_page(output, &made.page()) {
-            Ok(()) => Ok(()),
-            Err(fault) => Err(WriteFault::Writer(fault)),
-        }
+        write(output, &rendering)
     }
 }

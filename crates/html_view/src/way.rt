@@ -1,7 +1,7 @@
 //! A way: what may have been read where a node stands.
 ghost use Rattle.std.specs.Prelude.{◌≡◌, IfOk, IsTrue};
 ghost use Rattle.html_view.specs.Following.{Moves, MovesPast, way_of};
-ghost use Rattle.html_view.specs.Ways.{MayEnd, first_way, way_behind};
+ghost use Rattle.html_view.specs.Ways.{EndsWithin, MayEnd, first_way, way_behind};
 
 use html_template::{OpenUrl, PartFault, PlacedSlot, placed, url_markup};
 use html_tokenizer::Reader;
@@ -14,6 +14,8 @@ pub(crate) struct Way<A: Allocator> {
     reader: Reader<A>,
     markup: Vec<u8, A>,
     url: OpenUrl,
+    /// The number of its last step.
+    pub(crate) last: usize,
 }
 
 fn is_same_url(first: OpenUrl, second: OpenUrl) -> bool
@@ -39,6 +41,7 @@ impl<A: Allocator + Copy> Way<A> {
             reader: Reader::new(alloc),
             markup: Vec::new(alloc),
             url: OpenUrl::Outside,
+            last: 0,
         }
     }
 
@@ -54,10 +57,11 @@ impl<A: Allocator + Copy> Way<A> {
             reader,
             markup,
             url: self.url,
+            last: self.last,
         })
     }
 
-    /// Whether both are one way.
+    /// Whether both are one way, by whatever steps.
     pub(crate) fn is_same(&self, other: &Way<A>) -> bool
         ensures { IsTrue result → way_of self.now ≡ way_of other.now }
     {
@@ -113,6 +117,17 @@ impl<A: Allocator + Copy> Way<A> {
             }
             Err(why) => Ok(Err(why)),
         }
+    }
+
+    /// Whether a page would end here within a tag, a reference or an element.
+    pub(crate) fn is_unfinished(&self) -> Result<bool, AllocError>
+        ensures { IfOk result (λ is. IsTrue is → EndsWithin (way_of self.now)) }
+    {
+        if self.reader.is_refused() || self.reader.may_end() {
+            return Ok(false);
+        }
+        let url = url_markup(self.alloc, self.url, &self.markup)?;
+        Ok(url.is_ok())
     }
 
     /// Whether a page may end here, with no fault of the markup since the last slot.

@@ -7,6 +7,7 @@ ghost use Rattle.html_view.specs.Ways as spec;
 ghost use Rattle.html_view.specs.Ways.{MayEnd, first_way};
 
 use crate::faults::{Position, ViewFault};
+use crate::history::{Entry, History};
 use crate::way::Way;
 use html_template::{PlacedSlot, SlotKind};
 use html_tokenizer::SlotPlace;
@@ -69,6 +70,29 @@ impl<A: Allocator + Copy> Ways<A> {
         })
     }
 
+    /// The same ways, each with this step behind it.
+    pub(crate) fn enter(
+        &self,
+        entry: Entry,
+        history: &mut History<A>,
+    ) -> Result<Ways<A>, AllocError>
+        ensures { IfOk result (λ entered. ways_of entered ≡ ways_of self.now) }
+    {
+        let mut ways = Vec::new(self.alloc);
+        for way in &self.ways {
+            let mut copy = way.copy()?;
+            copy.last = history.add(entry, way.last)?;
+            match ways.push(copy) {
+                Ok(()) => {}
+                Err(_) => return Err(AllocError),
+            }
+        }
+        Ok(Ways {
+            alloc: self.alloc,
+            ways,
+        })
+    }
+
     fn has(&self, way: &Way<A>) -> bool
         ensures { IsTrue result → Among (way_of way.now) (ways_of self.now) }
     {
@@ -98,6 +122,19 @@ impl<A: Allocator + Copy> Ways<A> {
         Ok(true)
     }
 
+    // Adds a way, which is copied if it is new, and tells whether it is.
+    fn add_copy(&mut self, way: &Way<A>, position: Position) -> Result<bool, ViewFault>
+        ensures added { OnOk result (Among (way_of way.now) (ways_of self.new)) }
+        ensures kept { OnOk result (AreAmong (ways_of self.old) (ways_of self.new)) }
+        ensures same { IfOk result (λ grown. grown ≡ false → ways_of self.new ≡ ways_of self.old) }
+    {
+        if self.has(way) {
+            return Ok(false);
+        }
+        let copy = way.copy()?;
+        self.add(copy, position)
+    }
+
     /// Adds ways, and tells whether one of them is new.
     pub(crate) fn add_all(
         &mut self,
@@ -110,8 +147,7 @@ impl<A: Allocator + Copy> Ways<A> {
     {
         let mut has_grown = false;
         for way in &others.ways {
-            let copy = way.copy()?;
-            if self.add(copy, position)? {
+            if self.add_copy(way, position)? {
                 has_grown = true;
             }
         }
@@ -123,6 +159,7 @@ impl<A: Allocator + Copy> Ways<A> {
         &self,
         bytes: &[u8],
         position: Position,
+        history: &mut History<A>,
     ) -> Result<Ways<A>, ViewFault>
         ensures { IfOk result (λ next. (way : spec.Way) → Among way (ways_of self.now)
             → GoesOn way bytes.now (ways_of next)) }
@@ -132,7 +169,10 @@ impl<A: Allocator + Copy> Ways<A> {
             let mut moved = way.copy()?;
             match moved.take_markup(bytes)? {
                 Ok(()) => {}
-                Err(why) => return Err(ViewFault::Part(position, why)),
+                Err(why) => {
+                    history.refuse(way.last);
+                    return Err(ViewFault::Part(position, why));
+                }
             }
             let _is_new = next.add(moved, position)?;
         }
@@ -140,7 +180,11 @@ impl<A: Allocator + Copy> Ways<A> {
     }
 
     /// The ways behind a slot, and where it stands on all of them.
-    pub(crate) fn behind_slot(&self, position: Position) -> Result<Past<A>, ViewFault>
+    pub(crate) fn behind_slot(
+        &self,
+        position: Position,
+        history: &mut History<A>,
+    ) -> Result<Past<A>, ViewFault>
         ensures { IfOk result (λ past. (slot : Placed) → past.place ≡ slot.place → past.kind ≡ slot.kind
             → (way : spec.Way) → Among way (ways_of self.now) → GoesPast way slot (ways_of past.next)) }
     {
@@ -150,7 +194,10 @@ impl<A: Allocator + Copy> Ways<A> {
             let mut moved = way.copy()?;
             let slot = match moved.take_slot()? {
                 Ok(slot) => slot,
-                Err(why) => return Err(ViewFault::Part(position, why)),
+                Err(why) => {
+                    history.refuse(way.last);
+                    return Err(ViewFault::Part(position, why));
+                }
             };
             if let Some(other) = found {
                 if !is_same_slot(slot, other) {
@@ -172,12 +219,13 @@ impl<A: Allocator + Copy> Ways<A> {
     }
 
     /// Whether a page may end on each of them.
-    pub(crate) fn may_end(&self) -> Result<bool, AllocError>
+    pub(crate) fn may_end(&self, history: &mut History<A>) -> Result<bool, AllocError>
         ensures { IfOk result (λ may. IsTrue may → (way : spec.Way) → Among way (ways_of self.now)
             → MayEnd way) }
     {
         for way in &self.ways {
             if !way.may_end()? {
+                history.refuse(way.last);
                 return Ok(false);
             }
         }

@@ -4,7 +4,8 @@
 //! with pairs of a partial's name and its source. Tabs part these, and `test_support::shown` says what
 //! stands for a character that could not be seen. A row that begins with `#` heads the rows behind it.
 //!
-//! The answer is a fault, or the nodes. Markup stands as it is, a slot as `{name Place}`, and a section as
+//! The answer is a fault, or the nodes. Behind a fault stands `with TEXT:BYTE` for each section that stands
+//! where it shows, by the position of its tag. Markup stands as it is, a slot as `{name Place}`, and a section as
 //! `[each name: body]`, where the first word says how often it may stand. What stands where it does not
 //! follows after `|`, if there is anything.
 //!
@@ -20,10 +21,12 @@ mod memory;
 mod names;
 mod nodes;
 mod pages;
+mod refusals;
 
 use crate::names::names_of;
 use crate::nodes::show_nodes;
 use crate::pages::page_of;
+use crate::refusals::refusal_of;
 use html_view::View;
 use std::alloc::{AllocError, Global};
 use std::io;
@@ -62,7 +65,7 @@ fn answer_to(alloc: Global, source: &str, texts: &[String]) -> Result<String, Al
             show_nodes(&mut shown, view.nodes())?;
             Ok(shown)
         }
-        Err(fault) => format!(in alloc; "{fault:?}"),
+        Err(refused) => refusal_of(alloc, &refused),
     }
 }
 

@@ -22,7 +22,7 @@ fn every_request_of_parse_is_refused_in_turn(rt: HostRuntime) -> Result<(), Fail
         heap.refuse(number);
         let fault = match View::parse(&heap, SOURCE, &PARTIALS) {
             Ok(_) => None,
-            Err(fault) => Some(fault),
+            Err(refused) => Some(refused.fault),
         };
         assert!(rt; fault == Some(ViewFault::Memory), "{number}");
         assert!(rt; heap.asked(number) == number);
@@ -47,7 +47,7 @@ fn every_request_of_append_is_refused_in_turn(rt: HostRuntime) -> Result<(), Fai
     assert!(rt; view.append(&mut page, Value::of_json(&tree)) == Ok(()));
     assert!(rt; page.as_str() == "x<b>&lt;</b><b>true</b><p>a&amp;b");
     let requests = heap.asked(0);
-    assert!(rt; requests >= 3, "{requests}");
+    assert!(rt; requests >= 1, "{requests}");
     for number in 1..=requests {
         heap.refuse(0);
         let mut page = String::from_str(&heap, "x")?;

@@ -1,4 +1,5 @@
 //! The names that the view of a source asks for, a section's behind a `#`.
+use crate::refusals::refusal_of;
 use html_view::{Name, View};
 use std::alloc::{AllocError, Global};
 
@@ -10,7 +11,7 @@ pub fn names_of(
 ) -> Result<String, AllocError> {
     let view = match View::parse(alloc, source, partials) {
         Ok(view) => view,
-        Err(fault) => return format!(in alloc; "{fault:?}"),
+        Err(refused) => return refusal_of(alloc, &refused),
     };
     let names = view.names()?;
     let mut shown = String::new(alloc);

@@ -1,4 +1,5 @@
 //! The page of JSON data by a source.
+use crate::refusals::refusal_of;
 use html_view::{Value, View};
 use json::Scratch;
 use std::alloc::{AllocError, Global};
@@ -17,7 +18,7 @@ pub fn page_of(
     };
     let mut page = String::from_str(alloc, "<p>")?;
     match View::parse(alloc, source, partials) {
-        Err(fault) => format!(in alloc; "{fault:?}"),
+        Err(refused) => refusal_of(alloc, &refused),
         Ok(view) => match view.append(&mut page, Value::of_json(&tree)) {
             Ok(()) => match page.strip_prefix("<p>") {
                 Some(page) => String::from_str(alloc, page),

@@ -1,6 +1,6 @@
-use Rattle.std.proofs.Common.{rules, ◌≡◌, ◌≤◌, ◌+◌, ◌∙◌, List, length, subst, refl, sym, ap, arith}
-use Rattle.html_view.specs.Following.{Follows, FollowsBody, way_of, ways_of}
-use Rattle.html_view.specs.Kept.{asked_node, asked_nodes, placed_node, placed_nodes, placed_of}
+use Rattle.std.proofs.Common.{rules, ◌≤◌, ◌+◌, ◌∙◌, List, length, subst, refl, sym, arith}
+use Rattle.html_view.specs.Following.{Follows, ways_of}
+use Rattle.html_view.specs.Kept.{asked_node, asked_nodes, placed_node, placed_nodes}
 use Rattle.html_view.specs.Takes.{AreAmong, GoesOn}
 use Rattle.html_view.specs.declared.node.Node.{Markup, Node, Section, Slot}
 use Rattle.html_view.specs.declared.node.Opening.{Opening}
@@ -78,7 +78,7 @@ follow_node-returns-in_ok-_has_grown-in-Section g t c =
     c.in-Section.body c.in-Section.otherwise c.in_ok-passes-in-Section.passes.nodes c.in_ok-other-in-Section.other.nodes
     (ways_of c.args.ways.now) (ways_of c.in_ok-passes-in-Section.passes.ways) (ways_of c.in_ok-other-in-Section.other.ways) (ways_of c.add_all.new.self)
     refl refl c.in_ok-passes-in-Section.ensures.times c.in_ok-passes-in-Section.ensures.body c.in_ok-other-in-Section.ensures
-    c.in_ok-_has_grown-in-Section.ensures.kept c.in_ok-_has_grown-in-Section.ensures.added)
+    c.in_ok-_has_grown-in-Section.ensures.added c.in_ok-_has_grown-in-Section.ensures.kept)
 
 pub follow_rounds-returns-in-Ok-false-clause-body : goal.follow_rounds-returns-in-Ok-false-clause-body
 follow_rounds-returns-in-Ok-false-clause-body g t c =

@@ -1,31 +1,19 @@
-use Rattle.std.proofs.Common.{◌∷◌, [], subst}
-use Rattle.std.specs.Io.KnownBytes.{Appends}
-use Rattle.hesc_specs.specs.Text.Beginning.{AppendsBeginning}
-use Rattle.html_view.specs.Adding.{unrolling_of}
+use Rattle.std.proofs.Common.{◌∷◌, [], sym}
+use Rattle.html_view.specs.Rendered.{unrolled}
+use Rattle.html_view.specs.Stepped.{stepped}
 use Rattle.html_view.specs.Values.{datum_of}
-use Rattle.html_view.specs.Views.{nodes_in}
-use Rattle.html_view.proofs.DataPages.{made_page, writes_page}
+use Rattle.html_view.specs.Views.{nodes_in, unrolled_by}
+use Rattle.html_view.proofs.DataPages.{all_written, writes}
 use Rattle.html_view.proofs.view.View.append_to_writer.Goals as goal
 
-pub returns-in-Ok-write_page-clause-written : goal.returns-in-Ok-write_page-clause-written
-returns-in-Ok-write_page-clause-written g c = (
-  unrolling_of c.in-Ok.made,
-  c.in-Ok.ensures.told,
-  subst (λ x. Appends (g.W.Write.contents c.args.output.now) (g.W.Write.contents c.write_page.new.output) x)
-      (made_page c.in-Ok.made c.page.result.pieces.now c.page.result.texts.now c.page.ensures.pieces c.page.ensures.texts) c.in-Ok-write_page.ensures.all,
-)
-
-pub returns-in-Ok-write_page-clause-page : goal.returns-in-Ok-write_page-clause-page
-returns-in-Ok-write_page-clause-page g c =
-    writes_page (nodes_in c.args.self.now) (datum_of c.args.value ∷ []) (unrolling_of c.in-Ok.made) _ _ c.args.self.now.sound c.in-Ok.ensures.told
-    c.in-Ok.ensures.utf8
-    (subst (λ x. Appends (g.W.Write.contents c.args.output.now) (g.W.Write.contents c.write_page.new.output) x)
-    (made_page c.in-Ok.made c.page.result.pieces.now c.page.result.texts.now c.page.ensures.pieces c.page.ensures.texts) c.in-Ok-write_page.ensures.all)
-
 pub returns-clause-written : goal.returns-clause-written
-returns-clause-written g c = (
-  unrolling_of c.in-Ok.made,
-  c.in-Ok.ensures.told,
-  subst (λ x. AppendsBeginning (g.W.Write.contents c.args.output.now) (g.W.Write.contents c.write_page.new.output) x)
-      (made_page c.in-Ok.made c.page.result.pieces.now c.page.result.texts.now c.page.ensures.pieces c.page.ensures.texts) c.in-Err-write_page.ensures.began,
-)
+returns-clause-written g c =
+    let stack = datum_of c.args.value ∷ [] in
+    writes (unrolled (stepped c.args.self.now.steps.items) stack) (unrolled_by c.args.self.now (datum_of c.args.value)) _ _ c.write.result
+    (sym (c.args.self.now.same stack)) c.write.ensures.written
+
+pub returns-clause-page : goal.returns-clause-page
+returns-clause-page g c =
+    let stack = datum_of c.args.value ∷ [] in
+    all_written (nodes_in c.args.self.now) stack (unrolled (stepped c.args.self.now.steps.items) stack) _ _ c.write.result c.args.self.now.sound
+    (sym (c.args.self.now.same stack)) c.write.ensures.written c.write.ensures.utf8

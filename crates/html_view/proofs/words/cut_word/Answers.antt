@@ -2,7 +2,7 @@ use Rattle.std.proofs.Common.{arith}
 use Rattle.std.proofs.lemmas.Str.Pattern.{split_parts}
 use Rattle.html_view.specs.Names.{dot}
 use Rattle.html_view.proofs.CutNames.{none_cut, shorter_cut, some_cut}
-use Rattle.html_view.proofs.data.cut_word.Goals as goal
+use Rattle.html_view.proofs.words.cut_word.Goals as goal
 
 pub returns-clause-some : goal.returns-clause-some
 returns-clause-some c = some_cut c.args.words.now c.split_once.result (split_parts dot c.args.words.now c.split_once.result c.split_once.ensures.cases (omega arith))

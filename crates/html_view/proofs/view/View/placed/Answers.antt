@@ -1,13 +1,16 @@
+use Rattle.std.proofs.Common.{ap}
 use Rattle.html_view.specs.Following.{ways_of}
 use Rattle.html_view.specs.Kept.{asked_nodes, placed_nodes}
 use Rattle.html_view.specs.Nodes as node
+use Rattle.html_view.specs.Rendered.{unrolled}
 use Rattle.html_view.proofs.Views.{are_templates}
-use Rattle.html_view.proofs.view.View.new.Goals as goal
+use Rattle.html_view.proofs.view.View.placed.Goals as goal
 
 pub invariant_of-result : goal.invariant_of-result
 invariant_of-result g c = record {
   sound = are_templates (asked_nodes c.args.nodes.now.items) (placed_nodes c.in_ok-followed.followed.nodes.items) (ways_of c.in_ok-first.first)
       (ways_of c.in_ok-followed.followed.ways) c.in_ok-first.ensures c.in_ok-followed.ensures (c.in_ok-may_end.ensures c.if-not-branch.false);
+  same = λ stack. ap (λ n. unrolled n stack) c.in_ok-steps.ensures;
 }
 
 pub returns : goal.returns

@@ -1,0 +1,278 @@
+-- Where a way is refused, the parts of its unrolling are no template.
+use Rattle.std.proofs.Common.{ℕ, ◌≡◌, ◌+◌, Bool, true, false, List, [], ◌∷◌, ◌++◌, Result, Ok, Err, refl, sym, ap, ◌∙◌, subst, inl, ⊎_elim, append_assoc}
+use Rattle.std.specs.List.{list_any}
+use Rattle.std.proofs.lemmas.Bool.{cases_Bool, true≢false}
+use Rattle.html_template.specs.OpenUrls.{first_slot, url_markup}
+use Rattle.html_template.specs.TemplateFaults.{Walk, at_beginning, behind_markup, behind_slot, faulty_part, pieces_from, put, put_all, slot_at, template_of, told_behind, Told}
+use Rattle.html_template.specs.Templates.{Chunk, Given, GivenMarkup, GivenSlot, Markup, Slot, after_slot}
+use Rattle.html_template.specs.declared.faults.PartFault.{PartFault}
+use Rattle.html_template.specs.declared.faults.PartFault.TheVariants as fault
+use Rattle.html_template.specs.declared.faults.TemplateFault.{TemplateFault}
+use Rattle.html_template.specs.declared.faults.TemplateFault.TheVariants as template
+use Rattle.html_template.specs.declared.open_url.OpenUrl.{OpenUrl}
+use Rattle.html_template.specs.declared.open_url.OpenUrl.TheVariants.{Outside}
+use Rattle.html_template.specs.declared.open_url.PlacedSlot.{PlacedSlot}
+use Rattle.html_tokenizer.specs.Standing.{is_refused, may_end, standing}
+use Rattle.html_tokenizer.specs.Tokenizer.States.{Tokenizer}
+use Rattle.html_tokenizer.specs.Tokenizer.Tokenization.{state_after}
+use Rattle.html_tokenizer.specs.UrlValues.{after_last, begins_value, is_url}
+use Rattle.html_tokenizer.specs.declared.reader.Standing.{Standing}
+use Rattle.html_tokenizer.specs.declared.reader.Standing.TheVariants.{Stands, InUrl, InLink, Nowhere, Barred}
+use Rattle.html_tokenizer.specs.declared.slot_place.SlotPlace.{SlotPlace}
+use Rattle.html_tokenizer.proofs.Passing.{state_after-append}
+use Rattle.html_tokenizer.proofs.UrlValues.Following.{same_place}
+use Rattle.html_tokenizer.proofs.UrlValues.Slots.AtSlots.{AtUrl, in_url, no_url_tame, stands_in_url}
+use Rattle.html_tokenizer.proofs.UrlValues.Slots.Marks.{walks_back}
+use Rattle.html_view.specs.Reached.{AreRefused}
+use Rattle.html_view.specs.Ways.{Way, behind, first_way, let_go, on_ok, past_slot, settled, slot_in, way_behind, way_slot}
+use Rattle.html_view.proofs.Sound.{AtSlot, Holds, LetGo, Reads, opened_outside, reads_behind, reads_markup, reads_slot}
+use Rattle.html_view.proofs.Steps.{any_more, ended_more}
+
+-- ---- parts that were read
+
+-- the way is where these parts lead, and the markup behind them
+pub record ReadsParts (way : Way) (parts : List Given) (markup : List ℕ) : Type 0 where
+  pub number : ℕ
+  pub chunks : List Chunk
+  pub walk : Walk
+  pub told : (more : List Given) → template_of (parts ++ more) ≡ told_behind chunks number walk more
+  pub reads : Reads way walk.tokenizer walk.url markup
+
+pub reads_first : ReadsParts first_way [] []
+reads_first = record {
+  number = 0;
+  chunks = [];
+  walk = at_beginning;
+  told = λ more. refl;
+  reads = record { state = refl; kept = inl (record { same = refl; url_same = refl }) };
+}
+
+pub reads_more : (way next : Way) (parts : List Given) (markup bytes : List ℕ) → ReadsParts way parts markup → way_behind way bytes ≡ Ok next →
+    ReadsParts next parts (markup ++ bytes)
+reads_more way next parts markup bytes reads goes = record {
+  number = reads.number;
+  chunks = reads.chunks;
+  walk = reads.walk;
+  told = reads.told;
+  reads = reads_markup way next reads.walk.tokenizer reads.walk.url markup bytes reads.reads goes;
+}
+
+put_more : (chunks : List Chunk) (first second : Chunk) (told : Told) → put_all (chunks ++ first ∷ second ∷ []) told ≡ put_all chunks (put first (put second told))
+put_more [] first second told = refl
+put_more (chunk ∷ chunks) first second told = ap (put chunk) (put_more chunks first second told)
+
+slot_told : (walk : Walk) (number : ℕ) (markup : List ℕ) (slot : PlacedSlot) (more : List Given) (at : AtSlot walk.tokenizer walk.url markup slot) →
+    pieces_from number walk (GivenMarkup markup ∷ GivenSlot ∷ more)
+    ≡ put (Markup markup) (put (Slot slot.place slot.kind) (pieces_from (number + 1 + 1) (behind_slot (behind_markup walk markup at.opened) slot) more))
+slot_told walk number markup slot more at = rw (at.read, at.told, at.stands) refl
+
+pub reads_past : (way : Way) (slot : PlacedSlot) (parts : List Given) (markup : List ℕ) → ReadsParts way parts markup → way_slot way ≡ Ok slot →
+    ReadsParts (past_slot way slot) (parts ++ GivenMarkup markup ∷ GivenSlot ∷ []) []
+reads_past way slot parts markup reads stands =
+    let walk : Walk = reads.walk in
+    let at = reads_slot way walk.tokenizer walk.url markup slot reads.reads stands in
+    record {
+      number = reads.number + 1 + 1;
+      chunks = reads.chunks ++ Markup markup ∷ Slot slot.place slot.kind ∷ [];
+      walk = behind_slot (behind_markup walk markup at.opened) slot;
+      told = λ more.
+          ap template_of (append_assoc parts (GivenMarkup markup ∷ GivenSlot ∷ []) more)
+          ∙ reads.told (GivenMarkup markup ∷ GivenSlot ∷ more)
+          ∙ ap (put_all reads.chunks) (slot_told walk reads.number markup slot more at)
+          ∙ sym (put_more reads.chunks (Markup markup) (Slot slot.place slot.kind) _);
+      reads = record {
+        state = ap (after_slot slot.place slot.kind) reads.reads.state;
+        kept = inl (record { same = refl; url_same = refl });
+      };
+    }
+
+-- ---- parts that are refused
+
+put_refused : (chunks : List Chunk) (why : TemplateFault) → put_all chunks (Err why) ≡ Err why
+put_refused [] why = refl
+put_refused (chunk ∷ chunks) why = ap (put chunk) (put_refused chunks why)
+
+refused_told : (way : Way) (parts more : List Given) (markup : List ℕ) (why : TemplateFault) (reads : ReadsParts way parts markup) →
+    pieces_from reads.number reads.walk more ≡ Err why → template_of (parts ++ more) ≡ Err why
+refused_told way parts more markup why reads told =
+    reads.told more ∙ ap (put_all reads.chunks) told ∙ put_refused reads.chunks why
+
+-- what is refused of markup and a slot behind it
+record PartRefused (number : ℕ) (walk : Walk) (more : List Given) (why : PartFault) : Type 0 where
+  part : ℕ
+  told : pieces_from number walk more ≡ Err (template.Part part why)
+
+are_refused : (way : Way) (parts more : List Given) (markup : List ℕ) (why : PartFault) (reads : ReadsParts way parts markup) →
+    PartRefused reads.number reads.walk more why → AreRefused (parts ++ more) why
+are_refused way parts more markup why reads refused = (refused.part, refused_told way parts more markup (template.Part refused.part why) reads refused.told)
+
+-- ---- markup
+
+-- markup with a fault of its URL was not let go
+url_refused : (way : Way) (t : Tokenizer) (url : OpenUrl) (markup : List ℕ) (why : PartFault) → Reads way t url markup → url_markup way.url way.markup ≡ Err why →
+    url_markup url markup ≡ Err why
+url_refused way t url markup why reads told =
+    ⊎_elim
+    (λ (holds : Holds way url markup). sym (ap (λ u. url_markup u markup) holds.url_same) ∙ sym (ap (λ m. url_markup way.url m) holds.same) ∙ told)
+    (λ (gone : LetGo way t url markup).
+    let here : Ok Outside ≡ Err why = sym (ap (λ u. url_markup u way.markup) gone.outside) ∙ told in
+    absurd (cc))
+    reads.kept
+
+malformed : (number : ℕ) (walk : Walk) (markup : List ℕ) (more : List Given) → is_refused (state_after walk.tokenizer markup).state ≡ true →
+    PartRefused number walk (GivenMarkup markup ∷ more) fault.Malformed
+malformed number walk markup more refused = record { part = number; told = rw refused refl }
+
+of_url : (number : ℕ) (walk : Walk) (markup : List ℕ) (more : List Given) (why : PartFault) → is_refused (state_after walk.tokenizer markup).state ≡ false →
+    url_markup walk.url markup ≡ Err why → PartRefused number walk (GivenMarkup markup ∷ more) why
+of_url number walk markup more why read told = record { part = number; told = rw (read, told) refl }
+
+-- the fault of markup behind which no URL is open
+settled_refused : (way : Way) (number : ℕ) (walk : Walk) (markup : List ℕ) (why : PartFault) → Reads way walk.tokenizer walk.url markup →
+    is_refused (state_after walk.tokenizer markup).state ≡ false → (found : Result OpenUrl PartFault) → url_markup way.url way.markup ≡ found →
+    on_ok found (λ u. Ok (let_go way u)) ≡ Err why → PartRefused number walk (GivenMarkup markup ∷ []) why
+settled_refused way number walk markup why reads read (Ok url) is told = let here : Ok (let_go way url) ≡ Err why = told in absurd (cc)
+settled_refused way number walk markup why reads read (Err other) is told =
+    let same : other ≡ why = cc in
+    of_url number walk markup [] why read (url_refused way walk.tokenizer walk.url markup why reads (is ∙ ap Err same))
+
+markup_refused : (way : Way) (number : ℕ) (walk : Walk) (markup bytes : List ℕ) (why : PartFault) → Reads way walk.tokenizer walk.url markup →
+    way_behind way bytes ≡ Err why → PartRefused number walk (GivenMarkup (markup ++ bytes) ∷ []) why
+markup_refused way number walk markup bytes why reads told =
+    let next : Way = behind way bytes in
+    let next_reads = reads_behind way walk.tokenizer walk.url markup bytes reads in
+    ⊎_elim
+    (λ (refused : is_refused (state_after way.tokenizer bytes).state ≡ true).
+    let here : Err fault.Malformed ≡ Err why = rw refused at told in
+    let same : fault.Malformed ≡ why = cc in
+    subst (PartRefused number walk (GivenMarkup (markup ++ bytes) ∷ [])) same
+    (malformed number walk (markup ++ bytes) [] (sym (ap (λ (u : Tokenizer). is_refused u.state) next_reads.state) ∙ refused)))
+    (λ (read : is_refused (state_after way.tokenizer bytes).state ≡ false).
+    let settles : settled next ≡ Err why = rw read at told in
+    ⊎_elim
+    (λ (in_url : is_url next.tokenizer.attribute ≡ true). let here : Ok next ≡ Err why = rw in_url at settles in absurd (cc))
+    (λ (outside : is_url next.tokenizer.attribute ≡ false).
+    settled_refused next number walk (markup ++ bytes) why next_reads (sym (ap (λ (u : Tokenizer). is_refused u.state) next_reads.state) ∙ read)
+    (url_markup next.url next.markup) refl (rw outside at settles))
+    (cases_Bool (is_url next.tokenizer.attribute)))
+    (cases_Bool (is_refused (state_after way.tokenizer bytes).state))
+
+-- a way that is refused behind markup shows parts that are
+pub markup_shown : (way : Way) (parts : List Given) (markup bytes : List ℕ) (why : PartFault) → ReadsParts way parts markup → way_behind way bytes ≡ Err why →
+    AreRefused (parts ++ GivenMarkup (markup ++ bytes) ∷ []) why
+markup_shown way parts markup bytes why reads told =
+    are_refused way parts (GivenMarkup (markup ++ bytes) ∷ []) markup why reads (markup_refused way reads.number reads.walk markup bytes why reads.reads told)
+
+-- ---- slots
+
+-- a slot in a URL that was not open where markup was let go: the byte that begins its value is in what was kept
+is_marked : (p : SlotPlace) (way : Way) (t : Tokenizer) (url : OpenUrl) (markup : List ℕ) → way.tokenizer ≡ state_after t markup → LetGo way t url markup →
+    in_url p (standing way.tokenizer) ≡ true → list_any (begins_value p) way.markup ≡ true
+is_marked p way t url markup state gone stands =
+    let from : Tokenizer = state_after t gone.front in
+    let there : way.tokenizer ≡ state_after from way.markup = state ∙ ap (state_after t) gone.whole ∙ state_after-append t gone.front way.markup in
+    let at : AtUrl p (state_after from way.markup) =
+    subst (AtUrl p) there (stands_in_url p way.tokenizer stands) in
+    ⊎_elim
+    (λ (any : list_any (begins_value p) way.markup ≡ true). any)
+    (λ (none : list_any (begins_value p) way.markup ≡ false).
+    let open_before = walks_back p from way.markup (no_url_tame from gone.free) at.url at.at none in
+    absurd (true≢false (sym open_before.url ∙ gone.free)))
+    (cases_Bool (list_any (begins_value p) way.markup))
+
+last_same : (test : ℕ → Bool) (front markup : List ℕ) → list_any test markup ≡ true → after_last test (front ++ markup) ≡ after_last test markup
+last_same test [] markup any = refl
+last_same test (b ∷ front) markup any = rw (any_more test front markup any) (last_same test front markup any)
+
+slot_same : (way : Way) (t : Tokenizer) (url : OpenUrl) (markup : List ℕ) (s : Standing) → way.tokenizer ≡ state_after t markup → LetGo way t url markup →
+    standing way.tokenizer ≡ s → slot_at markup Outside s ≡ slot_at way.markup Outside s
+slot_same way t url markup (InUrl p) state gone is =
+    ap (λ m. first_slot p false (after_last (begins_value p) m)) gone.whole
+    ∙ ap (first_slot p false)
+    (last_same (begins_value p) gone.front way.markup (is_marked p way t url markup state gone (ap (in_url p) is ∙ same_place p)))
+slot_same way t url markup (InLink p) state gone is =
+    ap (λ m. first_slot p true (after_last (begins_value p) m)) gone.whole
+    ∙ ap (first_slot p true)
+    (last_same (begins_value p) gone.front way.markup (is_marked p way t url markup state gone (ap (in_url p) is ∙ same_place p)))
+slot_same way t url markup (Stands p) state gone is = refl
+slot_same way t url markup Barred state gone is = refl
+slot_same way t url markup Nowhere state gone is = refl
+
+-- of a slot behind markup, where the parts have it
+slot_part : (number : ℕ) (walk : Walk) (markup : List ℕ) (opened : OpenUrl) (why : PartFault) → is_refused (state_after walk.tokenizer markup).state ≡ false →
+    url_markup walk.url markup ≡ Ok opened → slot_at markup opened (standing (state_after walk.tokenizer markup)) ≡ Err why →
+    PartRefused number walk (GivenMarkup markup ∷ GivenSlot ∷ []) why
+slot_part number walk markup opened why read told refused =
+    record { part = faulty_part (number + 1) why; told = rw (read, told, refused) refl }
+
+placed_refused : (way : Way) (number : ℕ) (walk : Walk) (markup : List ℕ) (opened : OpenUrl) (why : PartFault) → Reads way walk.tokenizer walk.url markup →
+    is_refused (state_after walk.tokenizer markup).state ≡ false → url_markup way.url way.markup ≡ Ok opened → slot_in way opened ≡ Err why →
+    PartRefused number walk (GivenMarkup markup ∷ GivenSlot ∷ []) why
+placed_refused way number walk markup opened why reads read told refused =
+    ⊎_elim
+    (λ (holds : Holds way walk.url markup).
+    slot_part number walk markup opened why read
+    (sym (ap (λ u. url_markup u markup) holds.url_same) ∙ sym (ap (λ m. url_markup way.url m) holds.same) ∙ told)
+    (sym (ap (λ m. slot_at m opened (standing (state_after walk.tokenizer markup))) holds.same)
+    ∙ sym (ap (λ u. slot_at way.markup opened (standing u)) reads.state) ∙ refused))
+    (λ (gone : LetGo way walk.tokenizer walk.url markup).
+    let outside : opened ≡ Outside = opened_outside way opened gone.outside told in
+    slot_part number walk markup Outside why read
+    (ap (url_markup walk.url) gone.whole ∙ ended_more walk.url gone.front way.markup gone.ended)
+    (sym (ap (λ u. slot_at markup Outside (standing u)) reads.state)
+    ∙ slot_same way walk.tokenizer walk.url markup (standing way.tokenizer) reads.state gone refl
+    ∙ subst (λ u. slot_in way u ≡ Err why) outside refused))
+    reads.kept
+
+found_refused : (way : Way) (number : ℕ) (walk : Walk) (markup : List ℕ) (why : PartFault) → Reads way walk.tokenizer walk.url markup →
+    is_refused (state_after walk.tokenizer markup).state ≡ false → (found : Result OpenUrl PartFault) → url_markup way.url way.markup ≡ found →
+    on_ok found (slot_in way) ≡ Err why → PartRefused number walk (GivenMarkup markup ∷ GivenSlot ∷ []) why
+found_refused way number walk markup why reads read (Ok opened) is told = placed_refused way number walk markup opened why reads read is told
+found_refused way number walk markup why reads read (Err other) is told =
+    let same : other ≡ why = cc in
+    of_url number walk markup (GivenSlot ∷ []) why read (url_refused way walk.tokenizer walk.url markup why reads (is ∙ ap Err same))
+
+slot_refused : (way : Way) (number : ℕ) (walk : Walk) (markup : List ℕ) (why : PartFault) → Reads way walk.tokenizer walk.url markup → way_slot way ≡ Err why →
+    PartRefused number walk (GivenMarkup markup ∷ GivenSlot ∷ []) why
+slot_refused way number walk markup why reads told =
+    ⊎_elim
+    (λ (refused : is_refused way.tokenizer.state ≡ true).
+    let here : Err fault.Malformed ≡ Err why = rw refused at told in
+    let same : fault.Malformed ≡ why = cc in
+    subst (PartRefused number walk (GivenMarkup markup ∷ GivenSlot ∷ [])) same
+    (malformed number walk markup (GivenSlot ∷ []) (sym (ap (λ (u : Tokenizer). is_refused u.state) reads.state) ∙ refused)))
+    (λ (read : is_refused way.tokenizer.state ≡ false).
+    found_refused way number walk markup why reads (sym (ap (λ (u : Tokenizer). is_refused u.state) reads.state) ∙ read)
+    (url_markup way.url way.markup) refl (rw read at told))
+    (cases_Bool (is_refused way.tokenizer.state))
+
+pub slot_shown : (way : Way) (parts : List Given) (markup : List ℕ) (why : PartFault) → ReadsParts way parts markup → way_slot way ≡ Err why →
+    AreRefused (parts ++ GivenMarkup markup ∷ GivenSlot ∷ []) why
+slot_shown way parts markup why reads told =
+    are_refused way parts (GivenMarkup markup ∷ GivenSlot ∷ []) markup why reads (slot_refused way reads.number reads.walk markup why reads.reads told)
+
+-- ---- the end
+
+-- a page would end on this way within a tag, a reference or an element
+end_told : (number : ℕ) (walk : Walk) (markup : List ℕ) (opened : OpenUrl) → is_refused (state_after walk.tokenizer markup).state ≡ false →
+    url_markup walk.url markup ≡ Ok opened → may_end (state_after walk.tokenizer markup) ≡ false →
+    pieces_from number walk (GivenMarkup markup ∷ []) ≡ Err template.Unfinished
+end_told number walk markup opened read told may = rw (read, told, may) refl
+
+url_read : (way : Way) (t : Tokenizer) (url opened : OpenUrl) (markup : List ℕ) → Reads way t url markup → url_markup way.url way.markup ≡ Ok opened →
+    (found : OpenUrl) × (url_markup url markup ≡ Ok found)
+url_read way t url opened markup reads told =
+    ⊎_elim
+    (λ (holds : Holds way url markup).
+    (opened, sym (ap (λ u. url_markup u markup) holds.url_same) ∙ sym (ap (λ m. url_markup way.url m) holds.same) ∙ told))
+    (λ (gone : LetGo way t url markup). (Outside, ap (url_markup url) gone.whole ∙ ended_more url gone.front way.markup gone.ended))
+    reads.kept
+
+pub end_shown : (way : Way) (parts : List Given) (markup : List ℕ) (opened : OpenUrl) → ReadsParts way parts markup → is_refused way.tokenizer.state ≡ false →
+    may_end way.tokenizer ≡ false → url_markup way.url way.markup ≡ Ok opened → template_of (parts ++ GivenMarkup markup ∷ []) ≡ Err template.Unfinished
+end_shown way parts markup opened reads read may told =
+    let walk : Walk = reads.walk in
+    let found = url_read way walk.tokenizer walk.url opened markup reads.reads told in
+    refused_told way parts (GivenMarkup markup ∷ []) markup template.Unfinished reads
+    (end_told reads.number walk markup found.0 (sym (ap (λ (u : Tokenizer). is_refused u.state) reads.reads.state) ∙ read) found.1
+    (sym (ap may_end reads.reads.state) ∙ may))
