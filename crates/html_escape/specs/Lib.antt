@@ -6,3 +6,4 @@ pub mod Decoders
 pub mod Operations
 pub mod Held
 pub mod BodyEncoders
+pub mod Words

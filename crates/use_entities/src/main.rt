@@ -3,7 +3,7 @@
 
 ghost use Rattle.std.specs.Prelude.{◌≡◌, IfOk};
 ghost use Rattle.std.specs.Cow.{cow_str_bytes};
-ghost use Rattle.hesc_specs.specs.References.Decoding.{decoded};
+ghost use Rattle.html_escape.specs.Words.{decoded};
 ghost use Rattle.html_entities.specs.NamedReferences.{named_references};
 
 use html_entities::html_entities;

@@ -1,6 +1,6 @@
 -- A page that greets.
 use Rattle.std.specs.Prelude.{ℕ, List, ◌++◌, codes}
-use Rattle.html_escape.specs.Encoders.{encoded}
+use Rattle.html_escape.specs.Words.{encoded}
 use Rattle.html_escape.specs.declared.encoder.Encoder.TheVariants.{DoubleQuotedAttribute, Text}
 
 -- the name stands twice, each time encoded for its place

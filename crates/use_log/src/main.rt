@@ -2,7 +2,7 @@
 #![tactic(auto)]
 
 ghost use Rattle.std.specs.Prelude.{OnOk};
-ghost use Rattle.std.specs.Io.KnownBytes.{Appends};
+ghost use Rattle.html_escape.specs.Words.{Appends};
 ghost use Rattle.use_log.specs.Logs.{log_line};
 
 use html_escape::encode_text_to_writer;

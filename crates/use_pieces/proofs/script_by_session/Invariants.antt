@@ -2,7 +2,7 @@ use Rattle.std.proofs.Common.{take}
 use Rattle.std.specs.List.{flat_map}
 use Rattle.std.specs.String.{string_bytes}
 use Rattle.hesc_specs.specs.declared.elements.Element.TheVariants.{Script}
-use Rattle.html_escape.specs.BodyEncoders.{HasEncoded}
+use Rattle.html_escape.specs.Words.{HasEncoded}
 use Rattle.use_pieces.proofs.script_by_session.Given as goal
 
 abbrev pub invariant-loop-piece : goal.invariant-loop-piece

@@ -1,9 +1,8 @@
 -- A card with a title.
 use Rattle.std.specs.Prelude.{◌≡◌, ℕ, List, ◌++◌, Some, codes, drop, length}
-use Rattle.html_escape.specs.Encoders.{encoded}
+use Rattle.html_escape.specs.Words.{encoded}
 use Rattle.html_escape.specs.declared.encoder.Encoder.TheVariants.{DoubleQuotedAttribute, Text}
-use Rattle.hesc_places.specs.Places.Enclosed.{enclosed}
-use Rattle.hesc_grammars.specs.Places.{reading}
+use Rattle.hesc_places.specs.Words.{enclosed, reading}
 use Rattle.hesc_grammars.specs.declared.place.Place.TheVariants.{DoubleAttribute}
 
 -- the card, each of its two texts encoded for its place

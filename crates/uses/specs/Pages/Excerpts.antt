@@ -1,7 +1,7 @@
 -- An excerpt of a text.
 use Rattle.std.specs.Prelude.{◌≡◌, ◌≤◌, ◌<◌, ℕ, List, ◌++◌, codes, length, take}
 use Rattle.std.specs.Str.{IsCharBoundary}
-use Rattle.html_escape.specs.Encoders.{encoded}
+use Rattle.html_escape.specs.Words.{encoded}
 use Rattle.html_escape.specs.declared.encoder.Encoder.TheVariants.{Text}
 
 -- the longest beginning of the text that has so many bytes at most and ends between two characters, encoded, and `...` if more follows

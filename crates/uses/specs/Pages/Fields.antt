@@ -1,8 +1,6 @@
 -- A field with a note.
 use Rattle.std.specs.Prelude.{◌≡◌, ℕ, List, ◌++◌, Some, codes, drop, length}
-use Rattle.hesc_places.specs.Pages.AttributeReadings.{Entry}
-use Rattle.hesc_places.specs.Pages.FormReadings.{form_reading}
-use Rattle.hesc_places.specs.Pages.FormTexts.{form_back, form_text}
+use Rattle.hesc_places.specs.Words.{Entry, form_back, form_reading, form_text}
 
 -- the form of the attributes and the note, in a paragraph
 abbrev pub field_text : List Entry → List ℕ → List ℕ

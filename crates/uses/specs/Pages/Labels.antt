@@ -1,10 +1,9 @@
 -- A style with a label.
 use Rattle.std.specs.Prelude.{◌≡◌, ℕ, List, ◌++◌, Some, codes, drop, length}
-use Rattle.html_escape.specs.Encoders.{encoded}
+use Rattle.html_escape.specs.Words.{encoded}
 use Rattle.html_escape.specs.declared.encoder.Encoder.TheVariants.{StyleDoubleQuoted}
 use Rattle.hesc_specs.specs.Text.Nul.{nul}
-use Rattle.hesc_places.specs.Places.Enclosed.{enclosed}
-use Rattle.hesc_grammars.specs.Places.{reading}
+use Rattle.hesc_places.specs.Words.{enclosed, reading}
 use Rattle.hesc_grammars.specs.declared.place.Place.TheVariants.{StyleDouble}
 
 -- the style, with the label as a string of it

@@ -1,7 +1,7 @@
 -- A table of rows.
 use Rattle.std.specs.Prelude.{ℕ, List, ◌++◌, codes}
 use Rattle.std.specs.List.{flat_map}
-use Rattle.html_escape.specs.Encoders.{encoded}
+use Rattle.html_escape.specs.Words.{encoded}
 use Rattle.html_escape.specs.declared.encoder.Encoder.TheVariants.{DoubleQuotedAttribute, Text}
 use Rattle.uses.specs.declared.pages.rows.Row.{Row}
 

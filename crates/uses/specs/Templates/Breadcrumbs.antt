@@ -1,12 +1,12 @@
 -- The way to a page, as links.
 use Rattle.std.specs.Prelude.{ℕ, true, List, [], ◌∷◌, ◌++◌, codes}
-use Rattle.html_escape.specs.Encoders.{encoded}
+use Rattle.html_escape.specs.Words.{encoded}
 use Rattle.html_escape.specs.declared.encoder.Encoder.TheVariants as encoder
 use Rattle.html_template.specs.FilledUrls.{Parts, TemplateUrl}
-use Rattle.html_template.specs.Templates.{Chunk, Markup, Slot}
+use Rattle.html_template.specs.Words.{Chunk, Markup, Slot}
 use Rattle.html_template.specs.declared.parts.SlotKind.TheVariants.{Text, UrlPart}
 use Rattle.html_tokenizer.specs.declared.slot_place.SlotPlace.TheVariants as place
-use Rattle.html_urls.specs.Components.{component}
+use Rattle.html_urls.specs.Words.{component}
 use Rattle.html_urls.specs.Slots as url
 use Rattle.html_urls.specs.declared.place.UrlPlace.TheVariants.{Path}
 use Rattle.uses.specs.declared.templates.breadcrumbs.Crumb.{Crumb}

@@ -1,7 +1,6 @@
 -- A form, as a page.
 use Rattle.std.specs.Prelude.{ℕ, List, [], ◌∷◌, codes}
-use Rattle.html_template.specs.Structure.{IsPageOf}
-use Rattle.html_template.specs.Templates.{Given, GivenMarkup, GivenSlot}
+use Rattle.html_template.specs.Words.{Given, GivenMarkup, GivenSlot, IsPageOf}
 use Rattle.uses.specs.declared.templates.form_page.Draft.{Draft}
 
 -- a slot in the path of the form's address, in the values of two inputs, in the textarea, and in a string of the script

@@ -1,10 +1,9 @@
 -- A stranger's name, as a page.
 use Rattle.std.specs.Prelude.{◌≡◌, ◌⊎◌, ℕ, true, false, List, [], ◌∷◌, codes}
-use Rattle.html_template.specs.Structure.{IsPageOf}
-use Rattle.html_template.specs.Templates.{Chunk, Given, GivenMarkup, GivenSlot, Markup, Slot}
+use Rattle.html_template.specs.Words.{Chunk, Given, GivenMarkup, GivenSlot, IsPageOf, Markup, Slot}
 use Rattle.html_template.specs.declared.parts.SlotKind.TheVariants.{Link, Text}
 use Rattle.html_tokenizer.specs.declared.slot_place.SlotPlace.TheVariants as place
-use Rattle.html_urls.specs.Links.{is_link}
+use Rattle.html_urls.specs.Words.{is_link}
 use Rattle.uses.specs.declared.templates.home_page.Stranger.{Stranger}
 
 -- with a slot for the whole URL and one for the name

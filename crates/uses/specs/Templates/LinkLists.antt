@@ -1,8 +1,7 @@
 -- A list of links, as a page.
 use Rattle.std.specs.Prelude.{ℕ, List, [], ◌∷◌, ◌++◌, codes}
 use Rattle.std.specs.List.{flat_map}
-use Rattle.html_template.specs.Structure.{IsPageOf}
-use Rattle.html_template.specs.Templates.{Given, GivenMarkup, GivenSlot}
+use Rattle.html_template.specs.Words.{Given, GivenMarkup, GivenSlot, IsPageOf}
 use Rattle.uses.specs.declared.templates.link_list.Found.{Found}
 
 -- a row, with slots for the id and the query in its link, and for the name

@@ -1,6 +1,6 @@
 -- Mails as rows of a table.
 use Rattle.std.specs.Prelude.{ℕ, List, [], ◌∷◌, codes}
-use Rattle.html_template.specs.Templates.{Chunk, Given, GivenMarkup, GivenSlot, Markup, Slot}
+use Rattle.html_template.specs.Words.{Chunk, Given, GivenMarkup, GivenSlot, Markup, Slot}
 use Rattle.html_template.specs.declared.parts.SlotKind.TheVariants.{Text}
 use Rattle.html_tokenizer.specs.declared.slot_place.SlotPlace.TheVariants as place
 

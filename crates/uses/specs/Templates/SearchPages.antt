@@ -1,7 +1,6 @@
 -- The page of a search.
 use Rattle.std.specs.Prelude.{◌≡◌, ℕ, List, [], ◌∷◌, codes}
-use Rattle.html_template.specs.Structure.{IsPageOf, structure}
-use Rattle.html_template.specs.Templates.{Given, GivenMarkup, GivenSlot}
+use Rattle.html_template.specs.Words.{Given, GivenMarkup, GivenSlot, IsPageOf, structure}
 use Rattle.html_tokenizer.specs.Tokenizer.States.{data_state}
 use Rattle.html_tokenizer.specs.Tokenizer.Tokenization.{actions_of}
 

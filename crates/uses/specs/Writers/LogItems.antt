@@ -1,6 +1,6 @@
 -- An item of a log.
 use Rattle.std.specs.Prelude.{ℕ, List, ◌++◌, codes}
-use Rattle.html_escape.specs.Encoders.{encoded}
+use Rattle.html_escape.specs.Words.{encoded}
 use Rattle.html_escape.specs.declared.encoder.Encoder.TheVariants as encoder
 
 -- the item, byte by byte

@@ -2,9 +2,7 @@
 //! promise of forms on to its own callers, and what is read back of it.
 ghost use Rattle.std.specs.Prelude.{◌≡◌, IfOk, map};
 ghost use Rattle.std.specs.String.{string_bytes};
-ghost use Rattle.hesc_places.specs.Pages.AttributeReadings.{entry};
-ghost use Rattle.hesc_places.specs.Pages.FormReadings.{form_found};
-ghost use Rattle.hesc_places.specs.Pages.FormTexts.{form_back, written};
+ghost use Rattle.hesc_places.specs.Words.{entry, form_back, form_found, written};
 ghost use Rattle.uses.specs.Pages.Fields.{FieldComesBack, field_text};
 
 use hesc_places::{Attribute, Form, FormFault, append_form, laws, read_form};

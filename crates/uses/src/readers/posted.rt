@@ -2,8 +2,7 @@
 ghost use Rattle.std.specs.Prelude.{◌≡◌, IfOk};
 ghost use Rattle.std.specs.Option.{option_and_then, option_map};
 ghost use Rattle.std.specs.String.{string_bytes};
-ghost use Rattle.hesc_places.specs.Pages.FormReadings.{form_reading, value_of};
-ghost use Rattle.hesc_grammars.specs.Places.{reading};
+ghost use Rattle.hesc_places.specs.Words.{form_reading, reading, value_of};
 ghost use Rattle.hesc_grammars.specs.declared.place.Place.TheVariants.{DoubleAttribute};
 
 use hesc_places::{Place, read_form, read_place};

@@ -2,8 +2,7 @@
 //! the crate is proved, by computation, so that nothing is checked when it runs.
 ghost use Rattle.std.specs.Prelude.{◌≡◌, IfOk};
 ghost use Rattle.std.specs.Cow.{cow_str_bytes};
-ghost use Rattle.hesc_table.specs.Table.{rows_of};
-ghost use Rattle.hesc_specs.specs.References.Decoding.{decoded};
+ghost use Rattle.html_escape.specs.Words.{decoded, rows_of};
 ghost use Rattle.uses.specs.Readers.OwnRows.{own_rows};
 
 use html_escape::{EntityTable, decode_html_entities_with};

@@ -3,11 +3,10 @@
 ghost use Rattle.std.specs.Prelude.{◌≡◌, ◌↔◌, ◌++◌, ◌∷◌, [], IsErrOf, OnOk, codes};
 ghost use Rattle.std.specs.String.{string_bytes};
 ghost use Rattle.html_template.specs.FilledUrls.{piece_urls};
-ghost use Rattle.html_template.specs.PageUrls.{urls_of};
-ghost use Rattle.html_template.specs.TemplatePieces.{pieces_of};
+ghost use Rattle.html_template.specs.Words.{pieces_of, urls_of};
 ghost use Rattle.html_template.specs.declared.faults.FillFault.TheVariants.{Text};
 ghost use Rattle.html_template.specs.declared.faults.TextFault.TheVariants.{EmptySegment};
-ghost use Rattle.html_urls.specs.Components.{component};
+ghost use Rattle.html_urls.specs.Words.{component};
 ghost use Rattle.uses.specs.Templates.Breadcrumbs.{crumb_pieces, crumb_text, crumb_urls};
 
 use html_template::{FillFault, Part, Template, TemplateFault, laws};

@@ -2,12 +2,10 @@
 //! it is a link. Neither can change the page's structure, and the contract says so.
 ghost use Rattle.std.specs.Prelude.{◌≡◌, ◌↔◌, ◌∷◌, [], IfOk, IsErrOf, OnOk, false, map, true};
 ghost use Rattle.std.specs.String.{string_bytes};
-ghost use Rattle.html_template.specs.Structure.{IsPageOf};
-ghost use Rattle.html_template.specs.TemplatePieces.{pieces_of};
-ghost use Rattle.html_template.specs.Templates.{part_of};
+ghost use Rattle.html_template.specs.Words.{IsPageOf, part_of, pieces_of};
 ghost use Rattle.html_template.specs.declared.faults.FillFault.TheVariants.{Text};
 ghost use Rattle.html_template.specs.declared.faults.TextFault.TheVariants.{NotALink};
-ghost use Rattle.html_urls.specs.Links.{is_link};
+ghost use Rattle.html_urls.specs.Words.{is_link};
 ghost use Rattle.uses.specs.Templates.HomePages.{IsStranger, link_parts, link_pieces, name_parts};
 
 use html_template::{FillFault, Part, Template, TemplateFault, TextFault, laws};

@@ -2,8 +2,7 @@
 //! or name can change the list's structure, and the contract says so.
 ghost use Rattle.std.specs.Prelude.{◌≡◌, IfOk, map};
 ghost use Rattle.std.specs.String.{string_bytes};
-ghost use Rattle.html_template.specs.TemplatePieces.{pieces_of};
-ghost use Rattle.html_template.specs.Templates.{part_of};
+ghost use Rattle.html_template.specs.Words.{part_of, pieces_of};
 ghost use Rattle.uses.specs.Templates.LinkLists.{IsLinkList, link_parts};
 
 use html_template::{FillFault, Part, Template, TemplateFault, laws};

@@ -2,9 +2,8 @@
 //! table's structure, and the contract says so; it says, too, that no name is ever missing.
 ghost use Rattle.std.specs.Prelude.{◌≡◌, ◌∷◌, ◌++◌, [], ℕ, List, IfErr, OnOk, map};
 ghost use Rattle.std.specs.String.{string_bytes};
-ghost use Rattle.html_template.specs.Structure.{IsPageOf};
-ghost use Rattle.html_template.specs.Templates.{Given, part_of};
-ghost use Rattle.html_template_source.specs.NamedTemplates.{chunks_of, names_of};
+ghost use Rattle.html_template.specs.Words.{Given, IsPageOf, part_of};
+ghost use Rattle.html_template_source.specs.Words.{chunks_of, names_of};
 ghost use Rattle.html_template_source.specs.declared.faults.BindFault.TheVariants.{Memory};
 ghost use Rattle.uses.specs.Templates.MailRows.{row_names, row_parts, row_pieces};
 

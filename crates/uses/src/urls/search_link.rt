@@ -6,7 +6,7 @@ ghost use Rattle.form_urlencoded.specs.Form.{parse};
 ghost use Rattle.url.specs.Parser.{parse_url};
 ghost use Rattle.url.specs.Parts.{Parts};
 ghost use Rattle.html_urls.specs.Hosts.{IsWebBase};
-ghost use Rattle.html_urls.specs.Slots.{url_of};
+ghost use Rattle.html_urls.specs.Words.{url_of};
 ghost use Rattle.uses.specs.Urls.SearchLinks.{search_parts};
 
 use html_urls::{UrlPart, UrlTextFault, append_url, laws};

@@ -2,8 +2,7 @@
 ghost use Rattle.std.specs.Prelude.{IfSome, OnOk};
 ghost use Rattle.std.specs.String.{string_bytes};
 ghost use Rattle.json.specs.Json.{document};
-ghost use Rattle.html_view.specs.JsonData.{datum_of_json};
-ghost use Rattle.html_view.specs.Views.{AddsPage, unrolled_by};
+ghost use Rattle.html_view.specs.Words.{AddsPage, datum_of_json, unrolled_by};
 
 use html_view::{DataFault, Value, View};
 use json::Scratch;

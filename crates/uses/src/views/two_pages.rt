@@ -1,11 +1,10 @@
 //! A caller of views: the pages of two users. The contract says that no text of theirs changes the structure.
 ghost use Rattle.std.specs.Prelude.{◌≡◌, [], OnOk};
 ghost use Rattle.std.specs.String.{string_bytes};
-ghost use Rattle.html_template.specs.Structure.{structure};
+ghost use Rattle.html_template.specs.Words.{structure};
 ghost use Rattle.html_tokenizer.specs.Tokenizer.States.{data_state};
 ghost use Rattle.html_tokenizer.specs.Tokenizer.Tokenization.{actions_of};
-ghost use Rattle.html_view.specs.Forms.{SameForm};
-ghost use Rattle.html_view.specs.Values.{datum_of};
+ghost use Rattle.html_view.specs.Words.{SameForm, datum_of};
 
 use html_view::{DataFault, Value, View, laws};
 

@@ -1,10 +1,8 @@
 //! A caller of templates: an item of a log, written to any writer without making it in memory. The
 //! contract says what went out, on a fault too.
 ghost use Rattle.std.specs.Prelude.{◌≡◌, ◌∷◌, [], ℕ, List, OnErr, OnOk};
-ghost use Rattle.std.specs.Io.KnownBytes.{Appends};
-ghost use Rattle.hesc_specs.specs.Text.Beginning.{AppendsBeginning};
-ghost use Rattle.html_template.specs.TemplatePieces.{pieces_of};
-ghost use Rattle.html_template.specs.Templates.{page};
+ghost use Rattle.html_escape.specs.Words.{Appends, AppendsBeginning};
+ghost use Rattle.html_template.specs.Words.{page, pieces_of};
 ghost use Rattle.uses.specs.Writers.LogItems.{item_text};
 
 use html_template::{FillFault, Part, Template, TemplateFault, WriteFault};

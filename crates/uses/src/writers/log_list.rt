@@ -1,6 +1,6 @@
 //! A caller: a log that is read in a browser, written to any writer. The contract says what went out,
 //! on a fault too.
-ghost use Rattle.hesc_engine.specs.Forms.{WritesText};
+ghost use Rattle.html_escape.specs.Words.{WritesText};
 ghost use Rattle.uses.specs.Writers.Logs.{list_text};
 
 use html_escape::Encoder;

@@ -1,6 +1,6 @@
 use Rattle.std.proofs.Common.{take}
 use Rattle.std.specs.String.{string_bytes}
-use Rattle.html_template.specs.Structure.{IsPageOf}
+use Rattle.html_template.specs.Words.{IsPageOf}
 use Rattle.uses.specs.Templates.LinkLists.{link_texts, links}
 use Rattle.uses.proofs.templates.link_list.LinkList.page.Given as goal
 
