@@ -1,10 +1,11 @@
 -- How a fault ends the program: its status, and the line that tells it.
-use Rattle.std.specs.Prelude.{◌++◌, ℕ, List, [], codes, decimal}
+use Rattle.std.specs.Prelude.{◌++◌, ◌==◌, ℕ, List, [], ◌∷◌, codes, decimal, if◌then◌else◌, length, reverse}
 use Rattle.html_template.specs.declared.faults.PartFault.{PartFault}
 use Rattle.html_template.specs.declared.faults.PartFault.TheVariants as part
 use Rattle.html_template.specs.declared.faults.TextFault.TheVariants as text
 use Rattle.html_view.specs.declared.faults.DataFault.{DataFault}
 use Rattle.html_view.specs.declared.faults.DataFault.TheVariants as of_data
+use Rattle.html_view.specs.declared.faults.Position.{Position}
 use Rattle.html_view.specs.declared.faults.TagFault.{TagFault}
 use Rattle.html_view.specs.declared.faults.TagFault.TheVariants as tag
 use Rattle.html_view.specs.declared.faults.ValueFault.{ValueFault}
@@ -18,6 +19,8 @@ use Rattle.hesc_views.specs.declared.faults.Fault.{Fault}
 use Rattle.hesc_views.specs.declared.faults.Fault.TheVariants.{Usage, UnreadableFile, FileNotUtf8, At, Unfinished, UnreadableInput, InputNotUtf8, NotJson, RepeatedKey, Memory, Write}
 use Rattle.hesc_views.specs.declared.faults.Refusal.{Refusal}
 use Rattle.hesc_views.specs.declared.faults.Refusal.TheVariants.{Tag, Part, Ambiguous, TooManyWays, Value}
+use Rattle.hesc_views.specs.declared.faults.Standing.{Standing}
+use Rattle.hesc_views.specs.declared.faults.Standing.TheVariants.{None, One, Behind}
 use Rattle.hesc_views.specs.declared.place.Spot.{Spot}
 
 -- the program's status
@@ -57,7 +60,7 @@ wrong_value (value.Unfit text.NotALink) = codes "the text is no link; its scheme
 
 abbrev pub wrong_here : Refusal → List ℕ
 wrong_here (Tag why) = wrong_tag why
-wrong_here (Part why) = wrong_part why
+wrong_here (Part why standing) = wrong_part why
 wrong_here (Value why) = wrong_value why
 wrong_here Ambiguous = codes "this slot stands in two places; write one slot for each"
 wrong_here TooManyWays = codes "too many sections stand within one tag; let each hold whole attributes or whole tags"
@@ -66,7 +69,7 @@ abbrev pub what_is_wrong : Fault → List ℕ
 what_is_wrong Usage = codes "usage: hesc COMMAND [ARGUMENT..]"
 what_is_wrong (UnreadableFile file) = codes "cannot be read"
 what_is_wrong (FileNotUtf8 file) = codes "is not UTF-8"
-what_is_wrong Unfinished = codes "ends within a tag, a comment, a reference or an element"
+what_is_wrong (Unfinished standing) = codes "ends within a tag, a comment, a reference or an element"
 what_is_wrong UnreadableInput = codes "input cannot be read"
 what_is_wrong InputNotUtf8 = codes "input is not UTF-8"
 what_is_wrong NotJson = codes "input is not JSON"
@@ -85,23 +88,56 @@ abbrev pub front_of : List (List ℕ) → Fault → List ℕ
 front_of paths Usage = []
 front_of paths (UnreadableFile file) = codes "hesc: " ++ (text_at paths file ++ codes ": ")
 front_of paths (FileNotUtf8 file) = codes "hesc: " ++ (text_at paths file ++ codes ": ")
-front_of paths Unfinished = codes "hesc: " ++ (text_at paths 0 ++ codes ": ")
+front_of paths (Unfinished standing) = codes "hesc: " ++ (text_at paths 0 ++ codes ": ")
 front_of paths (At spot why) = codes "hesc: " ++ (text_at paths spot.file ++ (spot_text spot ++ codes ": "))
 front_of paths other = codes "hesc: "
 
+-- ---- which sections stand
+
+-- by the fault
+abbrev pub standing_in : Fault → Standing
+standing_in (At spot (Part why standing)) = standing
+standing_in (Unfinished standing) = standing
+standing_in other = None
+
+abbrev pub place_text : List (List ℕ) → Spot → List ℕ
+place_text paths spot = text_at paths spot.file ++ spot_text spot
+
+abbrev pub count_text : ℕ → List ℕ
+count_text before = if before == 0 then [] else codes ", and " ++ (decimal before ++ codes " before them")
+
+abbrev pub two_text : List (List ℕ) → Spot → Spot → List ℕ
+two_text paths first last = place_text paths first ++ (codes " and " ++ (place_text paths last ++ codes " stand"))
+
+abbrev pub sections_text : List (List ℕ) → Standing → List ℕ
+sections_text paths None = []
+sections_text paths (One section) = codes " (if the section at " ++ (place_text paths section ++ codes " stands)")
+sections_text paths (Behind before first last) =
+    codes " (if the sections at " ++ (two_text paths first last ++ (count_text before ++ codes ")"))
+
 -- the line on standard error, without its line feed
 abbrev pub line_text : List (List ℕ) → Fault → List ℕ
-line_text paths fault = front_of paths fault ++ what_is_wrong fault
+line_text paths fault = front_of paths fault ++ (what_is_wrong fault ++ sections_text paths (standing_in fault))
 
 -- ---- faults of what stands below
 
-abbrev pub view_fault : List (List ℕ) → ViewFault → Fault
-view_fault texts (of_view.Tag position why) = At (spot_at texts position) (Tag why)
-view_fault texts (of_view.Part position why) = At (spot_at texts position) (Part why)
-view_fault texts (of_view.Ambiguous position) = At (spot_at texts position) Ambiguous
-view_fault texts (of_view.TooManyWays position) = At (spot_at texts position) TooManyWays
-view_fault texts of_view.Unfinished = Unfinished
-view_fault texts of_view.Memory = Memory
+-- sections, from the last one to the first
+abbrev pub standing_back : List (List ℕ) → List Position → Standing
+standing_back texts [] = None
+standing_back texts (one ∷ []) = One (spot_at texts one)
+standing_back texts (last ∷ first ∷ before) = Behind (length before) (spot_at texts first) (spot_at texts last)
+
+abbrev pub standing_at : List (List ℕ) → List Position → Standing
+standing_at texts sections = standing_back texts (reverse sections)
+
+-- with these sections standing
+abbrev pub view_fault : List (List ℕ) → List Position → ViewFault → Fault
+view_fault texts sections (of_view.Tag position why) = At (spot_at texts position) (Tag why)
+view_fault texts sections (of_view.Part position why) = At (spot_at texts position) (Part why (standing_at texts sections))
+view_fault texts sections (of_view.Ambiguous position) = At (spot_at texts position) Ambiguous
+view_fault texts sections (of_view.TooManyWays position) = At (spot_at texts position) TooManyWays
+view_fault texts sections of_view.Unfinished = Unfinished (standing_at texts sections)
+view_fault texts sections of_view.Memory = Memory
 
 abbrev pub data_fault : List (List ℕ) → DataFault → Fault
 data_fault texts (of_data.Value position why) = At (spot_at texts position) (Value why)

@@ -1,12 +1,18 @@
 //! What can stand in place of a page, or of what a view has.
 ghost use Rattle.std.specs.Prelude.{◌≡◌};
-ghost use Rattle.hesc_views.specs.Faults.{data_fault, json_fault, status_of, view_fault};
+ghost use Rattle.hesc_views.specs.Faults.{
+  data_fault,
+  json_fault,
+  standing_at,
+  status_of,
+  view_fault,
+};
 ghost use Rattle.hesc_views.specs.Places.{texts_in};
 
 use crate::place::{Spot, Texts, spot_of};
 use html_template::PartFault;
-use html_view::{DataFault, TagFault, ValueFault, ViewFault};
-use std::alloc::AllocError;
+use html_view::{DataFault, Position, Refused, TagFault, ValueFault, ViewFault};
+use std::alloc::{AllocError, Allocator};
 
 /// Why a run did not write its text. Files are counted from 0, the view being the first.
 #[derive(Clone, Copy, Debug, PartialEq, Eq)]
@@ -19,8 +25,9 @@ pub enum Fault {
     FileNotUtf8(usize),
     /// What stands here is refused.
     At(Spot, Refusal),
-    /// The view may end within a tag, a reference, or an element whose content is read its own way.
-    Unfinished,
+    /// The view may end within a tag, a reference, or an element whose content is read its own way, with
+    /// these sections standing.
+    Unfinished(Standing),
     /// The input cannot be read.
     UnreadableInput,
     /// The input is not UTF-8.
@@ -39,13 +46,35 @@ pub enum Fault {
 #[derive(Clone, Copy, Debug, PartialEq, Eq)]
 pub enum Refusal {
     Tag(TagFault),
-    Part(PartFault),
+    /// With these sections standing.
+    Part(PartFault, Standing),
     /// The slot stands in two places.
     Ambiguous,
     /// More than eight states of the tokenizer lead here.
     TooManyWays,
     /// The value for it.
     Value(ValueFault),
+}
+
+/// Which sections stand where a view is refused: none, one, or the last two behind so many others.
+#[derive(Clone, Copy, Debug, PartialEq, Eq)]
+pub enum Standing {
+    None,
+    One(Spot),
+    Behind(usize, Spot, Spot),
+}
+
+// These sections of the texts, by the positions of their tags.
+fn standing_of(texts: Texts<'_>, sections: &[Position]) -> Standing
+    ensures { result ≡ standing_at (texts_in texts.entry) sections.now }
+{
+    match sections {
+        [] => Standing::None,
+        [one] => Standing::One(spot_of(texts, *one)),
+        [before @ .., first, last] => {
+            Standing::Behind(before.len(), spot_of(texts, *first), spot_of(texts, *last))
+        }
+    }
 }
 
 impl Fault {
@@ -58,7 +87,7 @@ impl Fault {
         match self {
             Fault::Usage => 2,
             Fault::UnreadableFile(_) | Fault::FileNotUtf8(_) => 1,
-            Fault::At(_, _) | Fault::Unfinished => 1,
+            Fault::At(_, _) | Fault::Unfinished(_) => 1,
             Fault::UnreadableInput | Fault::InputNotUtf8 => 1,
             Fault::NotJson | Fault::RepeatedKey => 1,
             Fault::Memory | Fault::Write => 1,
@@ -66,15 +95,17 @@ impl Fault {
     }
 
     /// The fault of these texts, the view being the first, that are no view.
-    pub(crate) fn of_view(texts: Texts<'_>, fault: ViewFault) -> Fault
-        ensures { result ≡ view_fault (texts_in texts.entry) fault }
+    pub(crate) fn of_view<A: Allocator>(texts: Texts<'_>, refused: &Refused<A>) -> Fault
+        ensures { result ≡ view_fault (texts_in texts.entry) refused.now.standing.items
+            refused.now.fault }
     {
-        match fault {
+        let standing = standing_of(texts, refused.standing.as_slice());
+        match refused.fault {
             ViewFault::Tag(position, why) => {
                 Fault::At(spot_of(texts, position), Refusal::Tag(why))
             }
             ViewFault::Part(position, why) => {
-                Fault::At(spot_of(texts, position), Refusal::Part(why))
+                Fault::At(spot_of(texts, position), Refusal::Part(why, standing))
             }
             ViewFault::Ambiguous(position) => {
                 Fault::At(spot_of(texts, position), Refusal::Ambiguous)
@@ -82,7 +113,7 @@ impl Fault {
             ViewFault::TooManyWays(position) => {
                 Fault::At(spot_of(texts, position), Refusal::TooManyWays)
             }
-            ViewFault::Unfinished => Fault::Unfinished,
+            ViewFault::Unfinished => Fault::Unfinished(standing),
             ViewFault::Memory => Fault::Memory,
         }
     }

@@ -17,7 +17,7 @@ mod steps;
 mod words;
 
 pub use crate::check::append_nodes;
-pub use crate::faults::{Fault, Refusal};
+pub use crate::faults::{Fault, Refusal, Standing};
 pub use crate::lines::line_of;
 pub use crate::names::partial_name;
 pub use crate::place::{Spot, Texts, spot_of};

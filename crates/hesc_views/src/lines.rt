@@ -1,16 +1,21 @@
 //! The line of each fault: what is wrong, and where.
 ghost use Rattle.std.specs.Prelude.{◌≡◌, ◌++◌, map, string_bytes, IfOk, OnOk};
 ghost use Rattle.hesc_views.specs.Faults.{
+  count_text,
   front_of,
   line_text,
+  place_text,
+  sections_text,
+  standing_in,
+  two_text,
   what_is_wrong,
   wrong_part,
   wrong_tag,
   wrong_value,
 };
 
-use crate::faults::{Fault, Refusal};
-use crate::place::at;
+use crate::faults::{Fault, Refusal, Standing};
+use crate::place::{Spot, at};
 use html_template::{PartFault, TextFault};
 use html_view::{TagFault, ValueFault};
 use std::alloc::{AllocError, Allocator};
@@ -31,7 +36,84 @@ pub fn line_of<A: Allocator>(
     let mut line = String::new(alloc);
     append_front(&mut line, paths, fault)?;
     line.push_str(what_is_wrong(fault))?;
+    append_sections(&mut line, paths, standing_in(fault))?;
     Ok(line)
+}
+
+// The sections that stand where the fault shows.
+fn standing_in(fault: Fault) -> Standing
+    ensures { result ≡ standing_in fault }
+{
+    match fault {
+        Fault::At(_, Refusal::Part(_, standing)) => standing,
+        Fault::Unfinished(standing) => standing,
+        _ => Standing::None,
+    }
+}
+
+// Appends which sections stand there.
+fn append_sections<A: Allocator>(
+    line: &mut String<A>,
+    paths: &[&str],
+    standing: Standing,
+) -> Result<(), AllocError>
+    ensures { OnOk result (string_bytes line.new ≡ string_bytes line.old
+        ++ sections_text (map (λ path. path.now) paths.now) standing) }
+{
+    match standing {
+        Standing::None => Ok(()),
+        Standing::One(section) => {
+            line.push_str(" (if the section at ")?;
+            append_spot(line, paths, section)?;
+            line.push_str(" stands)")
+        }
+        Standing::Behind(before, first, last) => {
+            line.push_str(" (if the sections at ")?;
+            append_two(line, paths, first, last)?;
+            append_count(line, before)?;
+            line.push_str(")")
+        }
+    }
+}
+
+// Appends where two sections are.
+fn append_two<A: Allocator>(
+    line: &mut String<A>,
+    paths: &[&str],
+    first: Spot,
+    last: Spot,
+) -> Result<(), AllocError>
+    ensures { OnOk result (string_bytes line.new ≡ string_bytes line.old
+        ++ two_text (map (λ path. path.now) paths.now) first last) }
+{
+    append_spot(line, paths, first)?;
+    line.push_str(" and ")?;
+    append_spot(line, paths, last)?;
+    line.push_str(" stand")
+}
+
+// Appends how many sections more stand.
+fn append_count<A: Allocator>(line: &mut String<A>, before: usize) -> Result<(), AllocError>
+    ensures { OnOk result (string_bytes line.new ≡ string_bytes line.old ++ count_text before) }
+{
+    if before == 0 {
+        return Ok(());
+    }
+    write!(line, ", and {before} before them")
+}
+
+fn append_spot<A: Allocator>(
+    line: &mut String<A>,
+    paths: &[&str],
+    spot: Spot,
+) -> Result<(), AllocError>
+    ensures { OnOk result (string_bytes line.new ≡ string_bytes line.old
+        ++ place_text (map (λ path. path.now) paths.now) spot) }
+{
+    let path = at(paths, spot.file);
+    let row = spot.line;
+    let column = spot.column;
+    write!(line, "{path}:{row}:{column}")
 }
 
 // Appends who tells it, and the file and the place in it, where the fault is of one.
@@ -49,7 +131,7 @@ fn append_front<A: Allocator>(
             let path = at(paths, file);
             write!(line, "hesc: {path}: ")
         }
-        Fault::Unfinished => {
+        Fault::Unfinished(_) => {
             let path = at(paths, 0);
             write!(line, "hesc: {path}: ")
         }
@@ -74,7 +156,7 @@ fn what_is_wrong(fault: Fault) -> &'static str
         Fault::UnreadableFile(_) => "cannot be read",
         Fault::FileNotUtf8(_) => "is not UTF-8",
         Fault::At(_, Refusal::Tag(why)) => wrong_tag(why),
-        Fault::At(_, Refusal::Part(why)) => wrong_part(why),
+        Fault::At(_, Refusal::Part(why, _)) => wrong_part(why),
         Fault::At(_, Refusal::Value(why)) => wrong_value(why),
         Fault::At(_, Refusal::Ambiguous) => {
             "this slot stands in two places; write one slot for each"
@@ -82,7 +164,7 @@ fn what_is_wrong(fault: Fault) -> &'static str
         Fault::At(_, Refusal::TooManyWays) => {
             "too many sections stand within one tag; let each hold whole attributes or whole tags"
         }
-        Fault::Unfinished => "ends within a tag, a comment, a reference or an element",
+        Fault::Unfinished(_) => "ends within a tag, a comment, a reference or an element",
         Fault::UnreadableInput => "input cannot be read",
         Fault::InputNotUtf8 => "input is not UTF-8",
         Fault::NotJson => "input is not JSON",

@@ -101,7 +101,8 @@ fn answer_of<A: Allocator + Copy, R: Read>(
         Command::Render => {
             let input = read_input(alloc, input)?;
             let data = text_of(&input)?;
-            page_of(alloc, heap, &view, texts, data)
+            let page = page_of(alloc, heap, &view, texts, data)?;
+            Ok(page)
         }
     }
 }
@@ -119,7 +120,7 @@ fn view_of<'t, A: Allocator + Copy>(
     let partials = named(alloc, paths, texts.partials)?;
     match View::parse(alloc, texts.view, partials.as_slice()) {
         Ok(view) => Ok(view),
-        Err(fault) => Err(Fault::of_view(texts, fault)),
+        Err(refused) => Err(Fault::of_view(texts, &refused)),
     }
 }
 

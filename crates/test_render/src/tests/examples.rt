@@ -2,8 +2,8 @@
 use crate::tests::rows::{Success, success};
 use crate::tests::serving::{args_of, is_right};
 use hesc_views::{
-    Command, Fault, Refusal, Spot, Texts, append_nodes, are_for_views, call_of, line_of, page_of,
-    partial_name, spot_of,
+    Command, Fault, Refusal, Spot, Standing, Texts, append_nodes, are_for_views, call_of, line_of,
+    page_of, partial_name, spot_of,
 };
 use html_template::PartFault;
 use html_view::{Position, View};
@@ -104,7 +104,7 @@ fn functions_answer_as_they_are_said_to(rt: HostRuntime) -> Result<(), Fail> {
         line: 3,
         column: 14,
     };
-    let fault = Fault::At(spot, Refusal::Part(PartFault::NoPlace));
+    let fault = Fault::At(spot, Refusal::Part(PartFault::NoPlace, Standing::None));
     let line = line_of(rt.alloc(), &["page.html"], fault)?;
     assert!(rt; line.as_str() == "hesc: page.html:3:14: no text may stand here");
     Ok(())

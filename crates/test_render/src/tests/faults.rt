@@ -25,7 +25,7 @@ pub fn refusal(row: Refusal) -> Row {
     }
 }
 
-pub static REFUSALS: [Refusal; 43] = [
+pub static REFUSALS: [Refusal; 46] = [
     (&[], &[], b"", 2, "usage: hesc COMMAND [ARGUMENT..]\n"),
     (
         &["render"],
@@ -219,7 +219,34 @@ pub static REFUSALS: [Refusal; 43] = [
         &[("a/v.html", b"{{?a}}<p{{/a}}")],
         b"",
         1,
-        "hesc: a/v.html: ends within a tag, a comment, a reference or an element\n",
+        "hesc: a/v.html: ends within a tag, a comment, a reference or an element (if the section at a/v.html:1:1 stands)\n",
+    ),
+    (
+        &["check", "v"],
+        &[("v", b"{{?y}}b{{/y}}\n{{?x}}<p {{/x}}{{a}}")],
+        b"",
+        1,
+        "hesc: v:2:16: no text may stand here (if the section at v:2:1 stands)\n",
+    ),
+    (
+        &["check", "v", "p/row.html"],
+        &[
+            ("v", b"{{#l}}{{>row}}{{/l}}"),
+            ("p/row.html", b"{{?x}}\n<p {{/x}}{{a}}"),
+        ],
+        b"",
+        1,
+        "hesc: p/row.html:2:10: no text may stand here (if the sections at v:1:1 and p/row.html:1:1 stand)\n",
+    ),
+    (
+        &["check", "v"],
+        &[(
+            "v",
+            b"{{#a}}{{#b}}{{#c}}{{?d}}<p {{e}}{{/d}}{{/c}}{{/b}}{{/a}}",
+        )],
+        b"",
+        1,
+        "hesc: v:1:28: no text may stand here (if the sections at v:1:13 and v:1:19 stand, and 2 before them)\n",
     ),
     // The input.
     (
