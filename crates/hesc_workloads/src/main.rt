@@ -13,6 +13,7 @@ mod pieces;
 mod readings;
 mod templates;
 mod texts;
+mod views;
 mod words;
 
 use crate::digest::Digest;
@@ -20,13 +21,14 @@ use crate::numbers::Numbers;
 use std::alloc::{AllocError, Global};
 use std::{env, io};
 
-static JOBS: [&str; 6] = [
+static JOBS: [&str; 7] = [
     "pages",
     "read-back",
     "templates",
     "feeds",
     "pieces",
     "documents",
+    "views",
 ];
 
 fn main(rt: HostRuntime) -> io::Result<()> {
@@ -73,6 +75,7 @@ fn do_job(alloc: Global, job: &str, seed: u64, rounds: usize) -> Result<u64, All
         "feeds" => feeds::decode_feeds(alloc, &mut numbers, rounds, &mut digest)?,
         "pieces" => pieces::encode_bodies(alloc, &mut numbers, rounds, &mut digest)?,
         "documents" => documents::change_documents(alloc, &mut numbers, rounds, &mut digest)?,
+        "views" => views::render_views(alloc, &mut numbers, rounds, &mut digest)?,
         _ => digest.add_number(0),
     }
     Ok(digest.value())
