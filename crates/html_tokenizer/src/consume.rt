@@ -110,9 +110,9 @@ pub(crate) fn text_or_value_byte(
     }
 }
 
-/// What the tokenizer does where the name of a tag or an attribute may begin.
-#[inline]
-pub(crate) fn first_byte(phase: Phase, content: Content, word: &[u8], byte: u8) -> Move
+// What the tokenizer does where the name of a tag or an attribute may begin.
+#[inline(always)]
+fn first_byte(phase: Phase, content: Content, word: &[u8], byte: u8) -> Move
     requires { IsBeforeName phase }
     ensures { (kind : Kind) → moved result word.now
         ≡ (byte_in (state_of phase word.now) content (attribute_in kind word.now) byte).next }

@@ -17,13 +17,13 @@ ghost use Rattle.html_tokenizer.specs.declared.states.Phase.TheVariants as phase
 
 use crate::code::escapes::is_opaque;
 use crate::code::strings::script_escape_byte;
-use crate::consume::{byte_in, first_byte, name_byte, text_or_value_byte};
+use crate::consume::{byte_in, name_byte, text_or_value_byte};
 use crate::elements::{Content, OpenElement};
 use crate::reader::names::{MOST_LETTERS, begun_name, read_letters};
 use crate::reader::same::{holds_word, is_same_content, is_same_kind, is_same_phase};
 use crate::reader::stretches::{script_words, stretch, text_stretch};
 use crate::slot_place::SlotPlace;
-use crate::states::{Code, Kind, Move, Phase, Word, goes, refuses};
+use crate::states::{Code, Kind, Move, Phase, Word, goes, refuses, to};
 use std::alloc::{AllocError, Allocator};
 
 /// Where a slot stands.
@@ -199,6 +199,21 @@ impl<A: Allocator> Reader<A> {
         Ok(())
     }
 
+    // Reads over the `/` of an end tag, if it comes now.
+    #[inline(always)]
+    fn read_slash(&mut self, bytes: &[u8], done: &mut usize) -> Result<(), AllocError>
+        requires { done.old ≤ length bytes.now }
+        ensures { OnOk result (ReadsOn (tokenizer_of self.old) (tokenizer_of self.new)
+            bytes.now done.old done.new) }
+    {
+        if !is_same(self.phase, Phase::TagOpen) || *done == bytes.len() || bytes[*done] != b'/' {
+            return Ok(());
+        }
+        self.go(to(Phase::EndTagOpen, self.content))?;
+        *done += 1;
+        Ok(())
+    }
+
     // Reads over the next byte in this state, if it is the state, and over the name that begins there
     // and its end.
     #[inline(always)]
@@ -211,10 +226,10 @@ impl<A: Allocator> Reader<A> {
         if !is_same(self.phase, phase) || *done == bytes.len() {
             return Ok(());
         }
-        let first = first_byte(phase, self.content, &self.word, bytes[*done]);
+        let byte = bytes[*done];
         *done += 1;
-        let Some((name, letter)) = begun_name(first) else {
-            self.go(first)?;
+        let Some((name, letter)) = begun_name(phase, self.content, byte) else {
+            self.step(byte)?;
             return Ok(());
         };
         let mut letters = [0; MOST_LETTERS];
@@ -223,10 +238,10 @@ impl<A: Allocator> Reader<A> {
         *done += count;
         let word = &letters[..1 + count];
         if *done == bytes.len() {
-            self.go_from(word, goes(name, first.content, Word::Keep))?;
+            self.go_from(word, goes(name, self.content, Word::Keep))?;
             return Ok(());
         }
-        let next = name_byte(name, first.content, word, bytes[*done]);
+        let next = name_byte(name, self.content, word, bytes[*done]);
         *done += 1;
         self.go_from(word, next)?;
         Ok(())
@@ -243,6 +258,7 @@ impl<A: Allocator> Reader<A> {
         self.read_in(Phase::In(SlotPlace::SingleQuoted), bytes, done)?;
         self.read_in(Phase::AfterValue, bytes, done)?;
         self.read_in(Phase::In(SlotPlace::Text), bytes, done)?;
+        self.read_slash(bytes, done)?;
         self.read_name(Phase::TagOpen, bytes, done)?;
         self.read_name(Phase::EndTagOpen, bytes, done)?;
         self.read_name(Phase::BeforeName, bytes, done)?;

@@ -1,28 +1,38 @@
 //! Names, references and end tags of text and code: the letters with which they go on, held on the stack.
 ghost use Rattle.std.specs.Prelude.{◌≡◌, ◌≤◌, ◌+◌, ◌++◌, ◌∷◌, [], ℕ, List, length, take, IfSome};
-ghost use Rattle.html_tokenizer.specs.Tokenizer.Phases.{HoldsLetters, IsInName, moved, state_of};
+ghost use Rattle.html_tokenizer.specs.Tokenizer.Phases.{HoldsLetters, IsBeforeName, IsInName, attribute_in, state_of};
 ghost use Rattle.html_tokenizer.specs.Tokenizer.States.{Attribute, at, at_value};
-ghost use Rattle.html_tokenizer.specs.Tokenizer.Tokenization.{consume, state_after};
+ghost use Rattle.html_tokenizer.specs.Tokenizer.Tokenization.{byte_in, consume, state_after};
 ghost use Rattle.html_tokenizer.specs.declared.elements.Content.{Content};
+ghost use Rattle.html_tokenizer.specs.declared.states.Kind.{Kind};
 
+use crate::elements::{Content, holds_markup};
 use crate::flags::name_letter;
 use crate::slot_place::SlotPlace;
-use crate::states::{Kind, Move, Phase, Word};
+use crate::states::Phase;
+use crate::tags::end_tags::is_rcdata;
 
 /// How many letters are read at once.
 pub(crate) const MOST_LETTERS: usize = 32;
 
-/// Where a move begins a name, the state of the name and its first letter.
+/// Where a name begins with this letter, the state of the name and the letter as it is held. Few names
+/// begin otherwise.
 #[inline(always)]
-pub(crate) fn begun_name(next: Move) -> Option<(Phase, u8)>
-    ensures begins { IfSome result (λ begun. (held : List ℕ) → moved next held
-        ≡ at (state_of begun.0 (begun.1 ∷ [])) next.content) }
+pub(crate) fn begun_name(phase: Phase, content: Content, byte: u8) -> Option<(Phase, u8)>
+    requires { IsBeforeName phase }
+    ensures begins { IfSome result (λ begun. (held : List ℕ) (kind : Kind)
+        → (byte_in (state_of phase held) content (attribute_in kind held) byte).next
+        ≡ at (state_of begun.0 (begun.1 ∷ [])) content) }
     ensures name { IfSome result (λ begun. IsInName begun.0) }
 {
-    match (next.word, next.kind, next.phase) {
-        (Word::Begin(letter), Kind::Ordinary, Phase::TagName | Phase::EndTagName | Phase::Name) => {
-            Some((next.phase, letter))
-        }
+    if !byte.is_ascii_alphabetic() {
+        return None;
+    }
+    let letter = byte.to_ascii_lowercase();
+    match phase {
+        Phase::TagOpen if holds_markup(content.element) => Some((Phase::TagName, letter)),
+        Phase::EndTagOpen if !is_rcdata(content.element) => Some((Phase::EndTagName, letter)),
+        Phase::BeforeName => Some((Phase::Name, letter)),
         _ => None,
     }
 }

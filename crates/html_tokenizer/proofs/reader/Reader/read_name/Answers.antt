@@ -8,15 +8,12 @@ use Rattle.html_tokenizer.proofs.Staying.{reads_longer, reads_more}
 use Rattle.html_tokenizer.proofs.reader.Reader.read_name.Goals as goal
 
 pub returns-in_default : goal.returns-in_default
-unfolding consume
 returns-in_default g c = record {
   forth = omega arith;
   within = omega arith;
   read = λ start before.
-      let self = c.args.self.now in
-      let same : self.phase ≡ c.args.phase = c.is_same.ensures c.if-not-is_same.false in
-      reads_longer start (tokenizer_of self) (tokenizer_of c.go.new.self) c.args.bytes.now c.args.done.now (omega arith) before
-      (rw same (sym (c.in_ok-go.ensures ∙ rw c.deref.ensures.value at (c.first_byte-first.ensures self.kind))));
+      reads_longer start (tokenizer_of c.args.self.now) (tokenizer_of c.step.new.self) c.args.bytes.now c.args.done.now (omega arith) before
+      (sym c.in_ok-step.ensures);
 }
 
 pub returns-then-done-bytes-2 : goal.returns-then-done-bytes-2
@@ -28,12 +25,12 @@ returns-then-done-bytes-2 g c = record {
       let self = c.args.self.now in
       let bytes = c.args.bytes.now in
       let done = c.args.done.now in
-      let content = c.first_byte-first.result.content in
+      let content = self.content in
       let same : self.phase ≡ c.args.phase = c.is_same.ensures c.if-not-is_same.false in
       let begun : Tokenizer = at (state_of c.in-Some.name (c.in-Some.letter ∷ [])) content in
       let first : begun ≡ state_after start (take (done + 1) bytes) =
       reads_longer start (tokenizer_of self) begun bytes done (omega arith) before
-      (rw same (sym (sym (c.in-Some.ensures.begins self.word.items) ∙ rw c.deref.ensures.value at (c.first_byte-first.ensures self.kind)))) in
+      (rw same (c.in-Some.ensures.begins self.word.items self.kind)) in
       let named : Tokenizer = at (state_of c.in-Some.name (take (1 + c.read_letters-count.result) c.read_letters-count.new.letters)) content in
       let read : named ≡ state_after start (take (done + 1 + c.read_letters-count.result) bytes) =
       reads_more start begun named bytes (done + 1) c.read_letters-count.result first
@@ -50,12 +47,12 @@ returns g c = record {
       let self = c.args.self.now in
       let bytes = c.args.bytes.now in
       let done = c.args.done.now in
-      let content = c.first_byte-first.result.content in
+      let content = self.content in
       let same : self.phase ≡ c.args.phase = c.is_same.ensures c.if-not-is_same.false in
       let begun : Tokenizer = at (state_of c.in-Some.name (c.in-Some.letter ∷ [])) content in
       let first : begun ≡ state_after start (take (done + 1) bytes) =
       reads_longer start (tokenizer_of self) begun bytes done (omega arith) before
-      (rw same (sym (sym (c.in-Some.ensures.begins self.word.items) ∙ rw c.deref.ensures.value at (c.first_byte-first.ensures self.kind)))) in
+      (rw same (c.in-Some.ensures.begins self.word.items self.kind)) in
       let named : Tokenizer = at (state_of c.in-Some.name (take (1 + c.read_letters-count.result) c.read_letters-count.new.letters)) content in
       let read : named ≡ state_after start (take (done + 1 + c.read_letters-count.result) bytes) =
       reads_more start begun named bytes (done + 1) c.read_letters-count.result first
