@@ -70,8 +70,8 @@ pub(crate) fn render_views(
     for round in 0..rounds {
         let count = numbers.length(1, 400);
         match round % 6 {
-            0 => render_rows(alloc, &mut shop, &IN_ORDER, numbers, count, digest)?,
-            1 => render_rows(alloc, &mut shop, &IN_ANOTHER, numbers, count, digest)?,
+            0 => render_rows(alloc, &mut shop, IN_ORDER, numbers, count, digest)?,
+            1 => render_rows(alloc, &mut shop, IN_ANOTHER, numbers, count, digest)?,
             2 => render_list(alloc, &mut shop, numbers, count, digest)?,
             3 => render_options(alloc, &mut shop, numbers, count, digest)?,
             4 => render_json(alloc, &mut shop, numbers, count, digest)?,
@@ -106,43 +106,143 @@ fn render(view: &View<'static>, output: &mut String, data: Value<'_, '_>, digest
     digest.add(output.as_bytes());
 }
 
+// Records of so many of these fields each. What is borrowed by one level of the data is made by a function
+// of its own, at one lifetime.
+fn records<'x, 't>(
+    alloc: Global,
+    fields: &'x [(&'x str, Value<'x, 't>)],
+    count: usize,
+) -> Result<Vec<Value<'x, 't>>, AllocError> {
+    let mut records = Vec::new(alloc);
+    for record in fields.chunks(count.max(1)) {
+        records.push(Value::Record(record))?;
+    }
+    Ok(records)
+}
+
+// The fields of rows, with these names.
+fn row_fields<'x, 't>(
+    alloc: Global,
+    names: [&'static str; 4],
+    texts: &'x str,
+    numbers: &mut Numbers,
+    count: usize,
+) -> Result<Vec<(&'x str, Value<'x, 't>)>, AllocError> {
+    let [first, second, third, fourth] = names;
+    let mut fields = Vec::new(alloc);
+    for _ in 0..count {
+        fields.push((first, Value::Text(short(texts, numbers))))?;
+        fields.push((second, Value::Text(short(texts, numbers))))?;
+        fields.push((third, Value::Text(short(texts, numbers))))?;
+        fields.push((fourth, Value::Text("1742")))?;
+    }
+    Ok(fields)
+}
+
 // A table and a page of rows, whose fields have these names.
 fn render_rows(
     alloc: Global,
     shop: &mut Shop<'_>,
-    names: &[&'static str; 4],
+    names: [&'static str; 4],
     numbers: &mut Numbers,
     count: usize,
     digest: &mut Digest,
 ) -> Result<(), AllocError> {
-    let [first, second, third, fourth] = *names;
-    let mut fields = Vec::new(alloc);
-    for _ in 0..count {
-        fields.push([
-            (first, Value::Text(short(shop.texts, numbers))),
-            (second, Value::Text(short(shop.texts, numbers))),
-            (third, Value::Text(short(shop.texts, numbers))),
-            (fourth, Value::Text("1742")),
-        ])?;
-    }
-    let mut rows = Vec::new(alloc);
-    for row in &fields {
-        rows.push(Value::Record(row))?;
-    }
+    let fields = row_fields(alloc, names, shop.texts, numbers, count)?;
+    render_fields(alloc, shop, &fields, digest)
+}
+
+fn render_fields<'x, 't>(
+    alloc: Global,
+    shop: &mut Shop<'_>,
+    fields: &'x [(&'x str, Value<'x, 't>)],
+    digest: &mut Digest,
+) -> Result<(), AllocError> {
+    let rows = records(alloc, fields, 4)?;
+    render_tables(shop, &rows, digest);
+    Ok(())
+}
+
+fn render_tables<'x, 't>(shop: &mut Shop<'_>, rows: &'x [Value<'x, 't>], digest: &mut Digest) {
     let data = [
         ("language", Value::Text("en")),
-        ("title", Value::Text(short(shop.texts, numbers))),
+        ("title", Value::Text("Orders")),
         ("site", Value::Text("The Daily Page")),
-        ("rows", Value::List(&rows)),
+        ("rows", Value::List(rows)),
         ("currency", Value::Text("EUR")),
         ("owner", Value::Text("A. N. Owner")),
     ];
     render(&shop.table, &mut shop.output, Value::Record(&data), digest);
     render(&shop.page, &mut shop.output, Value::Record(&data), digest);
-    Ok(())
 }
 
-// A list of posts, of which some have a link, and some have tags.
+// The fields of authors, of whom some have a link.
+fn author_fields<'x, 't>(
+    alloc: Global,
+    texts: &'x str,
+    numbers: &mut Numbers,
+    count: usize,
+) -> Result<Vec<(&'x str, Value<'x, 't>)>, AllocError> {
+    let mut fields = Vec::new(alloc);
+    for _ in 0..count {
+        fields.push(("name", Value::Text(short(texts, numbers))))?;
+        let link = if numbers.below(2) == 0 {
+            Value::Null
+        } else {
+            Value::Text("https://example.org/users/7")
+        };
+        fields.push(("link", link))?;
+    }
+    Ok(fields)
+}
+
+// Three tags for each post.
+fn tags_of<'x, 't>(
+    alloc: Global,
+    texts: &'x str,
+    numbers: &mut Numbers,
+    count: usize,
+) -> Result<Vec<Value<'x, 't>>, AllocError> {
+    let mut tags = Vec::new(alloc);
+    for _ in 0..count {
+        tags.push(Value::Text(any_piece(texts, numbers, 8)))?;
+        tags.push(Value::Text(any_piece(texts, numbers, 8)))?;
+        tags.push(Value::Text("news"))?;
+    }
+    Ok(tags)
+}
+
+// The fields of posts, of which some have tags.
+fn post_fields<'x, 't>(
+    alloc: Global,
+    texts: &'x str,
+    authors: &'x [Value<'x, 't>],
+    tags: &'x [Value<'x, 't>],
+    numbers: &mut Numbers,
+) -> Result<Vec<(&'x str, Value<'x, 't>)>, AllocError> {
+    let mut fields = Vec::new(alloc);
+    let mut number: usize = 0;
+    for some in tags.chunks(3) {
+        let author = match authors.get(number) {
+            Some(author) => *author,
+            None => Value::Null,
+        };
+        number = number.saturating_add(1);
+        fields.push(("pinned", Value::Flag(numbers.below(8) == 0)))?;
+        fields.push(("title", Value::Text(short(texts, numbers))))?;
+        fields.push(("author", author))?;
+        fields.push(("lead", Value::Text(any_piece(texts, numbers, 200))))?;
+        let tags = if numbers.below(4) == 0 {
+            Value::Null
+        } else {
+            Value::List(some)
+        };
+        fields.push(("tags", tags))?;
+    }
+    Ok(fields)
+}
+
+// A list of posts.
 fn render_list(
     alloc: Global,
     shop: &mut Shop<'_>,
@@ -150,45 +250,70 @@ fn render_list(
     count: usize,
     digest: &mut Digest,
 ) -> Result<(), AllocError> {
-    let mut authors = Vec::new(alloc);
-    let mut tags = Vec::new(alloc);
-    for _ in 0..count {
-        let link = if numbers.below(2) == 0 {
-            Value::Null
-        } else {
-            Value::Text("https://example.org/users/7")
-        };
-        authors.push([
-            ("name", Value::Text(short(shop.texts, numbers))),
-            ("link", link),
-        ])?;
-        tags.push([
-            Value::Text(any_piece(shop.texts, numbers, 8)),
-            Value::Text(any_piece(shop.texts, numbers, 8)),
-            Value::Text("news"),
-        ])?;
-    }
-    let mut posts = Vec::new(alloc);
-    for (author, tags) in authors.iter().zip(tags.iter()) {
-        let some = tags.get(..numbers.below(4)).unwrap_or(&[]);
-        posts.push([
-            ("pinned", Value::Flag(numbers.below(8) == 0)),
-            ("title", Value::Text(short(shop.texts, numbers))),
-            ("author", Value::Record(author)),
-            ("lead", Value::Text(any_piece(shop.texts, numbers, 200))),
-            ("tags", Value::List(some)),
-        ])?;
-    }
-    let mut items = Vec::new(alloc);
-    for post in &posts {
-        items.push(Value::Record(post))?;
-    }
-    let data = [("posts", Value::List(&items))];
-    render(&shop.list, &mut shop.output, Value::Record(&data), digest);
+    let authors = author_fields(alloc, shop.texts, numbers, count)?;
+    let tags = tags_of(alloc, shop.texts, numbers, count)?;
+    render_posts(alloc, shop, shop.texts, &authors, &tags, numbers, digest)
+}
+
+fn render_posts<'x, 't>(
+    alloc: Global,
+    shop: &mut Shop<'_>,
+    texts: &'x str,
+    authors: &'x [(&'x str, Value<'x, 't>)],
+    tags: &'x [Value<'x, 't>],
+    numbers: &mut Numbers,
+    digest: &mut Digest,
+) -> Result<(), AllocError> {
+    let authors = records(alloc, authors, 2)?;
+    render_posts_by(alloc, shop, texts, &authors, tags, numbers, digest)
+}
+
+fn render_posts_by<'x, 't>(
+    alloc: Global,
+    shop: &mut Shop<'_>,
+    texts: &'x str,
+    authors: &'x [Value<'x, 't>],
+    tags: &'x [Value<'x, 't>],
+    numbers: &mut Numbers,
+    digest: &mut Digest,
+) -> Result<(), AllocError> {
+    let fields = post_fields(alloc, texts, authors, tags, numbers)?;
+    render_post_fields(alloc, shop, &fields, digest)
+}
+
+fn render_post_fields<'x, 't>(
+    alloc: Global,
+    shop: &mut Shop<'_>,
+    fields: &'x [(&'x str, Value<'x, 't>)],
+    digest: &mut Digest,
+) -> Result<(), AllocError> {
+    let posts = records(alloc, fields, 5)?;
+    render_post_list(shop, &posts, digest);
     Ok(())
 }
 
-// The options of a `select`, of which one is chosen.
+fn render_post_list<'x, 't>(shop: &mut Shop<'_>, posts: &'x [Value<'x, 't>], digest: &mut Digest) {
+    let data = [("posts", Value::List(posts))];
+    render(&shop.list, &mut shop.output, Value::Record(&data), digest);
+}
+
+// The fields of the options of a `select`, of which one is chosen.
+fn option_fields<'x, 't>(
+    alloc: Global,
+    texts: &'x str,
+    numbers: &mut Numbers,
+    count: usize,
+) -> Result<Vec<(&'x str, Value<'x, 't>)>, AllocError> {
+    let chosen = numbers.below(count);
+    let mut fields = Vec::new(alloc);
+    for number in 0..count {
+        fields.push(("value", Value::Text(any_piece(texts, numbers, 6))))?;
+        fields.push(("chosen", Value::Flag(number == chosen)))?;
+        fields.push(("text", Value::Text(any_piece(texts, numbers, 20))))?;
+    }
+    Ok(fields)
+}
+
 fn render_options(
     alloc: Global,
     shop: &mut Shop<'_>,
@@ -196,26 +321,28 @@ fn render_options(
     count: usize,
     digest: &mut Digest,
 ) -> Result<(), AllocError> {
-    let chosen = numbers.below(count);
-    let mut fields = Vec::new(alloc);
-    for number in 0..count {
-        fields.push([
-            ("value", Value::Text(any_piece(shop.texts, numbers, 6))),
-            ("chosen", Value::Flag(number == chosen)),
-            ("text", Value::Text(any_piece(shop.texts, numbers, 20))),
-        ])?;
-    }
-    let mut options = Vec::new(alloc);
-    for option in &fields {
-        options.push(Value::Record(option))?;
-    }
+    let fields = option_fields(alloc, shop.texts, numbers, count)?;
+    render_option_fields(alloc, shop, &fields, digest)
+}
+
+fn render_option_fields<'x, 't>(
+    alloc: Global,
+    shop: &mut Shop<'_>,
+    fields: &'x [(&'x str, Value<'x, 't>)],
+    digest: &mut Digest,
+) -> Result<(), AllocError> {
+    let options = records(alloc, fields, 3)?;
+    render_select(shop, &options, digest);
+    Ok(())
+}
+
+fn render_select<'x, 't>(shop: &mut Shop<'_>, options: &'x [Value<'x, 't>], digest: &mut Digest) {
     let data = [
         ("label", Value::Text("Country")),
         ("field", Value::Text("country")),
-        ("options", Value::List(&options)),
+        ("options", Value::List(options)),
     ];
     render(&shop.select, &mut shop.output, Value::Record(&data), digest);
-    Ok(())
 }
 
 // A text as JSON has it, in quotes.
