@@ -3,3 +3,4 @@ pub mod Filling
 pub mod Headings
 pub mod Opened
 pub mod Origins
+pub mod OwnPaths

@@ -6,6 +6,7 @@ pub mod Hosts
 pub mod Inputs
 pub mod Links
 pub mod OpenParts
+pub mod OwnPaths
 pub mod Parts
 pub mod Pieces
 pub mod Places

@@ -1,6 +1,5 @@
 -- What is answered of a URL's parts and texts: nothing, or the first fault, where memory does not run out before.
-use Rattle.std.specs.Prelude.{◌≡◌, ⊤, ℕ, ◌+◌, Bool, ◌==◌, List, [], ◌∷◌, length, Option, Some, None, Result, Ok, Err, if◌then◌else◌}
-use Rattle.html_urls.specs.declared.parts.UrlFault.{UrlFault}
+use Rattle.std.specs.Prelude.{◌≡◌, ⊤, ℕ, ◌+◌, ◌==◌, List, [], ◌∷◌, length, Option, Some, None, Result, Ok, Err, if◌then◌else◌}
 use Rattle.html_urls.specs.declared.parts.UrlSlot.{UrlSlot}
 use Rattle.html_urls.specs.declared.parts.UrlTextFault.{UrlTextFault}
 use Rattle.html_urls.specs.declared.parts.UrlTextFault.TheVariants.{Parts, WrongCount, WrongText, Memory}

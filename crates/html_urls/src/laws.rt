@@ -3,11 +3,12 @@
 //! A URL is the bytes of a front, a text as a component, and the bytes of a rest. It is read by
 //! `parse_url`, the URL Standard's parser, against the bases that a law names: none and any web page,
 //! at least.
-ghost use Rattle.std.specs.Prelude.{◌≡◌, ◌++◌, ◌∷◌, ℕ, [], IfOk, IfSome, List, Option, map, true, unwrap_or};
+ghost use Rattle.std.specs.Prelude.{◌≡◌, ◌++◌, ◌∷◌, ℕ, [], IfOk, IfSome, List, Ok, Option, Some, map, true, unwrap_or};
 ghost use Rattle.form_urlencoded.specs.Form.{parse};
 ghost use Rattle.percent_encoding.specs.Percent.{percent_decode, percent_encode};
 ghost use Rattle.url.specs.declared.sets.TheConstants.{PATH};
 ghost use Rattle.url.specs.Ascii.{slash};
+ghost use Rattle.url.specs.Head.{head_only};
 ghost use Rattle.url.specs.Parser.{parse_url};
 ghost use Rattle.url.specs.Parts.{Parts};
 ghost use Rattle.url.specs.Relative.{segments};
@@ -17,6 +18,7 @@ ghost use Rattle.html_urls.specs.Decoded.{AreBytes, decoded_segments, has_pairs,
 ghost use Rattle.html_urls.specs.Heads.{head_of, on_ok};
 ghost use Rattle.html_urls.specs.Hosts.{IsWebBase};
 ghost use Rattle.html_urls.specs.Links.{HasLinkOrPageScheme, HasLinkScheme, is_link};
+ghost use Rattle.html_urls.specs.OwnPaths.{is_own_path};
 ghost use Rattle.html_urls.specs.Pieces.{filled_pieces, open_path, pieces};
 ghost use Rattle.html_urls.specs.Places.{EndsIn, Fits, SuitsPlace, goes_on};
 ghost use Rattle.html_urls.specs.Shapes.{HasShape, fill, front_of, shape_of};
@@ -131,4 +133,19 @@ pub fn base_law(behind: BehindBase, base: &str, parts: &[UrlPart<'_>])
         → FillUrl (Markup base.now ∷ map given parts.now) texts
         → head_of (parse_url page (base.now ++ url_of (map given parts.now) texts))
         ≡ head_of (parse_url page base.now) }
+{}
+
+/// An own path is a URL on each page of the web, and has its scheme, user, password, host and port. Any two
+/// own paths have the same, or are both refused, where there is no page. An own path is a URL of one part of
+/// markup, with no slot: what the laws above say of parts holds of it.
+///
+/// For instance on a page of `https://h:8080/d/f` the URL of `/a.js?v=1` is `https://h:8080/a.js?v=1`. What
+/// the server of `h` keeps under that path is not said.
+pub fn own_path_law(text: &str)
+    requires { is_own_path text.now ≡ true }
+    ensures page { (page : Parts) → IsWebPage (Some page)
+        → head_of (parse_url (Some page) text.now) ≡ Ok (head_only page) }
+    ensures alike { (other : List ℕ) → is_own_path other ≡ true → (base : Option Parts)
+        → IsWebBase base → head_of (parse_url base text.now) ≡ head_of (parse_url base other) }
+    ensures parts { FillUrl (Markup text.now ∷ []) [] }
 {}

@@ -3,7 +3,7 @@
 //! [`encode_component`] percent-encodes a text so that it stays in its part of a URL: in one segment
 //! of a path, in the value of one pair of a query, in the fragment. The [`laws`] say so of the URL
 //! Standard's parser, each with the condition that it needs of the URL's front. A text that is a whole
-//! URL is asked [`is_link`] first.
+//! URL is asked [`is_link`] first, and where the page runs what the URL leads to, [`is_own_path`].
 #![tactic(auto)]
 
 pub mod append;
@@ -14,6 +14,7 @@ pub mod laws;
 pub mod length;
 pub mod link;
 pub mod open_part;
+pub mod own_path;
 pub mod parts;
 pub mod place;
 pub mod segment;
@@ -29,6 +30,7 @@ pub use crate::forms::{
 pub use crate::length::component_length;
 pub use crate::link::is_link;
 pub use crate::open_part::{OpenPart, after_markup, after_text, may_be_dots, open_of, slot_at};
+pub use crate::own_path::is_own_path;
 pub use crate::parts::{UrlFault, UrlPart, UrlSlot, UrlTextFault};
 pub use crate::place::UrlPlace;
 pub use crate::segment::may_be_segment;

@@ -43,7 +43,7 @@ head_with path query fragment (Err e) = refl
 reads_head : (page : Option Parts) (input : List ℕ) (start : Parsed Parts) (path body : List ℕ) → Reads page input start path body → HeadAt page input start
 reads_head page input start path body reads query fragment = ap head_of (reads query fragment) ∙ head_with (parse_path SpecialNotFile path body) query fragment start
 
-rooted_head : (page : Option Parts) (input : List ℕ) → IsWebBase page → All (IsNot 92) input → Rooted input → HeadAt page input (from_base page)
+pub rooted_head : (page : Option Parts) (input : List ℕ) → IsWebBase page → All (IsNot 92) input → Rooted input → HeadAt page input (from_base page)
 rooted_head page _ web plain root = reads_head page (47 ∷ []) (from_base page) [] [] (root_reads page web)
 rooted_head page _ web plain (below b rest other) =
     reads_head page (47 ∷ b ∷ rest) (from_base page) [] (b ∷ rest)
@@ -182,7 +182,7 @@ headed page behind text web base plain (of_web origin) = web_headed page behind 
 
 -- ---- the markup behind it
 
-abbrev path_bytes : List ℕ → List ℕ
+abbrev pub path_bytes : List ℕ → List ℕ
 path_bytes markup = (split_once 63 (split_once 35 markup).0).0
 
 goes_path : (behind : BehindBase) (markup : List ℕ) → goes_on_so behind markup ≡ true → Goes behind (path_bytes markup)
@@ -226,7 +226,7 @@ without mark (b ∷ bytes) none =
     (cases_eq b mark)
 
 -- the path, the query and the fragment of a text with neither mark, and of markup behind it
-parse_is : (page : Option Parts) (text markup : List ℕ) → All IsVisible (text ++ markup) → All (IsNot 35) text → All (IsNot 63) text →
+pub parse_is : (page : Option Parts) (text markup : List ℕ) → All IsVisible (text ++ markup) → All (IsNot 35) text → All (IsNot 63) text →
     parse_url page (text ++ markup)
     ≡ parse_by_scheme (split_scheme (text ++ path_bytes markup)) page (text ++ path_bytes markup) (split_once 63 (split_once 35 markup).0).1 (split_once 35 markup).1
 unfolding parse_url
@@ -237,7 +237,7 @@ parse_is page text markup visible no_fragment no_query =
     ap read_hash (ap (split_once 35) (kept_front (text ++ markup) visible) ∙ split_clear 35 text markup no_fragment)
     ∙ ap (λ r. read r hash.1) (split_clear 63 text hash.0 no_query)
 
-plain_no_backslash : (bytes : List ℕ) → All (λ b. is_plain_byte b ≡ true) bytes → All (IsNot 92) bytes
+pub plain_no_backslash : (bytes : List ℕ) → All (λ b. is_plain_byte b ≡ true) bytes → All (IsNot 92) bytes
 plain_no_backslash bytes plain = All-weaker (λ b. is_plain_byte b ≡ true) (IsNot 92) (λ b passes same. let clash = rw same at passes in cc) bytes plain
 
 head_is : (page : Option Parts) (behind : BehindBase) (text markup : List ℕ) (start : Parsed Parts) → IsBase behind text → IsPlainMarkup markup → Goes behind (path_bytes markup) →

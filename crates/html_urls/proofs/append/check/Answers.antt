@@ -1,11 +1,10 @@
-use Rattle.std.proofs.Common.{◌≡◌, ℕ, ◌+◌, true, false, List, [], ◌∷◌, length, Option, Some, None, IsOkAnd, map, refl, sym, ap, ◌∙◌, subst, ⊎_elim, arith}
-use Rattle.std.specs.Option.{option_map}
+use Rattle.std.proofs.Common.{◌≡◌, ℕ, ◌+◌, true, false, List, [], ◌∷◌, length, Some, None, IsOkAnd, sym, ap, ◌∙◌, subst, ⊎_elim, arith}
 use Rattle.std.proofs.lemmas.Bool.{cases_Bool}
 use Rattle.std.proofs.lemmas.List.{length-map}
 use Rattle.html_urls.specs.declared.parts.UrlSlot.{UrlSlot}
 use Rattle.html_urls.specs.declared.parts.UrlTextFault.{UrlTextFault}
 use Rattle.html_urls.specs.declared.parts.UrlTextFault.TheVariants.{WrongText}
-use Rattle.html_urls.specs.Slots.{FillSlots, Told, given, may_fill, slots_of, texts_of}
+use Rattle.html_urls.specs.Slots.{FillSlots, Told, may_fill, texts_of}
 use Rattle.html_urls.specs.TextFaults.{first_refused}
 use Rattle.html_urls.proofs.append.check.Goals as goal
 

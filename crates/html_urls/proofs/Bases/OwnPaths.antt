@@ -1,0 +1,66 @@
+-- Own paths: the head of their URLs is that of the page.
+use Rattle.std.proofs.Common.{◌≡◌, ℕ, true, false, ◌&&◌, ◌==◌, List, [], ◌∷◌, Option, Some, Ok, sym, ap, ◌∙◌, ⊎_elim}
+use Rattle.std.proofs.lemmas.Bool.{and_parts, cases_Bool, cond-false}
+use Rattle.std.proofs.lemmas.List.Elements.{All-nil}
+use Rattle.url.specs.Head.{head_only}
+use Rattle.url.specs.Input.{split_once}
+use Rattle.url.specs.Parser.{parse_url}
+use Rattle.url.specs.Parts.{Parts}
+use Rattle.html_urls.specs.declared.open_part.OpenPart.TheVariants.{NewSegment}
+use Rattle.html_urls.specs.Bases.{IsWebPage}
+use Rattle.html_urls.specs.Heads.{head_of}
+use Rattle.html_urls.specs.Hosts.{IsWebBase}
+use Rattle.html_urls.specs.Inputs.{IsNot}
+use Rattle.html_urls.specs.OpenParts.{after_markup, is_rooted}
+use Rattle.html_urls.specs.OwnPaths.{is_own_path, may_end}
+use Rattle.html_urls.specs.Slots.{FillUrl, Markup, is_plain}
+use Rattle.html_urls.proofs.Bases.Headings.{parse_is, path_bytes, plain_no_backslash, rooted_head}
+use Rattle.html_urls.proofs.Bases.Opened.{Rooted, below, root, rooted_is}
+use Rattle.html_urls.proofs.Filled.FirstSlot.{plain_visible}
+use Rattle.html_urls.proofs.OpenEscapes.{plain_bytes}
+use Rattle.html_urls.proofs.Paths.Opening.{from_base}
+use Rattle.html_urls.proofs.Shapes.Encoded.Splits.{all_halves}
+
+-- the path of a text that is rooted is rooted
+path_rooted : (text : List ℕ) → Rooted text → Rooted (path_bytes text)
+unfolding split_once
+path_rooted _ root = root
+path_rooted _ (below b rest other) =
+    ⊎_elim
+    (λ (fragment : (b == 35) ≡ true). rw fragment root)
+    (λ (no_fragment : (b == 35) ≡ false).
+    ⊎_elim
+    (λ (query : (b == 63) ≡ true). rw (no_fragment, query) root)
+    (λ (no_query : (b == 63) ≡ false). rw (no_fragment, no_query) (below b (split_once 63 (split_once 35 rest).0).0 other))
+    (cases_Bool (b == 63)))
+    (cases_Bool (b == 35))
+
+record IsOwn (text : List ℕ) : Type 0 where
+  plain : is_plain text true ≡ true
+  rooted : is_rooted text ≡ true
+
+own_is : (text : List ℕ) → is_own_path text ≡ true → IsOwn text
+own_is text is =
+    let both = and_parts (is_plain text true && is_rooted text) (may_end (after_markup NewSegment text)) is in
+    let first = and_parts (is_plain text true) (is_rooted text) both.0 in
+    record { plain = first.0; rooted = first.1 }
+
+own_head : (base : Option Parts) (text : List ℕ) → IsWebBase base → is_own_path text ≡ true → head_of (parse_url base text) ≡ head_of (from_base base)
+own_head base text web is =
+    let own = own_is text is in
+    let plain = plain_bytes text true own.plain in
+    let hash = split_once 35 text in
+    let no_backslash = (all_halves (IsNot 92) 63 hash.0 (all_halves (IsNot 92) 35 text (plain_no_backslash text plain)).0).0 in
+    ap head_of (parse_is base [] text (plain_visible text plain) (All-nil (IsNot 35)) (All-nil (IsNot 63)))
+    ∙ rooted_head base (path_bytes text) web no_backslash (path_rooted text (rooted_is text own.rooted)) (split_once 63 hash.0).1 hash.1
+
+pub page_head : (page : Parts) (text : List ℕ) → IsWebPage (Some page) → is_own_path text ≡ true → head_of (parse_url (Some page) text) ≡ Ok (head_only page)
+page_head page text web is = own_head (Some page) text web.0 is ∙ ap head_of (cond-false _ _ _ web.1)
+
+pub own_alike : (base : Option Parts) (text other : List ℕ) → IsWebBase base → is_own_path text ≡ true → is_own_path other ≡ true →
+    head_of (parse_url base text) ≡ head_of (parse_url base other)
+own_alike base text other web is also = own_head base text web is ∙ sym (own_head base other web also)
+
+-- no slot stands in one
+pub one_part : (text : List ℕ) → is_own_path text ≡ true → FillUrl (Markup text ∷ []) []
+one_part text is = rw (own_is text is).plain tt
