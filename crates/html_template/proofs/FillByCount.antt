@@ -23,6 +23,7 @@ takes_any p (kind.UrlPart slot) text none =
     let may : may_fill slot text ≡ true = rw none refl in
     rw may refl
 takes_any p kind.Link text none = never none
+takes_any p kind.OwnPath text none = never none
 
 -- neither this slot nor one behind it is checked
 record AreFree (here others : Bool) : Type 0 where

@@ -1,5 +1,5 @@
 -- The first fault of the texts: where there is none the texts fill the template, and what is answered.
-use Rattle.std.proofs.Common.{ℕ, ◌≡◌, ◌↔◌, ◌+◌, ◌==◌, true, false, List, [], ◌∷◌, Option, None, Some, Ok, Err, Result, length, refl, sym, ap, ◌∙◌, inl, inr, arith}
+use Rattle.std.proofs.Common.{ℕ, ◌≡◌, ◌↔◌, ◌+◌, ◌==◌, List, [], ◌∷◌, Option, None, Some, Ok, Err, Result, length, refl, sym, inl, inr, arith}
 use Rattle.std.proofs.lemmas.Bool.{cases_Bool}
 use Rattle.std.specs.Option.{option_or}
 use Rattle.std.specs.Prelude.{IsErrOf, OnOk}
@@ -20,6 +20,7 @@ use Rattle.html_template.specs.Writing.{AnswersWriting}
 use Rattle.html_tokenizer.specs.declared.slot_place.SlotPlace.{SlotPlace}
 use Rattle.html_tokenizer.specs.declared.slot_place.SlotPlace.TheVariants as place
 use Rattle.html_urls.specs.Links.{is_link}
+use Rattle.html_urls.specs.OwnPaths.{is_own_path}
 use Rattle.html_urls.specs.Slots.{may_fill}
 
 -- ---- a text has no fault exactly where it may fill its slot
@@ -42,6 +43,10 @@ none_fits p kind.Link text is = elim (cases_Bool (is_link text)) [
   | inl link ↦ link
   | inr not ↦ absurd (let clash = rw not at is in cc)
 ]
+none_fits p kind.OwnPath text is = elim (cases_Bool (is_own_path text)) [
+  | inl own ↦ own
+  | inr not ↦ absurd (let clash = rw not at is in cc)
+]
 
 fits_none : (p : SlotPlace) (kind : SlotKind) (text : List ℕ) → MayFill p kind text → text_fault p kind text ≡ None
 fits_none place.Unquoted kind.Text [] may = absurd (may refl)
@@ -49,6 +54,7 @@ fits_none place.Unquoted kind.Text (b ∷ text) may = refl
 fits_none p kind.Text text may = refl
 fits_none p (kind.UrlPart slot) text may = rw may refl
 fits_none p kind.Link text may = rw may refl
+fits_none p kind.OwnPath text may = rw may refl
 
 pub fits : (p : SlotPlace) (kind : SlotKind) (text : List ℕ) → (text_fault p kind text ≡ None) ↔ MayFill p kind text
 fits p kind text = (none_fits p kind text, fits_none p kind text)

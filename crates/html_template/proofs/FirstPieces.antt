@@ -32,4 +32,5 @@ slot_first rest piece slot texts more text some first is texts_are =
 pub written_encoded : (p : SlotPlace) (k : SlotKind) (text : List ℕ) → ((slot : UrlSlot) → k ≡ kind.UrlPart slot → ⊥) → written p k text ≡ encoded (encoder_for p) text
 written_encoded p kind.Text text other = refl
 written_encoded p kind.Link text other = refl
+written_encoded p kind.OwnPath text other = refl
 written_encoded p (kind.UrlPart slot) text other = absurd (other slot refl)

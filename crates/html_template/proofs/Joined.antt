@@ -1,5 +1,5 @@
 -- A page behind a page.
-use Rattle.std.proofs.Common.{ℕ, ◌≡◌, List, [], ◌∷◌, ◌++◌, IsUtf8, map, refl, sym, ap, ◌∙◌, subst, append_assoc, append-nil, Some, None, Ok, Option, true}
+use Rattle.std.proofs.Common.{ℕ, ◌≡◌, List, [], ◌∷◌, ◌++◌, IsUtf8, map, refl, sym, ap, ◌∙◌, append_assoc, Some, None, Ok, Option, true}
 use Rattle.std.specs.Io.KnownBytes.{Appends}
 use Rattle.std.specs.List.{AllByRecursion}
 use Rattle.html_tokenizer.specs.Tokenizer.States.{Tokenizer, data_state}

@@ -1,14 +1,13 @@
 -- A page of a template's parts: how it is read, and that of any other texts beside it.
-use Rattle.std.proofs.Common.{ℕ, ◌≡◌, true, List, [], ◌++◌, IsUtf8, Ok, refl, sym, ap, ◌∙◌, subst, append-nil}
-use Rattle.std.specs.List.{AllByRecursion}
-use Rattle.html_tokenizer.specs.Tokenizer.States.{Tokenizer, data_state}
+use Rattle.std.proofs.Common.{ℕ, ◌≡◌, true, List, [], sym, ap, ◌∙◌, subst, append-nil}
+use Rattle.html_tokenizer.specs.Tokenizer.States.{data_state}
 use Rattle.html_tokenizer.specs.Tokenizer.Tokenization.{actions_of, state_after}
 use Rattle.html_tokenizer.specs.Tokens.{skeleton, tokens}
 use Rattle.html_template.specs.FilledUrls.{FillUrls, HasUrls, filled_urls, template_urls, url_texts}
 use Rattle.html_template.specs.PageUrls.{AllAlike, urls_of, whole_urls}
 use Rattle.html_template.specs.Structure.{IsPageOf, IsReadAs, structure}
 use Rattle.html_template.specs.TemplateFaults.{is_template, placed}
-use Rattle.html_template.specs.Templates.{Given, page, state_after_all}
+use Rattle.html_template.specs.Templates.{Given, state_after_all}
 use Rattle.html_template.proofs.JoinedParts.{placed_told}
 use Rattle.html_template.proofs.PageUrls.Law.{has_urls, leads_as_any}
 use Rattle.html_template.proofs.Pieces.{sound_told}

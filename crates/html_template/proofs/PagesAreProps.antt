@@ -1,5 +1,5 @@
 -- There is one proof at most that texts fill a template, and that bytes are a page, so a type may keep it.
-use Rattle.std.proofs.Common.{ℕ, ◌≡◌, List, [], ◌∷◌}
+use Rattle.std.proofs.Common.{ℕ, List, [], ◌∷◌}
 use Rattle.std.proofs.Props.{props}
 use Rattle.std.specs.Coded.{×_prop}
 use Rattle.html_tokenizer.specs.declared.slot_place.SlotPlace.{SlotPlace}
@@ -25,6 +25,7 @@ MayFill-prop : (p : SlotPlace) (kind : SlotKind) (text : List ℕ) → IsProp (M
 MayFill-prop p kind.Text text = FitsPlace-prop p text
 MayFill-prop p (kind.UrlPart slot) text = hlevel props
 MayFill-prop p kind.Link text = hlevel props
+MayFill-prop p kind.OwnPath text = hlevel props
 
 pub Fill-prop : (chunks : List Chunk) (texts : List (List ℕ)) → IsProp (Fill chunks texts)
 Fill-prop [] [] = hlevel props

@@ -19,9 +19,9 @@ use Rattle.html_tokenizer.specs.declared.reader.Standing.TheVariants.{Barred, In
 use Rattle.html_tokenizer.specs.Standing.{in_code, in_content, is_same, unless_forbidden, standing_in, standing}
 use Rattle.html_tokenizer.specs.UrlValues.{is_url}
 use Rattle.html_template.specs.declared.parts.SlotKind.{SlotKind}
-use Rattle.html_template.specs.declared.parts.SlotKind.TheVariants.{Text, UrlPart, Link}
+use Rattle.html_template.specs.declared.parts.SlotKind.TheVariants.{Text, UrlPart, Link, OwnPath}
 use Rattle.html_template.specs.declared.parts.SlotKind.TheVariants as kind
-use Rattle.html_template.specs.Slots.{FitsPlace, is_quoted, suits}
+use Rattle.html_template.specs.Slots.{FitsPlace, is_quoted, suits, whole_kind}
 use Rattle.html_template.specs.Templates.{Chunk, Markup, Slot, after_slot, encoder_for, handed, state_after_all, page, actions_all, MayFill, Fill, written}
 use Rattle.html_tokenizer.specs.Tokenizer.Tokenization.{state_after}
 use Rattle.html_tokenizer.proofs.Slots.Html.{Remains, text_stays, double_stays, double_stays_in, single_stays, single_stays_in, unquoted_stays, first_stays}
@@ -46,6 +46,8 @@ no_place (UrlPart slot) p true = refl
 no_place (UrlPart slot) p false = refl
 no_place Link p true = refl
 no_place Link p false = refl
+no_place OwnPath p true = refl
+no_place OwnPath p false = refl
 
 no_code : (kind : SlotKind) (p : SlotPlace) (code : Code) → suits kind p (in_code code) ≡ false
 no_code kind p code = no_place kind p (is_opaque code)
@@ -55,6 +57,7 @@ in_any : (kind : SlotKind) (p : SlotPlace) (element : OpenElement) (standing : S
 in_any Text p NoScript standing may = absurd (no may)
 in_any (UrlPart slot) p NoScript standing may = absurd (no may)
 in_any Link p NoScript standing may = absurd (no may)
+in_any OwnPath p NoScript standing may = absurd (no may)
 in_any kind p other standing may = may
 
 -- ---- a slot for a text
@@ -121,13 +124,13 @@ part_in_url slot p (InCode code) content attribute may = absurd (no (sym (no_cod
 part_in_url slot p elsewhere content attribute may = absurd (no may)
 
 -- and in quotes
-pub record IsInLink (p : SlotPlace) (state : State) (attribute : Attribute) : Type 0 where
+pub record IsInQuotes (p : SlotPlace) (state : State) (attribute : Attribute) : Type 0 where
   pub state_is : state ≡ In p
   pub attribute_is : is_url attribute ≡ true
   pub quoted : is_quoted p ≡ true
 
-pub link_in_url : (p : SlotPlace) (state : State) (content : Content) (attribute : Attribute) →
-    suits Link p (standing_in state content attribute) ≡ true → IsInLink p state attribute
+link_in_url : (p : SlotPlace) (state : State) (content : Content) (attribute : Attribute) →
+    suits Link p (standing_in state content attribute) ≡ true → IsInQuotes p state attribute
 link_in_url p (In q) content state.Link may =
     let parts = and_parts (is_quoted p) (is_same p q) (in_any kind.Link p content.element (InLink q) may) in
     record { state_is = ap In (sym (same_place p q parts.1)); attribute_is = refl; quoted = parts.0 }
@@ -136,6 +139,22 @@ link_in_url p BeforeValue content Ordinary may = absurd (no may)
 link_in_url p BeforeValue content other may = absurd (no may)
 link_in_url p (InCode code) content attribute may = absurd (no (sym (no_code kind.Link p code) ∙ may))
 link_in_url p elsewhere content attribute may = absurd (no may)
+
+own_in_url : (p : SlotPlace) (state : State) (content : Content) (attribute : Attribute) →
+    suits OwnPath p (standing_in state content attribute) ≡ true → IsInQuotes p state attribute
+own_in_url p (In q) content Url may =
+    let parts = and_parts (is_quoted p) (is_same p q) (in_any OwnPath p content.element (InUrl q) may) in
+    record { state_is = ap In (sym (same_place p q parts.1)); attribute_is = refl; quoted = parts.0 }
+own_in_url p (In q) content other may = absurd (no (in_any OwnPath p content.element (unless_forbidden other q) may))
+own_in_url p BeforeValue content Ordinary may = absurd (no may)
+own_in_url p BeforeValue content other may = absurd (no may)
+own_in_url p (InCode code) content attribute may = absurd (no (sym (no_code OwnPath p code) ∙ may))
+own_in_url p elsewhere content attribute may = absurd (no may)
+
+pub whole_in_url : (is_followed : Bool) (p : SlotPlace) (state : State) (content : Content) (attribute : Attribute) →
+    suits (whole_kind is_followed) p (standing_in state content attribute) ≡ true → IsInQuotes p state attribute
+whole_in_url true p state content attribute may = link_in_url p state content attribute may
+whole_in_url false p state content attribute may = own_in_url p state content attribute may
 
 url_remains_so : (attribute : Attribute) → is_url attribute ≡ true → Remains attribute
 url_remains_so attribute url = record { bytes = λ b. byte_settled attribute b url; references = reference_settled attribute url }
@@ -163,6 +182,9 @@ slot_passes p (UrlPart slot) state content attribute text may full utf8 =
 slot_passes p Link state content attribute text may full utf8 =
     let here = link_in_url p state content attribute may in
     rw here.state_is (quoted_passes p content attribute text here.quoted here.attribute_is)
+slot_passes p OwnPath state content attribute text may full utf8 =
+    let here = own_in_url p state content attribute may in
+    rw here.state_is (quoted_passes p content attribute text here.quoted here.attribute_is)
 
 all_refused : (chunks : List Chunk) → state_after_all refused chunks ≡ refused
 all_refused [] = refl
@@ -170,6 +192,7 @@ all_refused (Markup bytes ∷ chunks) = ap (λ t. state_after_all t chunks) (sta
 all_refused (Slot p Text ∷ chunks) = all_refused chunks
 all_refused (Slot p (UrlPart slot) ∷ chunks) = all_refused chunks
 all_refused (Slot p Link ∷ chunks) = all_refused chunks
+all_refused (Slot p OwnPath ∷ chunks) = all_refused chunks
 
 apart : refused ≡ data_state → ⊥
 apart is = let states : Refused ≡ In place.Text = ap (λ (t : Tokenizer). t.state) is in cc

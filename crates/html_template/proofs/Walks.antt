@@ -1,7 +1,5 @@
 -- The running walk at a slot.
-use Rattle.std.proofs.Common.{ℕ, ◌≡◌, ◌≤◌, ◌+◌, Bool, true, false, List, [], ◌∷◌, Option, Some, None, Result, Ok, length, arith, refl, sym, ap, subst, ◌∙◌, ◌-◌, Err, ⊎_elim}
-use Rattle.std.proofs.lemmas.Bool.{cases_Bool}
-use Rattle.html_template.specs.declared.faults.PartFault.TheVariants.{NotPlain}
+use Rattle.std.proofs.Common.{ℕ, ◌≡◌, ◌≤◌, ◌+◌, Bool, true, false, List, [], ◌∷◌, Option, Some, None, Result, Ok, length, arith, refl, sym, ap, subst, ◌∙◌}
 use Rattle.html_template.specs.declared.faults.PartFault.{PartFault}
 use Rattle.html_template.specs.declared.open_url.OpenUrl.{OpenUrl}
 use Rattle.html_template.specs.declared.open_url.OpenUrl.TheVariants.{Outside, Within, Whole}
@@ -70,6 +68,10 @@ whole_suits true place.DoubleQuoted slot told =
     subst (IsInUrl true place.DoubleQuoted) (ok_slot told) (record { place = refl; suited = refl })
 whole_suits true place.SingleQuoted slot told =
     subst (IsInUrl true place.SingleQuoted) (ok_slot told) (record { place = refl; suited = refl })
+whole_suits false place.DoubleQuoted slot told =
+    subst (IsInUrl false place.DoubleQuoted) (ok_slot told) (record { place = refl; suited = refl })
+whole_suits false place.SingleQuoted slot told =
+    subst (IsInUrl false place.SingleQuoted) (ok_slot told) (record { place = refl; suited = refl })
 whole_suits is_followed p slot told = absurd (cc)
 
 front_suits : (is_followed : Bool) (p : SlotPlace) (markup : Option (List ℕ)) (slot : PlacedSlot) →

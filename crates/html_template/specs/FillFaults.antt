@@ -6,13 +6,14 @@ use Rattle.html_template.specs.declared.faults.FillFault.{FillFault}
 use Rattle.html_template.specs.declared.faults.FillFault.TheVariants as fill
 use Rattle.html_template.specs.declared.faults.FillFault.TheVariants.{WrongCount, Memory}
 use Rattle.html_template.specs.declared.faults.TextFault.{TextFault}
-use Rattle.html_template.specs.declared.faults.TextFault.TheVariants.{EmptyUnquoted, EmptySegment, DotSegment, NotALink}
+use Rattle.html_template.specs.declared.faults.TextFault.TheVariants.{EmptyUnquoted, EmptySegment, DotSegment, NotALink, NotAnOwnPath}
 use Rattle.html_template.specs.declared.parts.SlotKind.{SlotKind}
-use Rattle.html_template.specs.declared.parts.SlotKind.TheVariants.{Text, UrlPart, Link}
+use Rattle.html_template.specs.declared.parts.SlotKind.TheVariants.{Text, UrlPart, Link, OwnPath}
 use Rattle.html_tokenizer.specs.declared.slot_place.SlotPlace.{SlotPlace}
 use Rattle.html_tokenizer.specs.declared.slot_place.SlotPlace.TheVariants.{Unquoted}
 use Rattle.html_template.specs.Templates.{Chunk, Markup, Slot}
 use Rattle.html_urls.specs.Links.{is_link}
+use Rattle.html_urls.specs.OwnPaths.{is_own_path}
 use Rattle.html_urls.specs.Slots as urls
 use Rattle.html_urls.specs.declared.parts.UrlSlot.{UrlSlot}
 
@@ -35,6 +36,7 @@ abbrev pub text_fault : SlotPlace → SlotKind → List ℕ → Option TextFault
 text_fault p Text text = empty_fault p text
 text_fault p (UrlPart slot) text = segment_fault slot text
 text_fault p Link text = if is_link text then None else Some NotALink
+text_fault p OwnPath text = if is_own_path text then None else Some NotAnOwnPath
 
 -- ---- all of them
 
@@ -76,7 +78,7 @@ is_unquoted other = false
 abbrev pub is_checked : SlotPlace → SlotKind → Bool
 is_checked p Text = is_unquoted p
 is_checked p (UrlPart slot) = slot.begins_segment
-is_checked p Link = true
+is_checked p whole = true
 
 -- and one of the slots is such a one
 abbrev pub has_checked : List Chunk → Bool

@@ -3,7 +3,7 @@
 -- what stands after the last of these bytes, and it ends before the next byte that ends it.
 pub mod PlainTexts
 pub mod UrlTexts
-use Rattle.std.specs.Prelude.{ℕ, Bool, false, ◌&&◌, List, [], ◌∷◌, Option, Some, None, Result, Ok, Err, if◌then◌else◌, length, nat_lt, take}
+use Rattle.std.specs.Prelude.{ℕ, Bool, false, List, [], ◌∷◌, Option, Some, None, Result, Ok, Err, if◌then◌else◌, length, nat_lt, take}
 use Rattle.std.specs.List.{position_or_len}
 use Rattle.std.specs.Option.{option_and_then}
 use Rattle.html_tokenizer.specs.declared.slot_place.SlotPlace.{SlotPlace}
@@ -18,7 +18,7 @@ use Rattle.html_template.specs.declared.open_url.OpenUrl.{OpenUrl}
 use Rattle.html_template.specs.declared.open_url.OpenUrl.TheVariants.{Outside, Within, Whole}
 use Rattle.html_template.specs.declared.open_url.PlacedSlot.{PlacedSlot}
 use Rattle.html_template.specs.declared.parts.SlotKind.TheVariants as kind
-use Rattle.html_template.specs.Slots.{is_quoted}
+use Rattle.html_template.specs.Slots.{is_quoted, whole_kind}
 
 -- what markup adds to a URL, which ends behind it or goes on, if it has no white space, no control, no `\` and no reference but `&amp;`, and leaves
 -- no escape open where the URL goes on
@@ -37,10 +37,10 @@ abbrev pub in_part : SlotPlace → Option OpenPart → Result PlacedSlot PartFau
 in_part p None = Err NotFixed
 in_part p (Some part) = at_open p part (slot_at part)
 
--- a slot that is a whole URL, if it stands in quotes and its element only shows or follows it
+-- a slot that is a whole URL, if it stands in quotes: of what its element only shows or follows, or of what the page runs
 abbrev pub whole_slot : SlotPlace → Bool → Result PlacedSlot PartFault
 whole_slot p is_followed =
-    if is_followed && is_quoted p then Ok (record { place = p; kind = kind.Link; url = Whole p }) else Err NotFixed
+    if is_quoted p then Ok (record { place = p; kind = whole_kind is_followed; url = Whole p }) else Err NotFixed
 
 -- behind this text, which the markup before adds to the URL
 abbrev pub behind_text : SlotPlace → Option (List ℕ) → Result PlacedSlot PartFault

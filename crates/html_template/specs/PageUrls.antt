@@ -1,15 +1,15 @@
 -- The URLs of a page: the values of the attributes that hold one, as the tokenizer reads them, and where they lead.
-use Rattle.std.specs.Prelude.{◌≡◌, ◌⊎◌, ⊤, ℕ, true, List, [], ◌∷◌, ◌++◌, Option}
+use Rattle.std.specs.Prelude.{◌≡◌, ◌⊎◌, ⊤, ℕ, List, [], ◌∷◌, ◌++◌, Option}
 use Rattle.std.specs.List.{AllByRecursion}
 use Rattle.std.specs.Str.{IsUtf8}
 use Rattle.html_template.specs.declared.parts.SlotKind.{SlotKind}
 use Rattle.html_template.specs.declared.parts.SlotKind.TheVariants as kind
+use Rattle.html_template.specs.Slots.{IsWholeUrl}
 use Rattle.html_template.specs.Templates.{Chunk, Fill, Markup, Slot, page}
 use Rattle.html_tokenizer.specs.Tokenizer.States.{data_state}
 use Rattle.html_tokenizer.specs.UrlValues.{urls_from}
 use Rattle.html_urls.specs.Heads.{head_of}
 use Rattle.html_urls.specs.Hosts.{IsWebBase}
-use Rattle.html_urls.specs.Links.{is_link}
 use Rattle.html_urls.specs.Parts.Pairs.{string_count}
 use Rattle.html_urls.specs.Parts.Segments.{segment_count}
 use Rattle.url.specs.Parser.{parse_url}
@@ -26,25 +26,33 @@ pub record LeadAlike (first second : List ℕ) : Type 0 where
   pub segments : (base : Option Parts) → IsWebBase base → segment_count (parse_url base first) ≡ segment_count (parse_url base second)
   pub strings : (base : Option Parts) → IsWebBase base → string_count (parse_url base first) ≡ string_count (parse_url base second)
 
--- the texts of slots that are whole URLs, in their order
-abbrev pub whole_url : SlotKind → List ℕ → List (List ℕ)
-whole_url kind.Link text = text ∷ []
-whole_url other text = []
+-- the texts of slots that are whole URLs, each with the kind of its slot, in their order
+abbrev pub WholeUrl : Type 0
+WholeUrl = SlotKind × List ℕ
 
-abbrev pub whole_urls : List Chunk → List (List ℕ) → List (List ℕ)
+abbrev pub whole_url : SlotKind → List ℕ → List WholeUrl
+whole_url kind.Text text = []
+whole_url (kind.UrlPart slot) text = []
+whole_url whole text = (whole, text) ∷ []
+
+abbrev pub whole_urls : List Chunk → List (List ℕ) → List WholeUrl
 whole_urls [] texts = []
 whole_urls (Markup bytes ∷ chunks) texts = whole_urls chunks texts
 whole_urls (Slot p kind ∷ chunks) [] = whole_urls chunks []
 whole_urls (Slot p kind ∷ chunks) (text ∷ texts) = whole_url kind text ++ whole_urls chunks texts
 
--- the URLs of two pages, one by one: each two lead alike, or are the next of such texts, which are links
-abbrev pub AllAlike : List (List ℕ) → List (List ℕ) → List (List ℕ) → List (List ℕ) → Type 0
+-- the URL is such a text, which its slot takes
+abbrev pub IsUrlOf : WholeUrl → List ℕ → Type 0
+IsUrlOf (kind, text) url = (url ≡ text) × IsWholeUrl kind text
+
+-- the URLs of two pages, one by one: each two lead alike, or are the next of such texts
+abbrev pub AllAlike : List WholeUrl → List WholeUrl → List (List ℕ) → List (List ℕ) → Type 0
 AllAlike [] [] [] [] = ⊤
 AllAlike [] [] (first ∷ urls) (second ∷ others) = LeadAlike first second × AllAlike [] [] urls others
-AllAlike (text ∷ texts) (other ∷ more) (first ∷ urls) (second ∷ others) =
-    (LeadAlike first second × AllAlike (text ∷ texts) (other ∷ more) urls others)
-    ⊎ ((first ≡ text) × (second ≡ other) × (is_link text ≡ true) × (is_link other ≡ true) × AllAlike texts more urls others)
-AllAlike texts more urls others = ⊥
+AllAlike (whole ∷ wholes) (other ∷ more) (first ∷ urls) (second ∷ others) =
+    (LeadAlike first second × AllAlike (whole ∷ wholes) (other ∷ more) urls others)
+    ⊎ ((whole.0 ≡ other.0) × IsUrlOf whole first × IsUrlOf other second × AllAlike wholes more urls others)
+AllAlike wholes more urls others = ⊥
 
 -- the URLs of the page of these texts and those of any page of the template are alike
 abbrev pub LeadsAsAny : List Chunk → List (List ℕ) → Type 0

@@ -10,10 +10,11 @@ use Rattle.html_tokenizer.specs.Standing.{is_same, standing}
 use Rattle.html_tokenizer.specs.Tokenizer.States.{In, Tokenizer, at_value, refused}
 use Rattle.html_urls.specs.Components.{component}
 use Rattle.html_urls.specs.Links.{is_link}
+use Rattle.html_urls.specs.OwnPaths.{is_own_path}
 use Rattle.html_urls.specs.Slots as urls
 use Rattle.html_template.specs.Encoders.{encoder_for}
 use Rattle.html_template.specs.declared.parts.SlotKind.{SlotKind}
-use Rattle.html_template.specs.declared.parts.SlotKind.TheVariants.{Text, UrlPart, Link}
+use Rattle.html_template.specs.declared.parts.SlotKind.TheVariants.{Text, UrlPart, Link, OwnPath}
 
 -- a part of a URL is written as a component, which needs no encoding in any value; else the encoder of its place writes the text
 abbrev pub written : SlotPlace → SlotKind → List ℕ → List ℕ
@@ -30,11 +31,20 @@ abbrev pub FitsPlace : SlotPlace → List ℕ → Type 0
 FitsPlace Unquoted text = length text ≢ 0
 FitsPlace other text = ⊤
 
--- a text that begins a segment of a path is not empty, and neither `.` nor `..`; a whole URL is a link
+-- a whole URL is a link, and an own path where the page runs what it leads to, or goes on there
+abbrev pub whole_kind : Bool → SlotKind
+whole_kind is_followed = if is_followed then Link else OwnPath
+
+abbrev pub IsWholeUrl : SlotKind → List ℕ → Type 0
+IsWholeUrl Link text = is_link text ≡ true
+IsWholeUrl OwnPath text = is_own_path text ≡ true
+IsWholeUrl other text = ⊥
+
+-- a text that begins a segment of a path is not empty, and neither `.` nor `..`
 abbrev pub MayFill : SlotPlace → SlotKind → List ℕ → Type 0
 MayFill p Text text = FitsPlace p text
 MayFill p (UrlPart slot) text = urls.may_fill slot text ≡ true
-MayFill p Link text = is_link text ≡ true
+MayFill p whole text = IsWholeUrl whole text
 
 -- the value of an attribute in quotes
 abbrev pub is_quoted : SlotPlace → Bool
@@ -48,6 +58,7 @@ suits Text p (Stands q) = is_same p q
 suits (UrlPart slot) p (InUrl q) = is_same p q
 suits (UrlPart slot) p (InLink q) = is_same p q
 suits Link p (InLink q) = is_quoted p && is_same p q
+suits OwnPath p (InUrl q) = is_quoted p && is_same p q
 suits kind p other = false
 
 -- the tokenizer after a slot, by the template alone

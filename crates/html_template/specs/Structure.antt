@@ -1,5 +1,5 @@
 -- The structure of a page: the actions at it, without the bytes of its texts and values.
-use Rattle.std.specs.Prelude.{◌≡◌, ⊤, ℕ, Bool, true, false, List, ◌++◌, Option, Some, None}
+use Rattle.std.specs.Prelude.{◌≡◌, ⊤, ℕ, Bool, true, false, List, ◌++◌, Option, Some}
 use Rattle.std.specs.List.{AllByRecursion, filter}
 use Rattle.std.specs.Str.{IsUtf8}
 use Rattle.html_tokenizer.specs.Tokenizer.Actions.{Action, EmitByte, ValueByte, StringByte}

@@ -57,6 +57,9 @@ pub enum TextFault {
     DotSegment,
     /// It is for a whole URL, and its scheme is none of `http`, `https` and `mailto`.
     NotALink,
+    /// It is for a whole URL that the page runs, as of a script, and leads to no path of the page's own host:
+    /// it does not begin with one `/`, or has white space, a control, a `\` or a segment that may be `.` or `..`.
+    NotAnOwnPath,
 }
 
 /// Why texts do not fill a template.

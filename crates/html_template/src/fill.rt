@@ -11,7 +11,7 @@ use crate::parts::SlotKind;
 use crate::stored::{Stored, StoredSlot};
 use crate::texts::Texts;
 use html_tokenizer::SlotPlace;
-use html_urls::{UrlSlot, is_link, may_fill};
+use html_urls::{UrlSlot, is_link, is_own_path, may_fill};
 
 fn empty_fault(place: SlotPlace, text: &str) -> Option<TextFault>
     ensures { result ≡ empty_fault place text.now }
@@ -44,6 +44,8 @@ pub fn text_fault(slot: &StoredSlot, text: &str) -> Option<TextFault>
         SlotKind::UrlPart(url_slot) => segment_fault(url_slot, text),
         SlotKind::Link if is_link(text) => None,
         SlotKind::Link => Some(TextFault::NotALink),
+        SlotKind::OwnPath if is_own_path(text) => None,
+        SlotKind::OwnPath => Some(TextFault::NotAnOwnPath),
     }
 }
 
@@ -54,7 +56,7 @@ fn is_checked(slot: &StoredSlot) -> bool
     match slot.kind {
         SlotKind::Text => slot.place == SlotPlace::Unquoted,
         SlotKind::UrlPart(url_slot) => url_slot.begins_segment,
-        SlotKind::Link => true,
+        SlotKind::Link | SlotKind::OwnPath => true,
     }
 }
 

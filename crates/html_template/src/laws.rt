@@ -60,7 +60,9 @@ pub fn token_law()
 
 /// The URLs of two pages of the same parts, which are the values of their attributes that hold one, as
 /// the tokenizer reads them: they are as many, and one by one each two lead alike, or are the texts of
-/// a slot that is a whole URL. These texts are links, and each is met once, in the order of the slots.
+/// a slot that is a whole URL. Each of these texts is met once, in the order of the slots: both are links,
+/// or where the slot is an own path both are own paths, which `html_urls::laws::own_path_law` says to lead
+/// to the scheme, user, password, host and port of the page.
 ///
 /// Two URLs lead alike if on any page of the web, and on none, both are refused or have one scheme,
 /// user, password, host and port, as many segments and as many strings between `&`.
@@ -81,7 +83,7 @@ pub fn url_law()
 
 /// The URLs of a page, as the tokenizer reads them, are those of its template, `template_urls parts`,
 /// filled by the texts of its slots in URLs, in order: a part of a URL is the component of its text, a
-/// whole URL is its text, which is a link, and no text is left. So what `html_urls::laws` say of a URL's
+/// whole URL is its text, which is a link or an own path as its slot asks, and no text is left. So what `html_urls::laws` say of a URL's
 /// parts and their texts holds of the URLs of a page.
 ///
 /// For instance `<a href="/?q=`, a slot and `&amp;p=1">` has one URL, of the parts `/?q=`, a slot and

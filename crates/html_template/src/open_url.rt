@@ -3,7 +3,7 @@ pub(crate) mod markup;
 
 ghost use Rattle.std.specs.Prelude.{◌≡◌, IfOk, option_map};
 ghost use Rattle.html_template.specs.OpenUrls.{behind_link, first_slot, in_part, url_end, url_markup, url_slot, whole_slot};
-ghost use Rattle.html_template.specs.Slots.{is_quoted};
+ghost use Rattle.html_template.specs.Slots.{is_quoted, whole_kind};
 
 use crate::faults::PartFault;
 use crate::open_url::markup::{after_last, ends_value, plain_text, value_length};
@@ -54,16 +54,27 @@ fn in_part(place: SlotPlace, open_part: Option<OpenPart>) -> Result<PlacedSlot, 
     })
 }
 
-// A slot that is a whole URL, if it stands in quotes and its element only shows or follows it.
+// The kind of a slot that is a whole URL, by whether its element only shows or follows it.
+fn whole_kind(is_followed: bool) -> SlotKind
+    ensures { result ≡ whole_kind is_followed }
+{
+    if is_followed {
+        SlotKind::Link
+    } else {
+        SlotKind::OwnPath
+    }
+}
+
+// A slot that is a whole URL, if it stands in quotes.
 fn whole_slot(place: SlotPlace, is_followed: bool) -> Result<PlacedSlot, PartFault>
     ensures { result ≡ whole_slot place is_followed }
 {
-    if !is_followed || !is_quoted(place) {
+    if !is_quoted(place) {
         return Err(PartFault::NotFixed);
     }
     Ok(PlacedSlot {
         place,
-        kind: SlotKind::Link,
+        kind: whole_kind(is_followed),
         url: OpenUrl::Whole(place),
     })
 }

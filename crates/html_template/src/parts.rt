@@ -17,6 +17,9 @@ pub enum SlotKind {
     Text,
     /// The value of a part of a URL, which is written as a component.
     UrlPart(UrlSlot),
-    /// A whole URL, which has to be a link and is encoded for its place.
+    /// A whole URL that its element only shows or follows. It has to be a link, and is encoded for its place.
     Link,
+    /// A whole URL that the page runs, frames, sends to or goes on with. It has to be an own path, and is
+    /// encoded for its place.
+    OwnPath,
 }

@@ -2,7 +2,7 @@
 use Rattle.std.proofs.Common.{ℕ, ◌≡◌, true, false, List, [], ◌∷◌, ◌++◌, map, refl, sym, ap, ◌∙◌, ⊎_elim, append-nil, append_assoc}
 use Rattle.std.proofs.lemmas.Bool.{cases_Bool, true≢false}
 use Rattle.html_template.specs.declared.open_url.OpenUrl.TheVariants.{Outside}
-use Rattle.html_template.specs.FilledUrls.{Fixed, Parts, Slotted, Whole, url_texts, urls_behind}
+use Rattle.html_template.specs.FilledUrls.{Fixed, Parts, Whole, url_texts}
 use Rattle.html_template.specs.PageUrls.{whole_urls}
 use Rattle.html_template.specs.Templates.{Chunk, Markup, page}
 use Rattle.html_tokenizer.specs.Tokenizer.States.{Tokenizer}
@@ -92,7 +92,7 @@ module _ (here there : Tokenizer) (tame : IsTame here) (fresh : IsFresh here [])
     pub ends_in : EndsBehind here (text ++ added) (Markup all ∷ chunks)
     ends_in = record {
       later = map Fixed fixed ++ found.urls;
-      told = rw (ends_there raw text added b rest stays ends, left_behind) (ap (λ urls. Whole ∷ (map Fixed fixed ++ urls)) found.told);
+      told = λ kind. rw (ends_there raw text added b rest stays ends, left_behind) (ap (λ urls. Whole kind ∷ (map Fixed fixed ++ urls)) found.told);
       ends = λ value texts full utf8. record {
         others = fixed ++ urls_from (state_after here all) left (page chunks texts);
         same = ended_urls raw text added b rest value (page chunks texts) stays ends;

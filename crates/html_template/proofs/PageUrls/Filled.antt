@@ -1,8 +1,9 @@
 -- What is proved of a template from one place on: the URLs there, which the texts fill, and how the URL that is open goes on.
 use Rattle.std.proofs.Common.{ℕ, ◌≡◌, List, [], ◌∷◌, ◌++◌, IsUtf8, Ok, ap, ◌∙◌, append_assoc, drop, map, take}
 use Rattle.std.specs.List.{AllByRecursion}
+use Rattle.html_template.specs.declared.parts.SlotKind.{SlotKind}
 use Rattle.html_template.specs.FilledUrls.{FillUrls, Fixed, OneSlot, Parts, Slotted, TemplateUrl, Value, Whole, filled_urls, slots_in, url_texts, urls_behind, whole_texts}
-use Rattle.html_template.specs.PageUrls.{whole_urls}
+use Rattle.html_template.specs.PageUrls.{WholeUrl, whole_urls}
 use Rattle.html_template.specs.Templates.{Chunk, Fill, page}
 use Rattle.html_tokenizer.specs.Tokenizer.States.{Tokenizer}
 use Rattle.html_tokenizer.specs.UrlValues.{urls_from}
@@ -12,13 +13,13 @@ use Rattle.html_urls.specs.declared.open_part.OpenPart.{OpenPart}
 use Rattle.html_urls.specs.declared.parts.UrlSlot.{UrlSlot}
 
 -- the URLs that are found are these, filled by the texts, of which those that are whole URLs are the template's
-pub record IsFilled (found whole : List (List ℕ)) (urls : List TemplateUrl) (texts : List (List ℕ)) : Type 0 where
+pub record IsFilled (found : List (List ℕ)) (whole : List WholeUrl) (urls : List TemplateUrl) (texts : List (List ℕ)) : Type 0 where
   pub same : found ≡ filled_urls urls texts
   pub full : FillUrls urls texts
   pub whole_same : whole ≡ whole_texts urls texts
 
 -- URLs without slots before them
-pub fixed_before : (fixed found whole : List (List ℕ)) (urls : List TemplateUrl) (texts : List (List ℕ)) → IsFilled found whole urls texts →
+pub fixed_before : (fixed found : List (List ℕ)) (whole : List WholeUrl) (urls : List TemplateUrl) (texts : List (List ℕ)) → IsFilled found whole urls texts →
     IsFilled (fixed ++ found) whole (map Fixed fixed ++ urls) texts
 fixed_before [] found whole urls texts is = is
 fixed_before (url ∷ fixed) found whole urls texts is =
@@ -26,12 +27,12 @@ fixed_before (url ∷ fixed) found whole urls texts is =
     record { same = ap (λ others. url ∷ others) more.same; full = more.full; whole_same = more.whole_same }
 
 -- this URL ends first
-pub record EndsFirst (found whole : List (List ℕ)) (value : List ℕ) (later : List TemplateUrl) (texts : List (List ℕ)) : Type 0 where
+pub record EndsFirst (found : List (List ℕ)) (whole : List WholeUrl) (value : List ℕ) (later : List TemplateUrl) (texts : List (List ℕ)) : Type 0 where
   pub others : List (List ℕ)
   pub same : found ≡ value ∷ others
   pub filled : IsFilled others whole later texts
 
-pub ends_more : (value text more : List ℕ) {found next whole : List (List ℕ)} {later : List TemplateUrl} {texts : List (List ℕ)} → found ≡ next →
+pub ends_more : (value text more : List ℕ) {found next : List (List ℕ)} {whole : List WholeUrl} {later : List TemplateUrl} {texts : List (List ℕ)} → found ≡ next →
     EndsFirst next whole ((value ++ text) ++ more) later texts → EndsFirst found whole (value ++ (text ++ more)) later texts
 ends_more value text more same ends = record {
   others = ends.others;
@@ -51,7 +52,7 @@ pub record HasLater (t : Tokenizer) (value : List ℕ) (chunks : List Chunk) : T
 -- where the URL that is open goes on with this text and ends
 pub record EndsBehind (t : Tokenizer) (text : List ℕ) (chunks : List Chunk) : Type 0 where
   pub later : List TemplateUrl
-  pub told : urls_behind t OneSlot chunks ≡ Whole ∷ later
+  pub told : (kind : SlotKind) → urls_behind t (OneSlot kind) chunks ≡ Whole kind ∷ later
   pub ends : (value : List ℕ) (texts : List (List ℕ)) → Fill chunks texts → AllByRecursion IsUtf8 texts →
       EndsFirst (urls_from t value (page chunks texts)) (whole_urls chunks texts) (value ++ text) later (url_texts chunks texts)
 

@@ -7,7 +7,7 @@ use Rattle.html_template.specs.declared.open_url.PlacedSlot.{PlacedSlot}
 use Rattle.html_template.specs.FilledUrls.{AreFilled, HasUrls, HasUrlsOf, piece_urls, url_texts}
 use Rattle.html_template.specs.PageUrls.{LeadsAsAny}
 use Rattle.html_template.specs.TemplateFaults.{Walk, at_beginning, behind_markup, behind_slot, pieces_from, template_of}
-use Rattle.html_template.specs.Templates.{Chunk, Fill, Given, GivenMarkup, GivenSlot, after_slot, page, part_of}
+use Rattle.html_template.specs.Templates.{Chunk, Fill, Given, GivenMarkup, GivenSlot, after_slot, part_of}
 use Rattle.html_tokenizer.specs.Standing.{may_end, standing}
 use Rattle.html_tokenizer.specs.Tokenizer.States.{Tokenizer, data_state}
 use Rattle.html_tokenizer.proofs.UrlValues.Slots.Tame.{IsTame, data_state_is_tame, tame_after}

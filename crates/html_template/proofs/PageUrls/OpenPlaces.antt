@@ -29,7 +29,7 @@ use Rattle.html_template.proofs.PageUrls.OpenEnds.{no_end}
 use Rattle.html_template.proofs.PageUrls.Opening.{StandsAt, value_place}
 use Rattle.html_template.proofs.PageUrls.Placed.{InPart, IsFirst, behind, first_told, part_told, whole}
 use Rattle.html_template.proofs.PageUrls.SlotSteps.{past_slot}
-use Rattle.html_template.proofs.TemplateLaw.{link_in_url, part_in_url}
+use Rattle.html_template.proofs.TemplateLaw.{part_in_url, whole_in_url}
 use Rattle.html_template.proofs.Walks.{ok_slot, slot_suits}
 use Rattle.html_template.proofs.PageUrls.Splitting.{IsCut, IsWhole, whole_or_cut}
 
@@ -101,7 +101,7 @@ part_opens : (p : SlotPlace) (part : OpenPart) (slot : PlacedSlot) → InPart p 
 part_opens p part slot placed = subst OpensUrl placed.is (λ t url. record { state_is = refl; attribute_is = url })
 
 first_opens : (p : SlotPlace) (markup : List ℕ) (slot : PlacedSlot) → IsFirst p markup slot → OpensUrl slot
-first_opens p markup slot (whole last is) = subst OpensUrl is (λ t url. record { state_is = refl; attribute_is = url })
+first_opens p markup slot (whole is_followed last is) = subst OpensUrl is (λ t url. record { state_is = refl; attribute_is = url })
 first_opens p markup slot (behind raw last front) = part_opens p front.part slot front.placed
 
 url_opens : (p : SlotPlace) (is_followed : Bool) (markup : List ℕ) (url : OpenUrl) (slot : PlacedSlot) →
@@ -114,7 +114,8 @@ url_opens p is_followed markup (Whole q) slot told = absurd (cc)
 holds_url : (found : SlotKind) (p : SlotPlace) (t : Tokenizer) → suits found p (standing t) ≡ true → suits kind.Text p (standing t) ≡ false → is_url t.attribute ≡ true
 holds_url kind.Text p t suited no_text = absurd (true≢false (sym suited ∙ no_text))
 holds_url (kind.UrlPart slot) p t suited no_text = (part_in_url slot p t.state t.content t.attribute suited).attribute_is
-holds_url kind.Link p t suited no_text = (link_in_url p t.state t.content t.attribute suited).attribute_is
+holds_url kind.Link p t suited no_text = (whole_in_url true p t.state t.content t.attribute suited).attribute_is
+holds_url kind.OwnPath p t suited no_text = (whole_in_url false p t.state t.content t.attribute suited).attribute_is
 
 pub slot_stands : (markup : List ℕ) (url : OpenUrl) (t : Tokenizer) (s : Standing) (slot : PlacedSlot) → standing t ≡ s →
     slot_at markup url s ≡ Ok slot → OpenStands slot.url (past_slot t slot.place)

@@ -1,9 +1,10 @@
 -- What a slot in a URL was told to be.
-use Rattle.std.proofs.Common.{ℕ, ◌≡◌, Bool, true, false, List, [], ◌∷◌, Option, Some, None, Ok, refl}
+use Rattle.std.proofs.Common.{ℕ, ◌≡◌, Bool, false, List, [], ◌∷◌, Option, Some, None, Ok, refl}
 use Rattle.html_template.specs.declared.open_url.OpenUrl.TheVariants.{Within, Whole}
 use Rattle.html_template.specs.declared.open_url.PlacedSlot.{PlacedSlot}
 use Rattle.html_template.specs.declared.parts.SlotKind.TheVariants as kind
 use Rattle.html_template.specs.OpenUrls.{at_open, behind_text, first_slot, in_part, plain_text, whole_slot}
+use Rattle.html_template.specs.Slots.{whole_kind}
 use Rattle.html_tokenizer.specs.declared.slot_place.SlotPlace.{SlotPlace}
 use Rattle.html_tokenizer.specs.declared.slot_place.SlotPlace.TheVariants as place
 use Rattle.html_tokenizer.specs.UrlValues.{after_last, begins_value}
@@ -16,8 +17,8 @@ use Rattle.html_template.proofs.Walks.{ok_slot}
 abbrev pub part_slot : SlotPlace → OpenPart → UrlSlot → PlacedSlot
 part_slot p part slot = record { place = p; kind = kind.UrlPart slot; url = Within p (after_text part) }
 
-abbrev pub link_slot : SlotPlace → PlacedSlot
-link_slot p = record { place = p; kind = kind.Link; url = Whole p }
+abbrev pub quoted_slot : SlotPlace → Bool → PlacedSlot
+quoted_slot p is_followed = record { place = p; kind = whole_kind is_followed; url = Whole p }
 
 -- a slot where this part of a URL is open
 pub record InPart (p : SlotPlace) (part : OpenPart) (slot : PlacedSlot) : Type 0 where
@@ -53,20 +54,20 @@ front_told p raw slot None is told = absurd (cc)
 front_told p raw slot (Some text) is told =
     opened_told p raw text slot (open_of text) (adds_text false raw text is) refl told
 
-whole_told : (is_followed : Bool) (p : SlotPlace) (slot : PlacedSlot) → whole_slot p is_followed ≡ Ok slot → link_slot p ≡ slot
-whole_told true place.DoubleQuoted slot told = ok_slot told
-whole_told true place.SingleQuoted slot told = ok_slot told
+whole_told : (is_followed : Bool) (p : SlotPlace) (slot : PlacedSlot) → whole_slot p is_followed ≡ Ok slot → quoted_slot p is_followed ≡ slot
+whole_told is_followed place.DoubleQuoted slot told = ok_slot told
+whole_told is_followed place.SingleQuoted slot told = ok_slot told
 whole_told is_followed p slot told = absurd (cc)
 
 -- it is a whole URL, or stands behind markup
 pub data IsFirst (p : SlotPlace) (markup : List ℕ) (slot : PlacedSlot) : Type 0 where
-  whole : after_last (begins_value p) markup ≡ Some [] → link_slot p ≡ slot → IsFirst p markup slot
+  whole : (is_followed : Bool) → after_last (begins_value p) markup ≡ Some [] → quoted_slot p is_followed ≡ slot → IsFirst p markup slot
   behind : (raw : List ℕ) → after_last (begins_value p) markup ≡ Some raw → BehindFront p raw slot → IsFirst p markup slot
 
 last_told : (p : SlotPlace) (is_followed : Bool) (markup : List ℕ) (slot : PlacedSlot) (last : Option (List ℕ)) →
     after_last (begins_value p) markup ≡ last → first_slot p is_followed last ≡ Ok slot → IsFirst p markup slot
 last_told p is_followed markup slot None is told = absurd (cc)
-last_told p is_followed markup slot (Some []) is told = whole is (whole_told is_followed p slot told)
+last_told p is_followed markup slot (Some []) is told = whole is_followed is (whole_told is_followed p slot told)
 last_told p is_followed markup slot (Some (b ∷ raw)) is told =
     behind (b ∷ raw) is (front_told p (b ∷ raw) slot (plain_text false (b ∷ raw)) refl told)
 

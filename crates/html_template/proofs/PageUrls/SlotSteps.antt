@@ -22,8 +22,8 @@ use Rattle.html_template.proofs.PageUrls.OpenEnds.{no_slot_behind, no_text_stand
 use Rattle.html_template.proofs.PageUrls.Opening.{FromMarkup, Goes, StandsAt, value_place}
 use Rattle.html_template.proofs.PageUrls.Placed.{IsFirst, behind, first_told, part_told, whole}
 use Rattle.html_template.proofs.PageUrls.TextSlots.{text_goes, text_stands_apart}
-use Rattle.html_template.proofs.PageUrls.UrlSlots.{first_goes, later_goes, link_goes}
-use Rattle.html_template.proofs.TemplateLaw.{link_in_url, part_in_url}
+use Rattle.html_template.proofs.PageUrls.UrlSlots.{first_goes, later_goes, quoted_place, whole_goes}
+use Rattle.html_template.proofs.TemplateLaw.{part_in_url, whole_in_url}
 use Rattle.html_template.proofs.Walks.{ok_slot, same_itself, slot_suits}
 
 abbrev pub past_slot : Tokenizer → SlotPlace → Tokenizer
@@ -34,9 +34,8 @@ past_slot t p = at_value (In p) t.content t.attribute
 tame_of_kind : (kind : SlotKind) (p : SlotPlace) (t : Tokenizer) → IsTame t → suits kind p (standing t) ≡ true → IsTame (past_slot t p)
 tame_of_kind kind.Text p t tame suited = no_url_tame (past_slot t p) (text_stands_apart p t suited).no_url
 tame_of_kind (kind.UrlPart slot) p t tame suited = λ is. value_place p t tame (part_in_url slot p t.state t.content t.attribute suited)
-tame_of_kind kind.Link p t tame suited = λ is.
-    let in_value = link_in_url p t.state t.content t.attribute suited in
-    value_place p t tame (record { state_is = in_value.state_is; attribute_is = in_value.attribute_is })
+tame_of_kind kind.Link p t tame suited = λ is. quoted_place p t tame (whole_in_url true p t.state t.content t.attribute suited)
+tame_of_kind kind.OwnPath p t tame suited = λ is. quoted_place p t tame (whole_in_url false p t.state t.content t.attribute suited)
 
 pub tame_behind : (markup : List ℕ) (url : OpenUrl) (t : Tokenizer) (slot : PlacedSlot) → IsTame t →
     slot_at markup url (standing t) ≡ Ok slot → IsTame (past_slot t slot.place)
@@ -52,12 +51,12 @@ module _ (t : Tokenizer) (chunks : List Chunk) (tame : IsTame t) where
 
   first_slot : (p : SlotPlace) (markup value : List ℕ) (slot : PlacedSlot) → in_url p (standing t) ≡ true → FromMarkup t markup value →
       IsFirst p markup slot → FromSlot (HasLater t value) slot
-  first_slot p markup value slot stands from (whole last is) =
+  first_slot p markup value slot stands from (whole is_followed last is) =
       let stood = rw from.after at stands in
       let none : value ≡ [] = from.is ∙ open_at_slot p from.start from.before markup [] [] from.tame from.fresh stood last refl in
       subst (FromSlot (HasLater t value)) is
       (λ suited goes.
-      link_goes t p chunks tame suited value none (goes (record { state_is = refl; attribute_is = (link_in_url p t.state t.content t.attribute suited).attribute_is })))
+      whole_goes is_followed t p chunks tame suited value none (goes (record { state_is = refl; attribute_is = (whole_in_url is_followed p t.state t.content t.attribute suited).attribute_is })))
   first_slot p markup value slot stands from (behind raw last front) =
       let stood = rw from.after at stands in
       let same : value ≡ front.text = from.is ∙ open_at_slot p from.start from.before markup raw front.text from.tame from.fresh stood last front.adds.read in

@@ -1,20 +1,23 @@
 -- A slot for a part of a URL, and one that is a whole URL.
-use Rattle.std.proofs.Common.{ℕ, ◌≡◌, ◌+◌, true, false, List, [], ◌∷◌, ◌++◌, IsUtf8, IsOkAnd, Ok, Some, drop, take, refl, sym, ap, ◌∙◌, subst, append-nil, append_assoc}
+use Rattle.std.proofs.Common.{ℕ, ◌≡◌, ◌+◌, Bool, map, true, false, List, [], ◌∷◌, ◌++◌, IsUtf8, IsOkAnd, Ok, Some, drop, take, refl, sym, ap, ◌∙◌, subst, append-nil, append_assoc}
 use Rattle.std.specs.List.{AllByRecursion}
 use Rattle.std.proofs.lemmas.Bool.{false≢true}
 use Rattle.hesc_places.specs.Places.ReadBack.{read_back}
+use Rattle.html_template.specs.declared.parts.SlotKind.{SlotKind}
 use Rattle.html_template.specs.declared.parts.SlotKind.TheVariants as kind
 use Rattle.html_template.specs.Encoders.{encoder_for}
 use Rattle.html_template.specs.FilledUrls.{Parts, Whole, slots_in, url_texts}
 use Rattle.html_template.specs.PageUrls.{whole_urls}
-use Rattle.html_template.specs.Slots.{is_quoted, suits, written}
+use Rattle.html_template.specs.Slots.{IsWholeUrl, is_quoted, suits, whole_kind, written}
 use Rattle.html_template.specs.Templates.{Chunk, Fill, Slot, page}
 use Rattle.html_tokenizer.specs.declared.slot_place.SlotPlace.{SlotPlace}
 use Rattle.html_tokenizer.specs.declared.slot_place.SlotPlace.TheVariants as place
 use Rattle.html_tokenizer.specs.Standing.{standing}
+use Rattle.html_tokenizer.specs.Tokenizer.Actions.{read_byte}
 use Rattle.html_tokenizer.specs.Tokenizer.States.{In, Tokenizer, at_value}
-use Rattle.html_tokenizer.specs.Tokenizer.Tokenization.{state_after}
 use Rattle.html_tokenizer.specs.UrlValues.{urls_from}
+use Rattle.html_tokenizer.proofs.Passing.{Passes}
+use Rattle.html_tokenizer.proofs.UrlValues.Places.{is_value_place}
 use Rattle.html_tokenizer.proofs.UrlValues.Apart.Bytes.{KeepsUrl}
 use Rattle.html_tokenizer.proofs.UrlValues.Apart.Texts.{text_in_url}
 use Rattle.html_tokenizer.proofs.UrlValues.Slots.Components.{component_added, is_component_byte}
@@ -22,7 +25,6 @@ use Rattle.html_tokenizer.proofs.UrlValues.Slots.Tame.{IsTame}
 use Rattle.html_tokenizer.proofs.UrlValues.Staying.{StaysUrl}
 use Rattle.html_urls.proofs.Components.{component_bytes}
 use Rattle.html_urls.specs.Components.{component}
-use Rattle.html_urls.specs.Links.{is_link}
 use Rattle.html_urls.specs.OpenParts.{after_text, open_of, slot_at}
 use Rattle.html_urls.specs.Slots as part
 use Rattle.html_urls.specs.Slots.{FillSlots, Given, Told, is_plain, slots_of, url_of}
@@ -31,7 +33,7 @@ use Rattle.html_urls.specs.declared.parts.UrlSlot.{UrlSlot}
 use Rattle.url.proofs.InputLemmas.{list_all_from_All}
 use Rattle.html_template.proofs.PageUrls.Filled.{EndsBehind, EndsFirst, GoesOn, HasLater, IsFilled, ends_more}
 use Rattle.html_template.proofs.PageUrls.Opening.{behind_bytes, value_place}
-use Rattle.html_template.proofs.TemplateLaw.{link_in_url, part_in_url, slot_passes}
+use Rattle.html_template.proofs.TemplateLaw.{IsInQuotes, part_in_url, slot_passes, whole_in_url}
 
 -- ---- a part of a URL
 
@@ -114,37 +116,52 @@ itself_back place.DoubleQuoted quoted bytes = refl
 itself_back place.SingleQuoted quoted bytes = refl
 itself_back p quoted bytes = absurd (false≢true quoted)
 
-module _ (t : Tokenizer) (p : SlotPlace) (chunks : List Chunk) (tame : IsTame t) (suited : suits kind.Link p (standing t) ≡ true) where
-  abbrev link_next : Tokenizer
-  link_next = at_value (In p) t.content t.attribute
+pub quoted_place : (p : SlotPlace) (t : Tokenizer) → IsTame t → IsInQuotes p t.state t.attribute → is_value_place p ≡ true
+quoted_place p t tame stands = value_place p t tame (record { state_is = stands.state_is; attribute_is = stands.attribute_is })
 
-  link_in : (bytes : List ℕ) → is_link bytes ≡ true → IsUtf8 bytes → KeepsUrl t (written p kind.Link bytes) bytes
-  link_in bytes link utf8 =
-      let in_value = link_in_url p t.state t.content t.attribute suited in
-      let place = value_place p t tame (record { state_is = in_value.state_is; attribute_is = in_value.attribute_is }) in
-      subst (λ (x : List ℕ). KeepsUrl t (written p kind.Link bytes) x) (itself_back p in_value.quoted bytes)
-      (text_in_url p t link_next (written p kind.Link bytes) (read_back (encoder_for p) bytes) place tame
-      in_value.attribute_is in_value.attribute_is (slot_passes p kind.Link t.state t.content t.attribute bytes suited link utf8))
+module _ (t : Tokenizer) (p : SlotPlace) (chunks : List Chunk) (tame : IsTame t) where
+  abbrev whole_next : Tokenizer
+  whole_next = at_value (In p) t.content t.attribute
 
-  link_filled : (end : EndsBehind link_next [] chunks) (texts : List (List ℕ)) → Fill (Slot p kind.Link ∷ chunks) texts → AllByRecursion IsUtf8 texts →
-      IsFilled (urls_from t [] (page (Slot p kind.Link ∷ chunks) texts)) (whole_urls (Slot p kind.Link ∷ chunks) texts)
-      (Whole ∷ end.later) (url_texts (Slot p kind.Link ∷ chunks) texts)
-  link_filled end [] full utf8 = absurd full
-  link_filled end (text ∷ texts) full utf8 =
-      let bytes : List ℕ = written p kind.Link text in
-      let keeps = link_in text full.0 utf8.0 in
-      let after : state_after t bytes ≡ link_next = (slot_passes p kind.Link t.state t.content t.attribute text suited full.0 utf8.0).after in
-      let ends = end.ends text texts full.1 utf8.1 in
+  -- what is written for the text is read as the text, and then what is behind it
+  text_keeps : (text bytes : List ℕ) → IsInQuotes p t.state t.attribute →
+      Passes t bytes (map (read_byte p) (read_back (encoder_for p) text)) whole_next → KeepsUrl t bytes text
+  text_keeps text bytes stands passes =
+      subst (λ (x : List ℕ). KeepsUrl t bytes x) (itself_back p stands.quoted text)
+      (text_in_url p t whole_next bytes (read_back (encoder_for p) text) (quoted_place p t tame stands) tame stands.attribute_is stands.attribute_is passes)
+
+  text_filled : (kind : SlotKind) (text bytes : List ℕ) (texts : List (List ℕ)) (end : EndsBehind whole_next [] chunks) → IsInQuotes p t.state t.attribute →
+      Passes t bytes (map (read_byte p) (read_back (encoder_for p) text)) whole_next → IsWholeUrl kind text → Fill chunks texts → AllByRecursion IsUtf8 texts →
+      IsFilled (urls_from t [] (bytes ++ page chunks texts)) ((kind, text) ∷ whole_urls chunks texts) (Whole kind ∷ end.later) (text ∷ url_texts chunks texts)
+  text_filled kind text bytes texts end stands passes is full utf8 =
+      let keeps = text_keeps text bytes stands passes in
+      let ends = end.ends text texts full utf8 in
       record {
-        same = behind_bytes t [] bytes (page chunks texts) (keeps.none_ends []) after (keeps.value [])
+        same = behind_bytes t [] bytes (page chunks texts) (keeps.none_ends []) passes.after (keeps.value [])
             ∙ ends.same
             ∙ ap (λ url. url ∷ ends.others) (append-nil text)
             ∙ ap (λ others. text ∷ others) ends.filled.same;
-        full = (full.0, ends.filled.full);
-        whole_same = ap (λ more. text ∷ more) ends.filled.whole_same;
+        full = (is, ends.filled.full);
+        whole_same = ap (λ more. (kind, text) ∷ more) ends.filled.whole_same;
       }
 
-  pub link_goes : (value : List ℕ) → value ≡ [] → EndsBehind link_next [] chunks → HasLater t value (Slot p kind.Link ∷ chunks)
-  link_goes value none end =
-      subst (λ (x : List ℕ). HasLater t x (Slot p kind.Link ∷ chunks)) (sym none)
-      (record { urls = Whole ∷ end.later; told = rw suited end.told; filled = link_filled end })
+  whole_filled : (is_followed : Bool) → suits (whole_kind is_followed) p (standing t) ≡ true → (end : EndsBehind whole_next [] chunks) (texts : List (List ℕ)) →
+      Fill (Slot p (whole_kind is_followed) ∷ chunks) texts → AllByRecursion IsUtf8 texts →
+      IsFilled (urls_from t [] (page (Slot p (whole_kind is_followed) ∷ chunks) texts)) (whole_urls (Slot p (whole_kind is_followed) ∷ chunks) texts)
+      (Whole (whole_kind is_followed) ∷ end.later) (url_texts (Slot p (whole_kind is_followed) ∷ chunks) texts)
+  whole_filled is_followed suited end [] full utf8 = absurd full
+  whole_filled true suited end (text ∷ texts) full utf8 =
+      text_filled kind.Link text (written p kind.Link text) texts end (whole_in_url true p t.state t.content t.attribute suited)
+      (slot_passes p kind.Link t.state t.content t.attribute text suited full.0 utf8.0) full.0 full.1 utf8.1
+  whole_filled false suited end (text ∷ texts) full utf8 =
+      text_filled kind.OwnPath text (written p kind.OwnPath text) texts end (whole_in_url false p t.state t.content t.attribute suited)
+      (slot_passes p kind.OwnPath t.state t.content t.attribute text suited full.0 utf8.0) full.0 full.1 utf8.1
+
+pub whole_goes : (is_followed : Bool) (t : Tokenizer) (p : SlotPlace) (chunks : List Chunk) → IsTame t → suits (whole_kind is_followed) p (standing t) ≡ true →
+    (value : List ℕ) → value ≡ [] → EndsBehind (at_value (In p) t.content t.attribute) [] chunks → HasLater t value (Slot p (whole_kind is_followed) ∷ chunks)
+whole_goes is_followed t p chunks tame suited value none end =
+    subst (λ (x : List ℕ). HasLater t x (Slot p (whole_kind is_followed) ∷ chunks)) (sym none) (found is_followed suited)
+  where
+    found : (is_followed : Bool) → suits (whole_kind is_followed) p (standing t) ≡ true → HasLater t [] (Slot p (whole_kind is_followed) ∷ chunks)
+    found true suited = record { urls = Whole kind.Link ∷ end.later; told = rw suited (end.told kind.Link); filled = whole_filled t p chunks tame true suited end }
+    found false suited = record { urls = Whole kind.OwnPath ∷ end.later; told = rw suited (end.told kind.OwnPath); filled = whole_filled t p chunks tame false suited end }
