@@ -13,6 +13,7 @@ use Rattle.html_template.specs.declared.parts.SlotKind.TheVariants as kind
 use Rattle.html_tokenizer.specs.declared.slot_place.SlotPlace.{SlotPlace}
 use Rattle.html_tokenizer.specs.declared.slot_place.SlotPlace.TheVariants.{Unquoted}
 use Rattle.html_urls.specs.Links.{is_link}
+use Rattle.html_urls.specs.OwnPaths.{is_own_path}
 use Rattle.html_urls.specs.Slots.{may_fill}
 use Rattle.html_urls.specs.declared.parts.UrlSlot.{UrlSlot}
 use Rattle.html_view.specs.Data.{Datum, Stack, look_up, stacks}
@@ -52,6 +53,11 @@ text_fits p kind.Link text is =
     (λ (link : is_link text ≡ true). link)
     (λ (none : is_link text ≡ false). let here : Some fault.NotALink ≡ None = rw none at is in absurd (cc))
     (cases_Bool (is_link text))
+text_fits p kind.OwnPath text is =
+    ⊎_elim
+    (λ (own : is_own_path text ≡ true). own)
+    (λ (none : is_own_path text ≡ false). let here : Some fault.NotAnOwnPath ≡ None = rw none at is in absurd (cc))
+    (cases_Bool (is_own_path text))
 
 fitting_fits : (slot : Placed) (text found : List ℕ) (first : Option TextFault) → text_fault slot.place slot.kind text ≡ first →
     fitting slot text first ≡ Ok found → MayFill slot.place slot.kind found

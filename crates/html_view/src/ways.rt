@@ -249,7 +249,7 @@ fn is_same_kind(first: SlotKind, second: SlotKind) -> bool
         (SlotKind::UrlPart(slot), SlotKind::UrlPart(other)) => {
             slot.place == other.place && slot.begins_segment == other.begins_segment
         }
-        (SlotKind::Link, SlotKind::Link) => true,
+        (SlotKind::Link, SlotKind::Link) | (SlotKind::OwnPath, SlotKind::OwnPath) => true,
         _ => false,
     }
 }

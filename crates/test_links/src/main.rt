@@ -19,6 +19,8 @@
 //! - `is-segment TEXT`, `no-segment TEXT`: whether a text may be a whole segment.
 //! - `link TEXT`, `no-link TEXT`: whether a text may be a whole link, which then has a scheme of the web, of
 //!   mail or of its page.
+//! - `own-path TEXT`, `no-own-path TEXT`: whether a text may be the whole URL of a script, which then stands
+//!   on the page's own host.
 //!
 //! Printed is each row that does not hold, and last how many rows there are, and how many of them are wrong.
 #![tactic(auto)]

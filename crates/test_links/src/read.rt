@@ -61,3 +61,14 @@ pub fn has_known_scheme(alloc: Global, base: &str, reference: &str) -> bool {
         Err(_) => true,
     }
 }
+
+/// Whether a page reads in a reference a URL with its own scheme, user, host and port.
+pub fn is_on_page(alloc: Global, base: &str, reference: &str) -> bool {
+    let Ok(page) = Url::parse(alloc, base) else {
+        return false;
+    };
+    match page.join(reference) {
+        Ok(url) => url.scheme() == page.scheme() && url.authority() == page.authority(),
+        Err(_) => false,
+    }
+}

@@ -1,5 +1,5 @@
 //! Rows, each by its kind.
-use crate::links::{is_no_link, is_whole_link};
+use crate::links::{is_no_link, is_no_own_path, is_whole_link, is_whole_own_path};
 use crate::read::read_on;
 use crate::references::{Reference, are_read};
 use html_urls::{OpenPart, encode_component, may_be_segment, open_of};
@@ -54,6 +54,8 @@ fn is_such(alloc: Global, kind: &str, text: &str) -> Result<bool, AllocError> {
     match kind {
         "link" => is_whole_link(alloc, text),
         "no-link" => is_no_link(alloc, text),
+        "own-path" => is_whole_own_path(alloc, text),
+        "no-own-path" => is_no_own_path(alloc, text),
         "is-segment" => Ok(may_be_segment(text)),
         "no-segment" => Ok(!may_be_segment(text)),
         "relative" => Ok(

@@ -125,6 +125,17 @@ fn texts_of_urls_have_their_faults(rt: HostRuntime) {
     let fault = template.append(&mut page, &["javascript:f()"]);
     assert!(rt; fault == Err(FillFault::Text(0, TextFault::NotALink)));
     assert!(rt; page.as_str() == "");
+    let script = [
+        Part::Markup("<script src=\""),
+        Part::Slot,
+        Part::Markup("\"></script>"),
+    ];
+    let Ok(template) = Template::new(rt.alloc(), &script) else {
+        panic!(rt; "the slot is a whole URL");
+    };
+    let fault = template.append(&mut page, &["//b.example/c.js"]);
+    assert!(rt; fault == Err(FillFault::Text(0, TextFault::NotAnOwnPath)));
+    assert!(rt; page.as_str() == "");
 }
 
 // The fault of these bindings for the slots of the source, if it is a template.

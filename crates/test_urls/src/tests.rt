@@ -6,4 +6,5 @@ mod components;
 mod hostile;
 mod laws;
 mod memory;
+mod own_paths;
 mod slots;

@@ -1,6 +1,6 @@
 //! Texts that do not fill slots of URLs: the fault of the first, with the output as it was.
 use html_template::FillFault::{Text as At, WrongCount};
-use html_template::TextFault::{DotSegment, EmptySegment, EmptyUnquoted, NotALink};
+use html_template::TextFault::{DotSegment, EmptySegment, EmptyUnquoted, NotALink, NotAnOwnPath};
 use html_template::{FillFault, Part, Template};
 use std::alloc::Global;
 use std::process::Abort;
@@ -64,6 +64,33 @@ static TEXTS: [(&[&str], Option<FillFault>); 12] = [
 fn the_first_fault_is_told(rt: HostRuntime) -> Result<(), Fail> {
     for &(texts, wanted) in &TEXTS {
         let fault = fault(&rt, rt.alloc(), &ORDER, texts)?;
+        assert!(rt; fault == wanted, "{texts:?}");
+    }
+    Ok(())
+}
+
+// A whole URL that runs, and one that a reader follows.
+static WHOLE: [Part; 5] = [
+    Part::Markup("<script src='"),
+    Part::Slot,
+    Part::Markup("'></script><a href=\""),
+    Part::Slot,
+    Part::Markup("\"></a>"),
+];
+
+static WHOLE_TEXTS: [(&[&str], Option<FillFault>); 6] = [
+    (&["", ""], Some(At(0, NotAnOwnPath))),
+    (&["//b.example/c.js", "javascript:f()"], Some(At(0, NotAnOwnPath))),
+    (&["https://b.example/c.js", "/d"], Some(At(0, NotAnOwnPath))),
+    (&["/c.js", "javascript:f()"], Some(At(1, NotALink))),
+    (&["/c.js?d#e"], Some(WrongCount)),
+    (&["/c.js?d#e", "//b.example/c"], None),
+];
+
+#[test]
+fn a_whole_url_is_judged_by_its_element(rt: HostRuntime) -> Result<(), Fail> {
+    for &(texts, wanted) in &WHOLE_TEXTS {
+        let fault = fault(&rt, rt.alloc(), &WHOLE, texts)?;
         assert!(rt; fault == wanted, "{texts:?}");
     }
     Ok(())

@@ -7,7 +7,7 @@ use std::alloc::Global;
 use std::test::Fail;
 use url::{ParseError, Url};
 
-const PAGES: [&str; 3] = [
+pub const PAGES: [&str; 3] = [
     "https://h:8080/d/f?k=v#g",
     "http://u:p@h.example/",
     "ftp://f.example/d",
@@ -113,12 +113,12 @@ const HOSTILE: [&str; 7] = [
 ];
 
 // Scheme, user, password, host and port, as they are written before the path.
-fn head_of(alloc: Global, url: &Url) -> Result<String, ParseError> {
+pub fn head_of(alloc: Global, url: &Url) -> Result<String, ParseError> {
     Ok(format!(in alloc; "{} {}", url.scheme(), url.authority())?)
 }
 
 // The head of a reference on a page, or that it is refused.
-fn head_on(alloc: Global, page: &str, reference: &str) -> Result<String, ParseError> {
+pub fn head_on(alloc: Global, page: &str, reference: &str) -> Result<String, ParseError> {
     match Url::parse(alloc, page)?.join(reference) {
         Ok(url) => head_of(alloc, &url),
         Err(_) => Ok(String::from_str(alloc, "no URL")?),
