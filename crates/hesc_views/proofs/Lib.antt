@@ -3,3 +3,4 @@ mod Checked
 mod Named
 mod Flushed
 mod Read
+mod Made

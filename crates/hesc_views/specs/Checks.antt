@@ -2,7 +2,7 @@
 use Rattle.std.specs.Prelude.{ℕ, List, [], ◌∷◌, ◌++◌, ◌==◌, Bool, true, false, Option, Some, None, codes, length}
 use Rattle.std.specs.List.{concat, flat_map}
 use Rattle.html_template.specs.declared.parts.SlotKind.{SlotKind}
-use Rattle.html_template.specs.declared.parts.SlotKind.TheVariants.{Text, UrlPart, Link}
+use Rattle.html_template.specs.declared.parts.SlotKind.TheVariants.{Text, UrlPart, Link, OwnPath}
 use Rattle.html_tokenizer.specs.declared.slot_place.SlotPlace.{SlotPlace}
 use Rattle.html_tokenizer.specs.declared.slot_place.SlotPlace.TheVariants as at
 use Rattle.html_urls.specs.declared.place.UrlPlace.{UrlPlace}
@@ -37,6 +37,7 @@ url_word Fragment = codes " fragment"
 abbrev pub kind_word : SlotKind → List ℕ
 kind_word Text = []
 kind_word Link = codes " link"
+kind_word OwnPath = codes " own-path"
 kind_word (UrlPart slot) = url_word slot.place
 
 abbrev pub slot_line : Placed → List ℕ

@@ -57,6 +57,7 @@ wrong_value (value.Unfit text.EmptyUnquoted) = codes "the text is empty; write q
 wrong_value (value.Unfit text.EmptySegment) = codes "the text is empty, and a segment of a URL is not"
 wrong_value (value.Unfit text.DotSegment) = codes "the text is . or .., and a segment of a URL is not"
 wrong_value (value.Unfit text.NotALink) = codes "the text is no link; its scheme has to be http, https or mailto"
+wrong_value (value.Unfit text.NotAnOwnPath) = codes "the text is no own path; begin it with one /, and leave out white space, \\ and dot segments"
 
 abbrev pub wrong_here : Refusal → List ℕ
 wrong_here (Tag why) = wrong_tag why

@@ -126,6 +126,7 @@ fn kind_word(kind: SlotKind) -> &'static str
     match kind {
         SlotKind::Text => "",
         SlotKind::Link => " link",
+        SlotKind::OwnPath => " own-path",
         SlotKind::UrlPart(slot) => match slot.place {
             UrlPlace::Path => " path",
             UrlPlace::Query => " query",

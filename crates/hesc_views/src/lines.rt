@@ -225,5 +225,8 @@ fn wrong_value(fault: ValueFault) -> &'static str
         ValueFault::Unfit(TextFault::NotALink) => {
             "the text is no link; its scheme has to be http, https or mailto"
         }
+        ValueFault::Unfit(TextFault::NotAnOwnPath) => {
+            "the text is no own path; begin it with one /, and leave out white space, \\ and dot segments"
+        }
     }
 }

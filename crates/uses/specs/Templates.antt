@@ -1,4 +1,5 @@
 -- What callers of templates make.
+pub mod AssetPages
 pub mod Breadcrumbs
 pub mod FormPages
 pub mod HomePages

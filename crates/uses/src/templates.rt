@@ -1,5 +1,6 @@
 //! Callers that make pages by templates.
 
+pub mod asset_page;
 pub mod breadcrumbs;
 pub mod form_page;
 pub mod home_page;

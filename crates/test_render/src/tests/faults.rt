@@ -357,6 +357,13 @@ pub static REFUSALS: [Refusal; 46] = [
         "hesc: v:1:10: the text is no link; its scheme has to be http, https or mailto\n",
     ),
     (
+        &["render", "v"],
+        &[("v", b"<link href=\"{{a}}\">")],
+        b"{\"a\": \"//b.example/c\"}",
+        1,
+        "hesc: v:1:13: the text is no own path; begin it with one /, and leave out white space, \\ and dot segments\n",
+    ),
+    (
         &["render", "v", "a/p.html"],
         &[("v", b"{{>p}}"), ("a/p.html", b"<p>\n\xC3\xA9 {{a.b}}")],
         b"{\"a\": 1}",

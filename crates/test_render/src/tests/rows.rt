@@ -168,7 +168,7 @@ pub static CHECKS: [Success; 7] = [
         &[(
             "v",
             b"<p a={{a}} b='{{b}}' c=\"{{c}}\">\
-            <a href='/{{d}}?{{e}}#{{f}}' title=t></a><a href='{{g}}'></a>\
+            <a href='/{{d}}?{{e}}#{{f}}' title=t></a><a href='{{g}}'></a><link href='{{m}}'>\
             <style>p { content: '{{h}}' \"{{i}}\" }</style><script>x('{{j}}', \"{{k.l}}\")</script>",
         )],
         b"not read",
@@ -179,6 +179,7 @@ pub static CHECKS: [Success; 7] = [
         e single-quoted query\n\
         f single-quoted fragment\n\
         g single-quoted link\n\
+        m single-quoted own-path\n\
         h style-single\n\
         i style-double\n\
         j script-single\n\
