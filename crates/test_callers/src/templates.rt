@@ -3,6 +3,7 @@
 use html_template::{FillFault, TextFault};
 use std::test::Fail;
 use test_support::{Trouble, WeakWriter, Weakness};
+use uses::asset_page::{AssetTemplate, Assets};
 use uses::breadcrumbs::{Breadcrumbs, Crumb};
 use uses::form_page::{Draft, FormTemplate};
 use uses::home_page::{Stranger, StrangerTemplates};
@@ -151,6 +152,39 @@ fn a_stranger_has_a_link_or_a_name_alone(rt: HostRuntime) -> Result<(), Fail> {
         let page = templates.page(rt.alloc(), Stranger { name, url });
         assert!(rt; page.as_deref() == Ok(wanted), "{url}");
     }
+    Ok(())
+}
+
+#[test]
+fn a_script_is_of_the_own_host(rt: HostRuntime) -> Result<(), Fail> {
+    let Ok(template) = AssetTemplate::new(rt.alloc()) else {
+        assert!(rt; false);
+        return Ok(());
+    };
+    let own = Assets {
+        title: "</title>",
+        style: "/a.css?b&c",
+        script: "/d.js",
+    };
+    let page = template.page(rt.alloc(), own);
+    assert!(rt;
+        page.as_deref()
+            == Ok(
+                "<!DOCTYPE html><title>&lt;/title&gt;</title><link rel=stylesheet href=\"/a.css?b&amp;c\"><script src=\"/d.js\"></script>"
+            )
+    );
+    let style = Assets {
+        style: "//a.example/b.css",
+        ..own
+    };
+    let fault = template.page(rt.alloc(), style).err();
+    assert!(rt; fault == Some(FillFault::Text(1, TextFault::NotAnOwnPath)));
+    let script = Assets {
+        script: "javascript:f()",
+        ..own
+    };
+    let fault = template.page(rt.alloc(), script).err();
+    assert!(rt; fault == Some(FillFault::Text(2, TextFault::NotAnOwnPath)));
     Ok(())
 }
 
