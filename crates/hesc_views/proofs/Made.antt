@@ -12,8 +12,10 @@ pub page_answers : {A : Type 0} (call : Call) (view : List ℕ) (partials : List
     (texts : List (List ℕ)) (json input : List ℕ) (result : Result (String A) Fault) → call.command ≡ Render →
     AreOfView (map (λ path. path.now) call.partials.now) view partials nodes → WasRead reader reader' input → json ≡ input →
     PageAnswers nodes texts json (answer_of result) → IfOk result (λ text. AnswersTexts call view partials reader reader' (string_bytes text))
-page_answers call view partials reader reader' nodes texts json input (Ok text) render of_view read same (value, strictly, page) =
-    (nodes, of_view,
-    subst (λ command. Answers command nodes reader reader' (string_bytes text)) (sym render)
-    (json, value, subst (WasRead reader reader') (sym same) read, strictly, page))
+page_answers call view partials reader reader' nodes texts json input (Ok text) render of_view read same (value, strictly, page) = (
+  nodes,
+  of_view,
+  subst (λ command. Answers command nodes reader reader' (string_bytes text)) (sym render)
+      (json, value, subst (WasRead reader reader') (sym same) read, strictly, page),
+)
 page_answers call view partials reader reader' nodes texts json input (Err fault) render of_view read same answers = tt

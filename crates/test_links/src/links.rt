@@ -9,6 +9,7 @@ use std::alloc::{AllocError, Global};
 type Tag = (&'static str, &'static str);
 
 const LINK: Tag = ("<a href=", ">");
+
 const SCRIPT: Tag = ("<script src=", "></script>");
 
 /// What a template with this markup as the value of a link's `href` makes of texts: `value` and the value

@@ -25,7 +25,7 @@ pub fn refusal(row: Refusal) -> Row {
     }
 }
 
-pub static REFUSALS: [Refusal; 46] = [
+pub static REFUSALS: [Refusal; 47] = [
     (&[], &[], b"", 2, "usage: hesc COMMAND [ARGUMENT..]\n"),
     (
         &["render"],

@@ -80,7 +80,10 @@ static WHOLE: [Part; 5] = [
 
 static WHOLE_TEXTS: [(&[&str], Option<FillFault>); 6] = [
     (&["", ""], Some(At(0, NotAnOwnPath))),
-    (&["//b.example/c.js", "javascript:f()"], Some(At(0, NotAnOwnPath))),
+    (
+        &["//b.example/c.js", "javascript:f()"],
+        Some(At(0, NotAnOwnPath)),
+    ),
     (&["https://b.example/c.js", "/d"], Some(At(0, NotAnOwnPath))),
     (&["/c.js", "javascript:f()"], Some(At(1, NotALink))),
     (&["/c.js?d#e"], Some(WrongCount)),
