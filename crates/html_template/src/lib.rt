@@ -4,8 +4,8 @@
 //! which encoder writes its texts, and refuses what it cannot read. Whatever texts fill it, the page
 //! is tokenized as the template is, with each text handed to its slot whole, in a part of a URL as its
 //! component. No text changes a URL's scheme or host, or how many segments and how many strings between
-//! `&` it has, unless its slot is the whole URL: then it has to be a link, or where
-//! the page runs what the URL leads to an own path, on the page's own host.
+//! `&` it has, unless its slot is the whole URL: then it has to be a link, or, where the page runs what
+//! the URL leads to, an own path.
 #![tactic(auto)]
 
 mod faults;
