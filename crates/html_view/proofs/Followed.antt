@@ -1,11 +1,11 @@
 -- Following nodes, one behind another, and through a section.
-use Rattle.std.proofs.Common.{Bor, Vec, rules, ℕ, zero, suc, ◌≡◌, ◌<◌, ◌≤◌, List, [], ◌∷◌, ◌++◌, get_or, length, take, refl, sym, ap, ◌∙◌, subst, arith}
+use Rattle.std.proofs.Common.{Bor, Vec, rules, ℕ, zero, suc, ◌≡◌, ◌≢◌, ◌<◌, ◌≤◌, List, [], ◌∷◌, ◌++◌, get_or, length, take, refl, sym, ap, ◌∙◌, subst, arith}
 use Rattle.html_view.specs.Following.{Follows, FollowsBody}
 use Rattle.html_view.specs.Kept.{Before, asked_node, asked_nodes, asked_of, behind, opening_of, placed_node, placed_nodes, placed_of}
 use Rattle.html_view.specs.Names.{words_of}
 use Rattle.html_view.specs.Nodes as node
 use Rattle.html_view.specs.Nodes.{Nodes, written, written_opening, written_times}
-use Rattle.html_view.specs.Takes.{Among, AreAmong, GoesOn, GoesPast, Takes}
+use Rattle.html_view.specs.Takes.{Among, AreAmong, GoesOn, GoesPast, LeadsBack, Takes}
 use Rattle.html_view.specs.Ways.{Way}
 use Rattle.html_view.specs.declared.faults.Position.{Position}
 use Rattle.html_view.specs.declared.node.Asked.{Asked}
@@ -13,7 +13,7 @@ use Rattle.html_view.specs.declared.node.Node.{Markup, Node, Section, Slot, the_
 use Rattle.html_view.specs.declared.node.Opening.{Opening}
 use Rattle.html_view.specs.declared.node.Placed.{Placed}
 use Rattle.html_view.specs.declared.node.Times.{Times}
-use Rattle.html_view.specs.declared.node.Times.TheVariants.{Each}
+use Rattle.html_view.specs.declared.node.Times.TheVariants.{Each, If, Once, Whether}
 
 -- nothing is followed yet
 pub followed_none : (ways here : List Way) → here ≡ ways → Follows (λ rest. rest) (λ rest. rest) ways here
@@ -184,7 +184,28 @@ body_wider asked placed times ways head out are passes = record {
   back = passes.back;
 }
 
+leads_once : (times : Times) (out head : List Way) → times ≢ Each → LeadsBack times out head
+leads_once Each out head not_each = absurd (not_each refl)
+leads_once Once out head not_each = tt
+leads_once If out head not_each = tt
+leads_once Whether out head not_each = tt
+
+-- a body that stands once
+pub body_once : (asked : Before node.Asked) (placed : Before node.Placed) (times : Times) (ways here out : List Way) → times ≢ Each → here ≡ ways →
+    Follows asked placed here out → FollowsBody asked placed times ways out
+body_once asked placed times ways here out not_each same follows = record {
+  head = here;
+  begins = subst (λ w. AreAmong ways w) (sym same) (all_among ways);
+  body = follows;
+  back = leads_once times out here not_each;
+}
+
 -- a body that leads back to where it begins
-pub body_closed : (asked : Before node.Asked) (placed : Before node.Placed) (ways head out : List Way) → AreAmong ways head → AreAmong out head →
-    Follows asked placed head out → FollowsBody asked placed Each ways out
-body_closed asked placed ways head out begins back follows = record { head = head; begins = begins; body = follows; back = back }
+pub body_back : (asked : Before node.Asked) (placed : Before node.Placed) (times : Times) (ways out : List Way) → AreAmong out ways →
+    FollowsBody asked placed times ways out → FollowsBody asked placed Each ways out
+body_back asked placed times ways out back passes = record {
+  head = passes.head;
+  begins = passes.begins;
+  body = passes.body;
+  back = λ way among. passes.begins way (back way among);
+}

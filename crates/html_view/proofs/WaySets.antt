@@ -1,7 +1,6 @@
 -- Ways among others.
-use Rattle.std.proofs.Common.{ℕ, zero, suc, ◌≡◌, ◌<◌, ◌≤◌, Bool, false, List, [], ◌∷◌, ◌++◌, Ok, map, take, get_or, length, arith, refl, sym, ap, ◌∙◌, subst, inl, inr, ⊎_elim}
+use Rattle.std.proofs.Common.{ℕ, zero, suc, ◌≡◌, ◌<◌, ◌≤◌, Bool, false, Result, Ok, Err, IfOk, OnOk, List, [], ◌∷◌, ◌++◌, map, take, get_or, length, arith, refl, sym, ap, ◌∙◌, subst, inl, inr, ⊎_elim}
 use Rattle.std.proofs.lemmas.List.{map-append}
-use Rattle.std.specs.Prelude.{⊤, Option, Some, None}
 use Rattle.html_template.specs.declared.open_url.PlacedSlot.{PlacedSlot}
 use Rattle.html_view.specs.Following.{way_of}
 use Rattle.html_view.specs.Nodes.{Placed}
@@ -43,6 +42,15 @@ pushed_kept old new way is =
     subst (λ w. AreAmong (map way_of old) (map way_of w)) (sym is)
     (subst (AreAmong (map way_of old)) (sym (map-append way_of old (way ∷ []))) (among_more (map way_of old) (way_of way)))
 
+-- the same, behind a first one
+pub pushed_behind : {A : Type 0} (first : Way A) (old new : List (Way A)) (way : Way A) → new ≡ old ++ way ∷ [] →
+    AreAmong (way_of first ∷ map way_of old) (way_of first ∷ map way_of new)
+pushed_behind first old new way is =
+    λ one among. ⊎_elim (λ (same : one ≡ way_of first). inl same) (λ (later : Among one (map way_of old)). inr (pushed_kept old new way is one later)) among
+
+pub only_among : (ways : List spec.Way) (way : spec.Way) → ways ≡ way ∷ [] → Among way ways
+only_among ways way is = subst (Among way) (sym is) (inl refl)
+
 -- ---- so far, of so many ways of a list
 abbrev pub AllTaken : {A : Type 0} → (spec.Way → Type 0) → List (Way A) → ℕ → Type 0
 AllTaken P ways i = (way : spec.Way) → Among way (map way_of (take i ways)) → P way
@@ -80,10 +88,15 @@ pub taken_all : {A : Type 0} (P : spec.Way → Type 0) (ways : List (Way A)) (i 
     (way : spec.Way) → Among way (map way_of ways) → P way
 taken_all P ways i long taken way among = taken way (subst (λ w. Among way (map way_of w)) (sym (take_whole ways i long)) among)
 
--- no way was gone on yet, or on all of them the slot stands as in the last one
-abbrev pub IsFound : Option PlacedSlot → Placed → Type 0
-IsFound None slot = ⊤
-IsFound (Some found) slot = (found.place ≡ slot.place) × (found.kind ≡ slot.kind)
+-- and of one before them
+pub taken_first : {A : Type 0} (P : spec.Way → Type 0) (first : Way A) (ways : List (Way A)) → P (way_of first) →
+    ((way : spec.Way) → Among way (map way_of ways) → P way) → (way : spec.Way) → Among way (way_of first ∷ map way_of ways) → P way
+taken_first P first ways here taken way among =
+    ⊎_elim (λ (same : way ≡ way_of first). subst P (sym same) here) (λ (later : Among way (map way_of ways)). taken way later) among
+
+-- the slot stands as it was found
+abbrev pub IsFound : PlacedSlot → Placed → Type 0
+IsFound found slot = (found.place ≡ slot.place) × (found.kind ≡ slot.kind)
 
 -- ---- one way on, among more of them
 
@@ -112,3 +125,27 @@ past_wider way slot ways others are past = record {
   kind = past.kind;
   among = are (past_slot way past.found) past.among;
 }
+
+-- ---- where there is one way
+
+only : {A : Type 0} (P : spec.Way → Type 0) (first : Way A) (others : List (Way A)) → others ≡ [] → P (way_of first) →
+    (way : spec.Way) → Among way (way_of first ∷ map way_of others) → P way
+only P first [] none here way among = ⊎_elim (λ (same : way ≡ way_of first). subst P (sym same) here) (λ (never : ⊥). absurd never) among
+only P first (other ∷ others) none here way among = absurd (cc)
+
+pub only_goes_on : {A T F : Type 0} (first moved : Way A) (others : List (Way A)) (bytes : List ℕ) (result : Result T F) → others ≡ [] →
+    OnOk result (way_behind (way_of first) bytes ≡ Ok (way_of moved)) →
+    OnOk result ((way : spec.Way) → Among way (way_of first ∷ map way_of others) → GoesOn way bytes (way_of moved ∷ map way_of others))
+only_goes_on first moved others bytes (Ok done) none goes =
+    only (λ way. GoesOn way bytes (way_of moved ∷ map way_of others)) first others none
+    (record { next = way_of moved; goes = goes; among = inl refl })
+only_goes_on first moved others bytes (Err fault) none goes = tt
+
+pub only_goes_past : {A F : Type 0} (first moved : Way A) (others : List (Way A)) (result : Result PlacedSlot F) → others ≡ [] →
+    IfOk result (λ found. way_slot (way_of first) ≡ Ok found) → IfOk result (λ found. way_of moved ≡ past_slot (way_of first) found) →
+    IfOk result (λ found. (slot : Placed) → found.place ≡ slot.place → found.kind ≡ slot.kind → (way : spec.Way) →
+    Among way (way_of first ∷ map way_of others) → GoesPast way slot (way_of moved ∷ map way_of others))
+only_goes_past first moved others (Ok found) none stands past = λ slot place kind.
+    only (λ way. GoesPast way slot (way_of moved ∷ map way_of others)) first others none
+    (record { found = found; stands = stands; place = place; kind = kind; among = inl (sym past) })
+only_goes_past first moved others (Err fault) none stands past = tt

@@ -1,5 +1,5 @@
 -- The ways that the code holds, and where they go.
-use Rattle.std.specs.Prelude.{◌≡◌, List, Result, Ok, Err, map}
+use Rattle.std.specs.Prelude.{◌≡◌, List, ◌∷◌, Result, Ok, Err, map}
 use Rattle.html_template.specs.declared.faults.PartFault.{PartFault}
 use Rattle.html_template.specs.declared.open_url.PlacedSlot.{PlacedSlot}
 use Rattle.html_tokenizer.specs.Tokenizer.Phases.{tokenizer_of}
@@ -16,7 +16,7 @@ abbrev pub way_of : {A : Type 0} → Way A → spec.Way
 way_of way = record { tokenizer = tokenizer_of way.reader; markup = way.markup.items; url = way.url }
 
 abbrev pub ways_of : {A : Type 0} → Ways A → List spec.Way
-ways_of ways = map way_of ways.ways.items
+ways_of ways = way_of ways.first ∷ map way_of ways.others.items
 
 -- a way goes on where is told, or the fault is
 abbrev pub Moves : {T : Type 0} → Result spec.Way PartFault → spec.Way → Result T PartFault → Type 0

@@ -12,20 +12,6 @@ use crate::node::{Asked, Node, Opening, Placed, Times};
 use crate::ways::{MOST_WAYS, Ways};
 use std::alloc::Allocator;
 
-/// Nodes as they are placed, and the ways behind them.
-#[derive(Drop)]
-pub(crate) struct Followed<'a, A: Allocator> {
-    pub(crate) nodes: Vec<Node<'a, Placed<'a>, A>, A>,
-    pub(crate) ways: Ways<A>,
-}
-
-/// A node as it is placed, and the ways behind it.
-#[derive(Drop)]
-struct FollowedNode<'a, A: Allocator> {
-    node: Node<'a, Placed<'a>, A>,
-    ways: Ways<A>,
-}
-
 /// A body as it is placed, how often it may stand, and the ways behind it.
 #[derive(Drop)]
 struct FollowedBody<'a, A: Allocator> {
@@ -34,32 +20,28 @@ struct FollowedBody<'a, A: Allocator> {
     ways: Ways<A>,
 }
 
-/// Follows these ways through nodes, which begin there.
+/// Follows these ways through nodes, which begin there. They are then those behind the nodes.
 #[cycle(follow)]
 pub(crate) fn follow<'a, A: Allocator + Copy>(
     alloc: A,
     entry: Entry,
     nodes: &Vec<Node<'a, Asked<'a>, A>, A>,
-    ways: &Ways<A>,
+    ways: &mut Ways<A>,
     heads: &mut Heads<A>,
-) -> Result<Followed<'a, A>, ViewFault>
-    ensures { IfOk result (λ f. Follows (asked_nodes nodes.now.items) (placed_nodes f.nodes.items)
-        (ways_of ways.now) (ways_of f.ways)) }
+) -> Result<Vec<Node<'a, Placed<'a>, A>, A>, ViewFault>
+    ensures { IfOk result (λ placed. Follows (asked_nodes nodes.now.items)
+        (placed_nodes placed.items) (ways_of ways.old) (ways_of ways.new)) }
 {
-    let mut placed = Vec::new(alloc);
-    let mut here = ways.enter(entry, &mut heads.history)?;
+    ways.enter(entry, &mut heads.history)?;
+    let mut placed = Vec::with_capacity(alloc, nodes.len())?;
     for node in nodes {
-        let followed = follow_node(alloc, node, &here, heads)?;
-        match placed.push(followed.node) {
+        let followed = follow_node(alloc, node, ways, heads)?;
+        match placed.push(followed) {
             Ok(()) => {}
             Err(_) => return Err(ViewFault::Memory),
         }
-        here = followed.ways;
     }
-    Ok(Followed {
-        nodes: placed,
-        ways: here,
-    })
+    Ok(placed)
 }
 
 // Follows ways through a node.
@@ -67,48 +49,37 @@ pub(crate) fn follow<'a, A: Allocator + Copy>(
 fn follow_node<'a, A: Allocator + Copy>(
     alloc: A,
     node: &Node<'a, Asked<'a>, A>,
-    ways: &Ways<A>,
+    ways: &mut Ways<A>,
     heads: &mut Heads<A>,
-) -> Result<FollowedNode<'a, A>, ViewFault>
-    ensures { IfOk result (λ f. Follows (asked_node node.now) (placed_node f.node)
-        (ways_of ways.now) (ways_of f.ways)) }
+) -> Result<Node<'a, Placed<'a>, A>, ViewFault>
+    ensures { IfOk result (λ placed. Follows (asked_node node.now) (placed_node placed)
+        (ways_of ways.old) (ways_of ways.new)) }
 {
     match node {
         Node::Markup(text, position) => {
-            let ways = ways.behind_markup(text.as_bytes(), *position, &mut heads.history)?;
-            Ok(FollowedNode {
-                node: Node::Markup(*text, *position),
-                ways,
-            })
+            ways.take_markup(text.as_bytes(), *position, &mut heads.history)?;
+            Ok(Node::Markup(*text, *position))
         }
         Node::Slot(slot) => {
-            let past = ways.behind_slot(slot.position, &mut heads.history)?;
-            Ok(FollowedNode {
-                node: Node::Slot(Placed {
-                    asked: *slot,
-                    place: past.place,
-                    kind: past.kind,
-                }),
-                ways: past.next,
-            })
+            let found = ways.take_slot(slot.position, &mut heads.history)?;
+            Ok(Node::Slot(Placed {
+                asked: *slot,
+                place: found.place,
+                kind: found.kind,
+            }))
         }
         Node::Section(opening, body, otherwise) => {
             let number = heads.open()?;
             let passes = follow_body(alloc, number, *opening, body, ways, heads)?;
             let other = follow(alloc, Entry::Other(number), otherwise, ways, heads)?;
             // Of two ways that are one, that with fewer sections standing is kept.
-            let mut next = other.ways;
-            let _has_grown = next.add_all(&passes.ways, opening.position)?;
-            let times = passes.times;
+            ways.add_all(&passes.ways, opening.position)?;
             let opening = Opening {
                 name: opening.name,
                 position: opening.position,
-                times,
+                times: passes.times,
             };
-            Ok(FollowedNode {
-                node: Node::Section(opening, passes.nodes, other.nodes),
-                ways: next,
-            })
+            Ok(Node::Section(opening, passes.nodes, other))
         }
     }
 }
@@ -154,11 +125,12 @@ fn follow_once<'a, A: Allocator + Copy>(
     ensures body { IfOk result (λ f. FollowsBody (asked_nodes body.now.items)
         (placed_nodes f.nodes.items) f.times (ways_of ways.now) (ways_of f.ways)) }
 {
-    let once = follow(alloc, Entry::Body(number), body, ways, heads)?;
+    let mut out = ways.copy()?;
+    let nodes = follow(alloc, Entry::Body(number), body, &mut out, heads)?;
     Ok(FollowedBody {
         times,
-        nodes: once.nodes,
-        ways: once.ways,
+        nodes,
+        ways: out,
     })
 }
 
@@ -177,19 +149,19 @@ fn follow_new<'a, A: Allocator + Copy>(
         (placed_nodes f.nodes.items) f.times (ways_of ways.now) (ways_of f.ways)) }
 {
     let first = heads.next();
-    let once = follow(alloc, Entry::Body(number), body, ways, heads)?;
+    let once = follow_once(alloc, Times::Once, number, body, ways, heads)?;
+    if ways.has_all(&once.ways) {
+        heads.note_repeated(number, None);
+        return Ok(FollowedBody {
+            times: Times::Each,
+            nodes: once.nodes,
+            ways: once.ways,
+        });
+    }
     let end = heads.next();
     let mut head = ways.copy()?;
     match head.add_all(&once.ways, position) {
-        Ok(false) => {
-            heads.note_repeated(number, head);
-            return Ok(FollowedBody {
-                times: Times::Each,
-                nodes: once.nodes,
-                ways: once.ways,
-            });
-        }
-        Ok(true) => {
+        Ok(()) => {
             heads.go_to(first);
             if let Some(repeated) = follow_rounds(alloc, position, number, body, head, heads)? {
                 return Ok(repeated);
@@ -200,11 +172,7 @@ fn follow_new<'a, A: Allocator + Copy>(
     }
     heads.go_to(end);
     heads.note_once(number);
-    Ok(FollowedBody {
-        times: Times::Once,
-        nodes: once.nodes,
-        ways: once.ways,
-    })
+    Ok(once)
 }
 
 // Follows ways through a body that led back before.
@@ -225,10 +193,10 @@ fn follow_again<'a, A: Allocator + Copy>(
     let mut head = ways.copy()?;
     let is_known = match heads.ways(number) {
         Some(known) => head.add_all(known, position),
-        None => Ok(false),
+        None => Ok(()),
     };
     match is_known {
-        Ok(_) => {
+        Ok(()) => {
             if let Some(repeated) = follow_rounds(alloc, position, number, body, head, heads)? {
                 return Ok(repeated);
             }
@@ -261,21 +229,21 @@ fn follow_rounds<'a, A: Allocator + Copy>(
     let mut head = ways;
     for _round in 0..MOST_WAYS {
         heads.go_to(first);
-        let round = match follow(alloc, Entry::Body(number), body, &head, heads) {
+        let round = match follow_once(alloc, Times::Once, number, body, &head, heads) {
             Ok(round) => round,
             Err(ViewFault::Memory) => return Err(ViewFault::Memory),
             Err(_) => return Ok(None),
         };
+        if head.has_all(&round.ways) {
+            heads.note_repeated(number, Some(head));
+            return Ok(Some(FollowedBody {
+                times: Times::Each,
+                nodes: round.nodes,
+                ways: round.ways,
+            }));
+        }
         match head.add_all(&round.ways, position) {
-            Ok(false) => {
-                heads.note_repeated(number, head);
-                return Ok(Some(FollowedBody {
-                    times: Times::Each,
-                    nodes: round.nodes,
-                    ways: round.ways,
-                }));
-            }
-            Ok(true) => {}
+            Ok(()) => {}
             Err(ViewFault::Memory) => return Err(ViewFault::Memory),
             Err(_) => return Ok(None),
         }

@@ -7,8 +7,8 @@ use std::alloc::{AllocError, Allocator};
 #[derive(Drop)]
 enum Head<A: Allocator> {
     Unknown,
-    // Its body leads back to these ways.
-    Repeated(Ways<A>),
+    // Its body leads back to these ways, or to those on which it is opened.
+    Repeated(Option<Ways<A>>),
     // It does not lead back.
     Once,
 }
@@ -77,16 +77,17 @@ impl<A: Allocator + Copy> Heads<A> {
         }
     }
 
-    /// The ways that the body of a section leads back to, as far as they are known.
+    /// The ways that the body of a section leads back to, where it was found that there are more than those
+    /// on which it is opened.
     pub(crate) fn ways(&self, number: usize) -> Option<&Ways<A>> {
         match self.heads.get(number) {
-            Some(Head::Repeated(ways)) => Some(ways),
+            Some(Head::Repeated(Some(ways))) => Some(ways),
             _ => None,
         }
     }
 
-    /// The body of a section leads back to these ways.
-    pub(crate) fn note_repeated(&mut self, number: usize, ways: Ways<A>) {
+    /// The body of a section leads back to these ways, or to those on which it is opened.
+    pub(crate) fn note_repeated(&mut self, number: usize, ways: Option<Ways<A>>) {
         if let Some(head) = self.heads.get_mut(number) {
             *head = Head::Repeated(ways);
         }

@@ -68,12 +68,11 @@ impl<'a, A: Allocator + Copy> View<'a, A> {
         ensures { IfOk result (λ view. written (nodes_in view)
             ≡ asked_nodes nodes.now.items node.End) }
     {
-        let first = Ways::first(alloc)?;
-        let followed = follow(alloc, Entry::Page, nodes, &first, heads)?;
-        if !followed.ways.may_end(&mut heads.history)? {
+        let mut ways = Ways::first(alloc);
+        let nodes = follow(alloc, Entry::Page, nodes, &mut ways, heads)?;
+        if !ways.may_end(&mut heads.history)? {
             return Err(ViewFault::Unfinished);
         }
-        let nodes = followed.nodes;
         let steps = steps_of(alloc, &nodes)?;
         Ok(View {
             alloc,

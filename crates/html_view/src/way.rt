@@ -82,10 +82,16 @@ impl<A: Allocator + Copy> Way<A> {
         if self.reader.is_refused() {
             return Ok(Err(PartFault::Malformed));
         }
-        self.markup.extend_from_slice(bytes)?;
         if self.reader.is_in_url() {
+            self.markup.extend_from_slice(bytes)?;
             return Ok(Ok(()));
         }
+        // Most markup stands where no URL is open, and is let go.
+        if let OpenUrl::Outside = self.url {
+            self.markup.clear();
+            return Ok(Ok(()));
+        }
+        self.markup.extend_from_slice(bytes)?;
         match url_markup(self.alloc, self.url, &self.markup)? {
             Ok(OpenUrl::Outside) => {
                 self.markup.clear();

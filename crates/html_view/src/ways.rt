@@ -1,102 +1,90 @@
 //! The ways that lead to a node.
-ghost use Rattle.std.specs.Prelude.{◌≡◌, ◌∷◌, [], IfOk, IsTrue, OnOk, false};
+ghost use Rattle.std.specs.Prelude.{◌≡◌, ◌∷◌, [], IfOk, IsTrue, Ok, OnOk, map};
 ghost use Rattle.html_view.specs.Following.{ways_of, way_of};
 ghost use Rattle.html_view.specs.Nodes.{Placed};
 ghost use Rattle.html_view.specs.Takes.{Among, AreAmong, GoesOn, GoesPast};
 ghost use Rattle.html_view.specs.Ways as spec;
-ghost use Rattle.html_view.specs.Ways.{MayEnd, first_way};
+ghost use Rattle.html_view.specs.Ways.{MayEnd, first_way, past_slot, way_behind, way_slot};
 
 use crate::faults::{Position, ViewFault};
 use crate::history::{Entry, History};
 use crate::way::Way;
 use html_template::{PlacedSlot, SlotKind};
-use html_tokenizer::SlotPlace;
 use std::alloc::{AllocError, Allocator};
 
 /// So many ways may lead to a node.
 pub(crate) const MOST_WAYS: usize = 8;
 
-/// A slot's place and kind, and the ways behind it.
-#[derive(Drop)]
-pub(crate) struct Past<A: Allocator> {
-    pub(crate) place: SlotPlace,
-    pub(crate) kind: SlotKind,
-    pub(crate) next: Ways<A>,
-}
-
-/// The ways that lead to a node, each once.
+/// The ways that lead to a node, each once. There is always one, and mostly no other.
 #[derive(Drop)]
 pub(crate) struct Ways<A: Allocator> {
     alloc: A,
-    ways: Vec<Way<A>, A>,
+    first: Way<A>,
+    others: Vec<Way<A>, A>,
+}
+
+/// A slot's place and kind, and the ways behind it.
+#[derive(Drop)]
+struct Past<A: Allocator> {
+    slot: PlacedSlot,
+    next: Ways<A>,
 }
 
 impl<A: Allocator + Copy> Ways<A> {
-    fn none(alloc: A) -> Ways<A>
-        ensures { ways_of result ≡ [] }
+    fn only(alloc: A, way: Way<A>) -> Ways<A>
+        ensures { ways_of result ≡ way_of way ∷ [] }
     {
         Ways {
             alloc,
-            ways: Vec::new(alloc),
+            first: way,
+            others: Vec::new(alloc),
         }
     }
 
     /// The one at the beginning of a page.
-    pub(crate) fn first(alloc: A) -> Result<Ways<A>, AllocError>
-        ensures { IfOk result (λ ways. ways_of ways ≡ first_way ∷ []) }
+    pub(crate) fn first(alloc: A) -> Ways<A>
+        ensures { ways_of result ≡ first_way ∷ [] }
     {
-        let mut ways = Vec::new(alloc);
-        match ways.push(Way::first(alloc)) {
-            Ok(()) => Ok(Ways { alloc, ways }),
-            Err(_) => Err(AllocError),
-        }
+        Ways::only(alloc, Way::first(alloc))
     }
 
     /// The same ways once more.
     pub(crate) fn copy(&self) -> Result<Ways<A>, AllocError>
         ensures { IfOk result (λ copy. ways_of copy ≡ ways_of self.now) }
     {
-        let mut ways = Vec::new(self.alloc);
-        for way in &self.ways {
-            let copy = way.copy()?;
-            match ways.push(copy) {
-                Ok(()) => {}
-                Err(_) => return Err(AllocError),
-            }
-        }
+        let first = self.first.copy()?;
+        let others = copies(self.alloc, &self.others)?;
         Ok(Ways {
             alloc: self.alloc,
-            ways,
+            first,
+            others,
         })
     }
 
-    /// The same ways, each with this step behind it.
-    pub(crate) fn enter(
-        &self,
-        entry: Entry,
-        history: &mut History<A>,
-    ) -> Result<Ways<A>, AllocError>
-        ensures { IfOk result (λ entered. ways_of entered ≡ ways_of self.now) }
+    /// Puts this step behind each of the ways.
+    pub(crate) fn enter(&mut self, entry: Entry, history: &mut History<A>) -> Result<(), AllocError>
+        ensures { OnOk result (ways_of self.new ≡ ways_of self.old) }
     {
-        let mut ways = Vec::new(self.alloc);
-        for way in &self.ways {
-            let mut copy = way.copy()?;
-            copy.last = history.add(entry, way.last)?;
-            match ways.push(copy) {
-                Ok(()) => {}
-                Err(_) => return Err(AllocError),
-            }
+        self.first.last = history.add(entry, self.first.last)?;
+        if !self.is_one() {
+            self.others = entered(self.alloc, &self.others, entry, history)?;
         }
-        Ok(Ways {
-            alloc: self.alloc,
-            ways,
-        })
+        Ok(())
+    }
+
+    fn is_one(&self) -> bool
+        ensures { IsTrue result → self.now.others.items ≡ [] }
+    {
+        matches!(self.others.as_slice(), [])
     }
 
     fn has(&self, way: &Way<A>) -> bool
         ensures { IsTrue result → Among (way_of way.now) (ways_of self.now) }
     {
-        for other in &self.ways {
+        if way.is_same(&self.first) {
+            return true;
+        }
+        for other in &self.others {
             if way.is_same(other) {
                 return true;
             }
@@ -104,58 +92,82 @@ impl<A: Allocator + Copy> Ways<A> {
         false
     }
 
-    // Adds a way, and tells whether it is new.
-    fn add(&mut self, way: Way<A>, position: Position) -> Result<bool, ViewFault>
-        ensures added { OnOk result (Among (way_of way) (ways_of self.new)) }
-        ensures kept { OnOk result (AreAmong (ways_of self.old) (ways_of self.new)) }
-        ensures same { IfOk result (λ grown. grown ≡ false → ways_of self.new ≡ ways_of self.old) }
+    /// Whether each of the others is one of these.
+    pub(crate) fn has_all(&self, others: &Ways<A>) -> bool
+        ensures { IsTrue result → AreAmong (ways_of others.now) (ways_of self.now) }
     {
-        if self.has(&way) {
-            return Ok(false);
+        if !self.has(&others.first) {
+            return false;
         }
-        if self.ways.len() >= MOST_WAYS {
-            return Err(ViewFault::TooManyWays(position));
+        for way in &others.others {
+            if !self.has(way) {
+                return false;
+            }
         }
-        let Ok(()) = self.ways.push(way) else {
-            return Err(ViewFault::Memory);
-        };
-        Ok(true)
+        true
     }
 
-    // Adds a way, which is copied if it is new, and tells whether it is.
-    fn add_copy(&mut self, way: &Way<A>, position: Position) -> Result<bool, ViewFault>
+    // Adds a way, unless it is one of them.
+    fn add(&mut self, way: Way<A>, position: Position) -> Result<(), ViewFault>
+        ensures added { OnOk result (Among (way_of way) (ways_of self.new)) }
+        ensures kept { OnOk result (AreAmong (ways_of self.old) (ways_of self.new)) }
+    {
+        if self.has(&way) {
+            return Ok(());
+        }
+        if self.others.len() >= MOST_WAYS - 1 {
+            return Err(ViewFault::TooManyWays(position));
+        }
+        let Ok(()) = self.others.push(way) else {
+            return Err(ViewFault::Memory);
+        };
+        Ok(())
+    }
+
+    // Adds a way, which is copied if it is new.
+    fn add_copy(&mut self, way: &Way<A>, position: Position) -> Result<(), ViewFault>
         ensures added { OnOk result (Among (way_of way.now) (ways_of self.new)) }
         ensures kept { OnOk result (AreAmong (ways_of self.old) (ways_of self.new)) }
-        ensures same { IfOk result (λ grown. grown ≡ false → ways_of self.new ≡ ways_of self.old) }
     {
         if self.has(way) {
-            return Ok(false);
+            return Ok(());
         }
         let copy = way.copy()?;
         self.add(copy, position)
     }
 
-    /// Adds ways, and tells whether one of them is new.
-    pub(crate) fn add_all(
-        &mut self,
-        others: &Ways<A>,
-        position: Position,
-    ) -> Result<bool, ViewFault>
+    /// Adds ways.
+    pub(crate) fn add_all(&mut self, others: &Ways<A>, position: Position) -> Result<(), ViewFault>
         ensures added { OnOk result (AreAmong (ways_of others.now) (ways_of self.new)) }
         ensures kept { OnOk result (AreAmong (ways_of self.old) (ways_of self.new)) }
-        ensures same { IfOk result (λ grown. grown ≡ false → ways_of self.new ≡ ways_of self.old) }
     {
-        let mut has_grown = false;
-        for way in &others.ways {
-            if self.add_copy(way, position)? {
-                has_grown = true;
-            }
+        self.add_copy(&others.first, position)?;
+        for way in &others.others {
+            self.add_copy(way, position)?;
         }
-        Ok(has_grown)
+        Ok(())
     }
 
-    /// The ways behind markup.
-    pub(crate) fn behind_markup(
+    /// Reads markup on each of the ways.
+    pub(crate) fn take_markup(
+        &mut self,
+        bytes: &[u8],
+        position: Position,
+        history: &mut History<A>,
+    ) -> Result<(), ViewFault>
+        ensures { OnOk result ((way : spec.Way) → Among way (ways_of self.old)
+            → GoesOn way bytes.now (ways_of self.new)) }
+    {
+        if self.is_one() {
+            return move_on(&mut self.first, bytes, position, history);
+        }
+        let next = self.behind_markup(bytes, position, history)?;
+        *self = next;
+        Ok(())
+    }
+
+    // The ways behind markup.
+    fn behind_markup(
         &self,
         bytes: &[u8],
         position: Position,
@@ -164,58 +176,57 @@ impl<A: Allocator + Copy> Ways<A> {
         ensures { IfOk result (λ next. (way : spec.Way) → Among way (ways_of self.now)
             → GoesOn way bytes.now (ways_of next)) }
     {
-        let mut next = Ways::none(self.alloc);
-        for way in &self.ways {
+        let mut first = self.first.copy()?;
+        move_on(&mut first, bytes, position, history)?;
+        let mut next = Ways::only(self.alloc, first);
+        for way in &self.others {
             let mut moved = way.copy()?;
-            match moved.take_markup(bytes)? {
-                Ok(()) => {}
-                Err(why) => {
-                    history.refuse(way.last);
-                    return Err(ViewFault::Part(position, why));
-                }
-            }
-            let _is_new = next.add(moved, position)?;
+            move_on(&mut moved, bytes, position, history)?;
+            next.add(moved, position)?;
         }
         Ok(next)
     }
 
-    /// The ways behind a slot, and where it stands on all of them.
-    pub(crate) fn behind_slot(
+    /// Reads a slot on each of the ways, and tells where it stands on all of them.
+    pub(crate) fn take_slot(
+        &mut self,
+        position: Position,
+        history: &mut History<A>,
+    ) -> Result<PlacedSlot, ViewFault>
+        ensures { IfOk result (λ found. (slot : Placed) → found.place ≡ slot.place
+            → found.kind ≡ slot.kind → (way : spec.Way) → Among way (ways_of self.old)
+            → GoesPast way slot (ways_of self.new)) }
+    {
+        if self.is_one() {
+            return move_past(&mut self.first, position, history);
+        }
+        let past = self.behind_slot(position, history)?;
+        *self = past.next;
+        Ok(past.slot)
+    }
+
+    // The ways behind a slot, and where it stands on all of them.
+    fn behind_slot(
         &self,
         position: Position,
         history: &mut History<A>,
     ) -> Result<Past<A>, ViewFault>
-        ensures { IfOk result (λ past. (slot : Placed) → past.place ≡ slot.place → past.kind ≡ slot.kind
-            → (way : spec.Way) → Among way (ways_of self.now) → GoesPast way slot (ways_of past.next)) }
+        ensures { IfOk result (λ past. (slot : Placed) → past.slot.place ≡ slot.place
+            → past.slot.kind ≡ slot.kind → (way : spec.Way) → Among way (ways_of self.now)
+            → GoesPast way slot (ways_of past.next)) }
     {
-        let mut next = Ways::none(self.alloc);
-        let mut found: Option<PlacedSlot> = None;
-        for way in &self.ways {
+        let mut first = self.first.copy()?;
+        let slot = move_past(&mut first, position, history)?;
+        let mut next = Ways::only(self.alloc, first);
+        for way in &self.others {
             let mut moved = way.copy()?;
-            let slot = match moved.take_slot()? {
-                Ok(slot) => slot,
-                Err(why) => {
-                    history.refuse(way.last);
-                    return Err(ViewFault::Part(position, why));
-                }
-            };
-            if let Some(other) = found {
-                if !is_same_slot(slot, other) {
-                    return Err(ViewFault::Ambiguous(position));
-                }
+            let other = move_past(&mut moved, position, history)?;
+            if !is_same_slot(slot, other) {
+                return Err(ViewFault::Ambiguous(position));
             }
-            found = Some(slot);
-            let _is_new = next.add(moved, position)?;
+            next.add(moved, position)?;
         }
-        match found {
-            Some(slot) => Ok(Past {
-                place: slot.place,
-                kind: slot.kind,
-                next,
-            }),
-            // There is always a way.
-            None => Err(ViewFault::Ambiguous(position)),
-        }
+        Ok(Past { slot, next })
     }
 
     /// Whether a page may end on each of them.
@@ -223,13 +234,92 @@ impl<A: Allocator + Copy> Ways<A> {
         ensures { IfOk result (λ may. IsTrue may → (way : spec.Way) → Among way (ways_of self.now)
             → MayEnd way) }
     {
-        for way in &self.ways {
+        if !self.first.may_end()? {
+            history.refuse(self.first.last);
+            return Ok(false);
+        }
+        for way in &self.others {
             if !way.may_end()? {
                 history.refuse(way.last);
                 return Ok(false);
             }
         }
         Ok(true)
+    }
+}
+
+// The same ways once more.
+fn copies<A: Allocator + Copy>(
+    alloc: A,
+    ways: &Vec<Way<A>, A>,
+) -> Result<Vec<Way<A>, A>, AllocError>
+    ensures { IfOk result (λ copies. map way_of copies.items ≡ map way_of ways.now.items) }
+{
+    let mut copies = Vec::new(alloc);
+    for way in ways {
+        let copy = way.copy()?;
+        match copies.push(copy) {
+            Ok(()) => {}
+            Err(_) => return Err(AllocError),
+        }
+    }
+    Ok(copies)
+}
+
+// The same ways, each with this step behind it.
+fn entered<A: Allocator + Copy>(
+    alloc: A,
+    ways: &Vec<Way<A>, A>,
+    entry: Entry,
+    history: &mut History<A>,
+) -> Result<Vec<Way<A>, A>, AllocError>
+    ensures { IfOk result (λ entered. map way_of entered.items ≡ map way_of ways.now.items) }
+{
+    let mut entered = Vec::new(alloc);
+    for way in ways {
+        let mut copy = way.copy()?;
+        copy.last = history.add(entry, way.last)?;
+        match entered.push(copy) {
+            Ok(()) => {}
+            Err(_) => return Err(AllocError),
+        }
+    }
+    Ok(entered)
+}
+
+// Reads markup on a way. A fault is that of this way.
+fn move_on<A: Allocator + Copy>(
+    way: &mut Way<A>,
+    bytes: &[u8],
+    position: Position,
+    history: &mut History<A>,
+) -> Result<(), ViewFault>
+    ensures { OnOk result (way_behind (way_of way.old) bytes.now ≡ Ok (way_of way.new)) }
+{
+    match way.take_markup(bytes)? {
+        Ok(()) => Ok(()),
+        Err(why) => {
+            history.refuse(way.last);
+            Err(ViewFault::Part(position, why))
+        }
+    }
+}
+
+// Reads a slot on a way. A fault is that of this way.
+fn move_past<A: Allocator + Copy>(
+    way: &mut Way<A>,
+    position: Position,
+    history: &mut History<A>,
+) -> Result<PlacedSlot, ViewFault>
+    ensures stands { IfOk result (λ slot. way_slot (way_of way.old) ≡ Ok slot) }
+    ensures past { IfOk result (λ slot. way_of way.new ≡ past_slot (way_of way.old) slot) }
+{
+    match way.take_slot()? {
+        Ok(slot) => Ok(slot),
+        Err(why) => {
+            history.refuse(way.last);
+            Err(ViewFault::Part(position, why))
+        }
     }
 }
 

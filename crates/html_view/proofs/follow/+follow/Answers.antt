@@ -6,25 +6,26 @@ use Rattle.html_view.specs.declared.node.Node.{Markup, Node, Section, Slot}
 use Rattle.html_view.specs.declared.node.Opening.{Opening}
 use Rattle.html_view.specs.declared.node.Placed.{Placed}
 use Rattle.html_view.specs.declared.node.Asked.{Asked}
-use Rattle.html_view.proofs.Followed.{all_among, body_closed, body_wider, followed_all, followed_more, followed_start, markup_followed, section_followed, slot_followed}
+use Rattle.html_view.specs.declared.node.Times.TheVariants.{Each}
+use Rattle.html_view.proofs.Followed.{all_among, body_back, body_once, body_wider, followed_all, followed_more, followed_start, markup_followed, section_followed, slot_followed}
 use Rattle.html_view.proofs.follow.+follow.Goals as goal
 use Rattle.html_view.proofs.follow.+follow.Goals.{follow_again-in-Some, follow_again-in-None}
 
 pub follow-loop-node-init : goal.follow-loop-node-init
 follow-loop-node-init g t c =
-    followed_start c.args.nodes.now.items c.new-placed.result.items (ways_of c.args.ways.now) (ways_of c.in_ok-here.here)
-    c.new-placed.ensures.items c.in_ok-here.ensures
+    followed_start c.args.nodes.now.items c.in_ok-placed.placed.items (ways_of c.args.ways.now) (ways_of c.enter.new.self)
+    c.in_ok-placed.ensures.items c.in_ok-enter.ensures
 
 pub follow-loop-node-preserved : goal.follow-loop-node-preserved
 follow-loop-node-preserved g t c =
     followed_more c.deref-node-items.result.now c.args.nodes.now.items c.loop-node.node-index (c.loop-node.node-index + 1) c.node-item.result
-    c.loop-node.placed.items c.push.new.self.items c.in_ok-followed.followed.node (ways_of c.args.ways.now) (ways_of c.loop-node.here)
-    (ways_of c.in_ok-followed.followed.ways) c.deref-node-items.ensures.value (omega arith) (omega arith) c.node-item.is (search rules)
+    c.loop-node.placed.items c.push.new.self.items c.in_ok-followed.followed (ways_of c.args.ways.now) (ways_of c.loop-node.ways)
+    (ways_of c.follow_node.new.ways) c.deref-node-items.ensures.value (omega arith) (omega arith) c.node-item.is (search rules)
     c.loop-node.invariant c.in_ok-followed.ensures
 
 pub follow-returns : goal.follow-returns
 follow-returns g t c =
-    followed_all c.args.nodes.now.items c.loop-node.node-index c.loop-node.placed.items (ways_of c.args.ways.now) (ways_of c.loop-node.here)
+    followed_all c.args.nodes.now.items c.loop-node.node-index c.loop-node.placed.items (ways_of c.args.ways.now) (ways_of c.loop-node.ways)
     (subst (λ (n : List _). length n ≤ c.loop-node.node-index) c.deref-node-items.ensures.value c.loop-node-test.false) c.loop-node.invariant
 
 pub follow_again-returns-in-Some-2-clause-body : goal.follow_again-returns-in-Some-2-clause-body
@@ -40,52 +41,55 @@ follow_again-returns-in-Some-2-clause-body g t c =
     (ways_of c.args.ways.now) (ways_of c.match-ways.head) (ways_of c.in-Some-2.repeated.ways)
     (subst (λ w. AreAmong w (ways_of c.match-ways.head)) c.in_ok-head.ensures kept) (rw c.in-Some-2.is at c.in_ok-repeated-in-Ok.ensures.body)
 
+pub follow_once-returns-clause-body : goal.follow_once-returns-clause-body
+follow_once-returns-clause-body g t c =
+    body_once (asked_nodes c.args.body.now.items) (placed_nodes c.in_ok-nodes.nodes.items) c.args.times (ways_of c.args.ways.now) (ways_of c.in_ok-out.out)
+    (ways_of c.follow.new.ways) c.requires c.in_ok-out.ensures c.in_ok-nodes.ensures
+
+pub follow_new-returns-then-has_all-clause-body : goal.follow_new-returns-then-has_all-clause-body
+follow_new-returns-then-has_all-clause-body g t c =
+    body_back (asked_nodes c.args.body.now.items) (placed_nodes c.in_ok-once.once.nodes.items) c.in_ok-once.once.times (ways_of c.args.ways.now)
+    (ways_of c.in_ok-once.once.ways) (c.has_all.ensures c.if-has_all.true) c.in_ok-once.ensures.body
+
 pub follow_new-returns-in-Some-clause-body : goal.follow_new-returns-in-Some-clause-body
 follow_new-returns-in-Some-clause-body g t c =
     body_wider (asked_nodes c.args.body.now.items) (placed_nodes c.in-Some.repeated.nodes.items) c.in-Some.repeated.times
     (ways_of c.args.ways.now) (ways_of c.add_all.new.self) (ways_of c.in-Some.repeated.ways)
-    (subst (λ w. AreAmong w (ways_of c.add_all.new.self)) c.in_ok-head.ensures c.in-Ok-true.ensures.kept)
-    (rw c.in-Some.is at c.in_ok-repeated-in-Ok-true.ensures.body)
+    (subst (λ w. AreAmong w (ways_of c.add_all.new.self)) c.in_ok-head.ensures c.in-Ok.ensures.kept)
+    (rw c.in-Some.is at c.in_ok-repeated-in-Ok.ensures.body)
 
-pub follow_new-returns-in-Ok-false-clause-body : goal.follow_new-returns-in-Ok-false-clause-body
-follow_new-returns-in-Ok-false-clause-body g t c =
-    body_closed (asked_nodes c.args.body.now.items) (placed_nodes c.in_ok-once.once.nodes.items) (ways_of c.args.ways.now) (ways_of c.args.ways.now)
-    (ways_of c.in_ok-once.once.ways) (all_among (ways_of c.args.ways.now))
-    (subst (λ w. AreAmong (ways_of c.in_ok-once.once.ways) w) (c.in-Ok-false.ensures.same c.in-Ok-false.field-0-test ∙ c.in_ok-head.ensures) c.in-Ok-false.ensures.added)
-    c.in_ok-once.ensures
-
-pub follow_node-returns-in_ok-ways-in-Markup : goal.follow_node-returns-in_ok-ways-in-Markup
-follow_node-returns-in_ok-ways-in-Markup g t c =
+pub follow_node-returns-in_ok-take_markup-in-Markup : goal.follow_node-returns-in_ok-take_markup-in-Markup
+follow_node-returns-in_ok-take_markup-in-Markup g t c =
     subst (λ (n : Node Asked _). Follows (asked_node n) (placed_node (Markup c.in-Markup.text c.in-Markup.position))
-    (ways_of c.args.ways.now) (ways_of c.in_ok-ways-in-Markup.ways)) (sym c.in-Markup.is)
-    (markup_followed _ c.in-Markup.text c.in-Markup.position c.in-Markup.position (ways_of c.args.ways.now) (ways_of c.in_ok-ways-in-Markup.ways)
-    (λ way among. subst (λ b. GoesOn way b (ways_of c.in_ok-ways-in-Markup.ways)) c.as_bytes.ensures.value (c.in_ok-ways-in-Markup.ensures way among)))
+    (ways_of c.args.ways.now) (ways_of c.take_markup.new.self)) (sym c.in-Markup.is)
+    (markup_followed _ c.in-Markup.text c.in-Markup.position c.in-Markup.position (ways_of c.args.ways.now) (ways_of c.take_markup.new.self)
+    (λ way among. subst (λ b. GoesOn way b (ways_of c.take_markup.new.self)) c.as_bytes.ensures.value (c.in_ok-take_markup-in-Markup.ensures way among)))
 
-pub follow_node-returns-in_ok-past-in-Slot : goal.follow_node-returns-in_ok-past-in-Slot
-follow_node-returns-in_ok-past-in-Slot g t c =
-    let made : Placed = record { asked = c.in-Slot.slot; place = c.in_ok-past-in-Slot.past.place; kind = c.in_ok-past-in-Slot.past.kind } in
-    subst (λ (n : Node Asked _). Follows (asked_node n) (placed_node (Slot made)) (ways_of c.args.ways.now) (ways_of c.in_ok-past-in-Slot.past.next)) (sym c.in-Slot.is)
-    (slot_followed _ made (ways_of c.args.ways.now) (ways_of c.in_ok-past-in-Slot.past.next) (c.in_ok-past-in-Slot.ensures _ refl refl))
+pub follow_node-returns-in_ok-found-in-Slot : goal.follow_node-returns-in_ok-found-in-Slot
+follow_node-returns-in_ok-found-in-Slot g t c =
+    let made : Placed = record { asked = c.in-Slot.slot; place = c.in_ok-found-in-Slot.found.place; kind = c.in_ok-found-in-Slot.found.kind } in
+    subst (λ (n : Node Asked _). Follows (asked_node n) (placed_node (Slot made)) (ways_of c.args.ways.now) (ways_of c.take_slot.new.self)) (sym c.in-Slot.is)
+    (slot_followed _ made (ways_of c.args.ways.now) (ways_of c.take_slot.new.self) (c.in_ok-found-in-Slot.ensures _ refl refl))
 
-pub follow_node-returns-in_ok-_has_grown-in-Section : goal.follow_node-returns-in_ok-_has_grown-in-Section
-follow_node-returns-in_ok-_has_grown-in-Section g t c =
+pub follow_node-returns-in_ok-add_all-in-Section : goal.follow_node-returns-in_ok-add_all-in-Section
+follow_node-returns-in_ok-add_all-in-Section g t c =
     let made : Opening = record { name = c.in-Section.opening.name; position = c.in-Section.opening.position; times = c.in_ok-passes-in-Section.passes.times } in
     subst (λ (n : Node Asked _). Follows (asked_node n)
-    (placed_node (Section made c.in_ok-passes-in-Section.passes.nodes c.in_ok-other-in-Section.other.nodes)) (ways_of c.args.ways.now) (ways_of c.add_all.new.self))
+    (placed_node (Section made c.in_ok-passes-in-Section.passes.nodes c.in_ok-other-in-Section.other)) (ways_of c.args.ways.now) (ways_of c.add_all.new.self))
     (sym c.in-Section.is)
     (section_followed c.in-Section.opening
     made
-    c.in-Section.body c.in-Section.otherwise c.in_ok-passes-in-Section.passes.nodes c.in_ok-other-in-Section.other.nodes
-    (ways_of c.args.ways.now) (ways_of c.in_ok-passes-in-Section.passes.ways) (ways_of c.in_ok-other-in-Section.other.ways) (ways_of c.add_all.new.self)
+    c.in-Section.body c.in-Section.otherwise c.in_ok-passes-in-Section.passes.nodes c.in_ok-other-in-Section.other
+    (ways_of c.args.ways.now) (ways_of c.in_ok-passes-in-Section.passes.ways) (ways_of c.follow.new.ways) (ways_of c.add_all.new.self)
     refl refl c.in_ok-passes-in-Section.ensures.times c.in_ok-passes-in-Section.ensures.body c.in_ok-other-in-Section.ensures
-    c.in_ok-_has_grown-in-Section.ensures.added c.in_ok-_has_grown-in-Section.ensures.kept)
+    c.in_ok-add_all-in-Section.ensures.added c.in_ok-add_all-in-Section.ensures.kept)
 
-pub follow_rounds-returns-in-Ok-false-clause-body : goal.follow_rounds-returns-in-Ok-false-clause-body
-follow_rounds-returns-in-Ok-false-clause-body g t c =
-    body_closed (asked_nodes c.args.body.now.items) (placed_nodes c.in-Ok.round.nodes.items) (ways_of c.args.ways) (ways_of c.loop-round.head)
+pub follow_rounds-returns-then-has_all-clause-body : goal.follow_rounds-returns-then-has_all-clause-body
+follow_rounds-returns-then-has_all-clause-body g t c =
+    body_wider (asked_nodes c.args.body.now.items) (placed_nodes c.in-Ok.round.nodes.items) Each (ways_of c.args.ways) (ways_of c.loop-round.head)
     (ways_of c.in-Ok.round.ways) c.loop-round.invariant
-    (subst (λ w. AreAmong (ways_of c.in-Ok.round.ways) w) (c.in-Ok-false.ensures.same c.in-Ok-false.field-0-test) c.in-Ok-false.ensures.added)
-    c.in-Ok.ensures
+    (body_back (asked_nodes c.args.body.now.items) (placed_nodes c.in-Ok.round.nodes.items) c.in-Ok.round.times (ways_of c.loop-round.head)
+    (ways_of c.in-Ok.round.ways) (c.has_all.ensures c.if-has_all.true) c.in-Ok.ensures.body)
 
 pub follow_rounds-loop-round-preserved : goal.follow_rounds-loop-round-preserved
-follow_rounds-loop-round-preserved g t c = λ way among. c.in-Ok-true.ensures.kept way (c.loop-round.invariant way among)
+follow_rounds-loop-round-preserved g t c = λ way among. c.in-Ok-add_all.ensures.kept way (c.loop-round.invariant way among)

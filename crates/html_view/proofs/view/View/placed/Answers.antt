@@ -8,10 +8,10 @@ use Rattle.html_view.proofs.view.View.placed.Goals as goal
 
 pub invariant_of-result : goal.invariant_of-result
 invariant_of-result g c = record {
-  sound = are_templates (asked_nodes c.args.nodes.now.items) (placed_nodes c.in_ok-followed.followed.nodes.items) (ways_of c.in_ok-first.first)
-      (ways_of c.in_ok-followed.followed.ways) c.in_ok-first.ensures c.in_ok-followed.ensures (c.in_ok-may_end.ensures c.if-not-branch.false);
+  sound = are_templates (asked_nodes c.args.nodes.now.items) (placed_nodes c.in_ok-nodes.nodes.items) (ways_of c.first-ways.result)
+      (ways_of c.follow.new.ways) c.first-ways.ensures c.in_ok-nodes.ensures (c.in_ok-may_end.ensures c.if-not-branch.false);
   same = λ stack. ap (λ n. unrolled n stack) c.in_ok-steps.ensures;
 }
 
 pub returns : goal.returns
-returns g c = c.in_ok-followed.ensures.same node.End
+returns g c = c.in_ok-nodes.ensures.same node.End

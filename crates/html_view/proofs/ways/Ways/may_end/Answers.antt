@@ -1,14 +1,15 @@
 use Rattle.std.proofs.Common.{rules, ◌≡◌, ◌≤◌, ◌+◌, List, length, subst, refl, arith}
 use Rattle.html_view.specs.Ways.{MayEnd}
-use Rattle.html_view.proofs.WaySets.{taken_all, taken_more}
+use Rattle.html_view.proofs.WaySets.{taken_all, taken_first, taken_more}
 use Rattle.html_view.proofs.ways.Ways.may_end.Goals as goal
 
 pub loop-way-preserved : goal.loop-way-preserved
 loop-way-preserved g c =
-    taken_more MayEnd c.deref-way-items.result.now c.args.self.now.ways.items c.loop-way.way-index (c.loop-way.way-index + 1) c.way-item.result
-    c.deref-way-items.ensures.value (omega arith) (omega arith) c.way-item.is c.loop-way.invariant (c.in_ok-may_end.ensures c.if-not-branch.false)
+    taken_more MayEnd c.deref-way-items.result.now c.args.self.now.others.items c.loop-way.way-index (c.loop-way.way-index + 1) c.way-item.result
+    c.deref-way-items.ensures.value (omega arith) (omega arith) c.way-item.is c.loop-way.invariant (c.in_ok-may_end-2.ensures c.if-not-branch-2.false)
 
 pub returns : goal.returns
 returns g c = λ so.
-    taken_all MayEnd c.args.self.now.ways.items c.loop-way.way-index
-    (subst (λ (w : List _). length w ≤ c.loop-way.way-index) c.deref-way-items.ensures.value c.loop-way-test.false) c.loop-way.invariant
+    taken_first MayEnd c.args.self.now.first c.args.self.now.others.items (c.in_ok-may_end.ensures c.if-not-branch.false)
+    (taken_all MayEnd c.args.self.now.others.items c.loop-way.way-index
+    (subst (λ (w : List _). length w ≤ c.loop-way.way-index) c.deref-way-items.ensures.value c.loop-way-test.false) c.loop-way.invariant)

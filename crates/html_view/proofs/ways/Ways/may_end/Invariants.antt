@@ -3,4 +3,4 @@ use Rattle.html_view.proofs.WaySets.{AllTaken}
 use Rattle.html_view.proofs.ways.Ways.may_end.Given as goal
 
 abbrev pub invariant-loop-way : goal.invariant-loop-way
-invariant-loop-way g l = AllTaken MayEnd l.self.ways.items l.way-index
+invariant-loop-way g l = AllTaken MayEnd l.self.others.items l.way-index

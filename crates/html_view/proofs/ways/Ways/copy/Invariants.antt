@@ -1,6 +1,0 @@
-use Rattle.std.proofs.Common.{◌≡◌, map, take}
-use Rattle.html_view.specs.Following.{way_of}
-use Rattle.html_view.proofs.ways.Ways.copy.Given as goal
-
-abbrev pub invariant-loop-way : goal.invariant-loop-way
-invariant-loop-way g l = map way_of l.ways.items ≡ map way_of (take l.way-index l.self.ways.items)
