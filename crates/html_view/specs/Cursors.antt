@@ -1,5 +1,6 @@
 -- Reading a text: the first tag from here, and the markup before it.
-use Rattle.std.specs.Prelude.{◌≡◌, ℕ, ◌+◌, Bool, true, false, List, ◌++◌, Option, Some, None, length, if◌then◌else◌}
+use Rattle.std.specs.Prelude.{◌≡◌, ◌≢◌, ℕ, ◌+◌, Bool, true, false, List, ◌∷◌, ◌++◌, Option, Some, None, length, if◌then◌else◌}
+use Rattle.std.specs.Str.{trim_start}
 use Rattle.html_view.specs.Lines.{before_line, behind_line}
 use Rattle.html_template_source.specs.Sources.{Lacks, closing, opening}
 use Rattle.html_view.specs.Tags.{IsTag, may_be_lone}
@@ -51,6 +52,13 @@ abbrev pub IsBehind : Here → Left → Here → Type 0
 IsBehind here left next =
     (next.text ≡ here.text) × (next.byte + length next.rest ≡ here.byte + length here.rest) × (next.rest ≡ left.rest)
     × (next.begins_line ≡ left.begins_line)
+
+abbrev pub brace : ℕ
+brace = 123
+
+-- behind white space stands something else than a brace
+abbrev pub IsAtText : Here → Type 0
+IsAtText here = (letter : ℕ) × (bytes : List ℕ) × (trim_start here.rest ≡ letter ∷ bytes) × (letter ≢ brace)
 
 -- the first tag from here, and the markup before it
 pub record PassesTag (here : Here) (markup : List ℕ) (tag : Tag) (next : Here) : Type 0 where

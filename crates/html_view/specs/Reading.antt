@@ -2,7 +2,7 @@
 use Rattle.std.specs.Prelude.{◌≡◌, ◌≢◌, ⊤, ℕ, ◌+◌, Bool, true, false, ◌&&◌, ◌||◌, List, [], ◌∷◌, ◌++◌, ◌==◌, nat_lt, Option, Some, None, bytes_eq, length, map, take, if◌then◌else◌}
 use Rattle.std.specs.Borrow.{Bor}
 use Rattle.std.specs.Str.{trim}
-use Rattle.html_view.specs.Cursors.{Here, Passes, first, here_of}
+use Rattle.html_view.specs.Cursors.{Here, IsAtText, Passes, first, here_of}
 use Rattle.html_view.specs.Names.{words_of}
 use Rattle.html_view.specs.Nodes as node
 use Rattle.html_view.specs.Nodes.{Asked, Nodes, Opening}
@@ -151,6 +151,7 @@ pub data Turns (name : List ℕ) : Here → List (List ℕ) → Tag → Here →
 
 -- or something does
 pub data TurnsNot (name : List ℕ) : Here → Type 0 where
+  at_text : {here : Here} → IsAtText here → TurnsNot name here
   at_end : {here : Here} → Lacks opening here.rest → TurnsNot name here
   at_markup : {tag : Tag} {here next : Here} {markup : List ℕ} → Passes here markup (Some tag) next → is_space markup ≡ false
       → TurnsNot name here

@@ -1,5 +1,5 @@
 //! A cursor over one text: the next tag, and the markup before it.
-ghost use Rattle.std.specs.Prelude.{◌≡◌, ◌+◌, ◌++◌, ◌<◌, ◌≤◌, ◌^◌, IfErr, IfNone, IfOk, IfSome, IsSome, length};
+ghost use Rattle.std.specs.Prelude.{◌≡◌, ◌+◌, ◌++◌, ◌<◌, ◌≤◌, ◌^◌, IfErr, IfNone, IfOk, IfSome, IsSome, IsTrue, length};
 ghost use Rattle.html_template_source.specs.Sources.{Lacks};
 
 use crate::faults::{Position, TagFault, ViewFault};
@@ -35,7 +35,7 @@ pub(crate) struct Cursor<'a> {
 }
 
 impl<'a> Cursor<'a> {
-    ghost use Rattle.html_view.specs.Cursors.{AnswersTag, IsBehind, Passes, first, here_of, left, position};
+    ghost use Rattle.html_view.specs.Cursors.{AnswersTag, IsAtText, IsBehind, Passes, first, here_of, left, position};
 
     /// At the beginning of the text with this number.
     pub(crate) fn new(text: usize, source: &'a str) -> Cursor<'a>
@@ -54,6 +54,16 @@ impl<'a> Cursor<'a> {
         ensures { result ≡ self.now.text }
     {
         self.text
+    }
+
+    /// Whether something else than a tag stands behind white space. Where it is not told, a tag may.
+    pub(crate) fn is_at_text(&self) -> bool
+        ensures { IsTrue result → IsAtText (here_of self.now) }
+    {
+        match self.rest.trim_start().as_bytes() {
+            [first, ..] => *first != b'{',
+            [] => false,
+        }
     }
 
     /// Reads the next tag and the markup before it. A tag that is all of its line takes the line with it.

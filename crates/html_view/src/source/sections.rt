@@ -49,6 +49,10 @@ impl<'a, A: Allocator + Copy> Otherwise<'a, A> {
         let mut space = Vec::new(alloc);
         let mut ahead = *cursor;
         loop {
+            // Most sections have no other side: then what follows is read once, where it is added.
+            if ahead.is_at_text() {
+                return Ok(None);
+            }
             let piece = ahead.next()?;
             let Some(tag) = piece.tag else {
                 return Ok(None);
@@ -155,6 +159,7 @@ pub(crate) fn opening(tag: Tag<'_>, times: Times) -> Opening<'_>
 }
 
 /// Adds markup, if there is any.
+#[inline(always)]
 pub(crate) fn add_markup<'a, A: Allocator>(
     nodes: &mut Nodes<'a, A>,
     piece: Piece<'a>,
@@ -170,6 +175,7 @@ pub(crate) fn add_markup<'a, A: Allocator>(
 }
 
 /// Adds a node.
+#[inline(always)]
 pub(crate) fn add<'a, A: Allocator>(
     nodes: &mut Nodes<'a, A>,
     node: Node<'a, Asked<'a>, A>,
