@@ -83,8 +83,8 @@ pub fn url_law()
 
 /// The URLs of a page, as the tokenizer reads them, are those of its template, `template_urls parts`,
 /// filled by the texts of its slots in URLs, in order: a part of a URL is the component of its text, a
-/// whole URL is its text, which is a link or an own path as its slot asks, and no text is left. So what `html_urls::laws` say of a URL's
-/// parts and their texts holds of the URLs of a page.
+/// whole URL is its text, which is a link or an own path as its slot asks, and no text is left. So what
+/// `html_urls::laws` say of a URL's parts and their texts holds of the URLs of a page.
 ///
 /// For instance `<a href="/?q=`, a slot and `&amp;p=1">` has one URL, of the parts `/?q=`, a slot and
 /// `&p=1`. In the page of `b&p=2` it is `/?q=b%26p%3D2&p=1`.
