@@ -3,4 +3,3 @@ mod Checked
 mod Named
 mod Flushed
 mod Read
-mod Made

@@ -79,7 +79,6 @@ fn answer_to<A: Allocator + Copy, S: Sources, R: Read>(
 }
 
 // What the command answers to these texts.
-#[tactic(auto, using(crate::proofs::Made::page_answers))]
 fn answer_of<A: Allocator + Copy, R: Read>(
     alloc: A,
     heap: Global,
