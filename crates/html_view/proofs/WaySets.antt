@@ -1,5 +1,5 @@
 -- Ways among others.
-use Rattle.std.proofs.Common.{ℕ, zero, suc, ◌≡◌, ◌<◌, ◌≤◌, Bool, false, Result, Ok, Err, IfOk, OnOk, List, [], ◌∷◌, ◌++◌, map, take, get_or, length, arith, refl, sym, ap, ◌∙◌, subst, inl, inr, ⊎_elim}
+use Rattle.std.proofs.Common.{ℕ, zero, suc, ◌≡◌, ◌<◌, ◌≤◌, Result, Ok, Err, IfOk, OnOk, List, [], ◌∷◌, ◌++◌, map, take, get_or, length, arith, refl, sym, ap, ◌∙◌, subst, inl, inr, ⊎_elim}
 use Rattle.std.proofs.lemmas.List.{map-append}
 use Rattle.html_template.specs.declared.open_url.PlacedSlot.{PlacedSlot}
 use Rattle.html_view.specs.Following.{way_of}

@@ -1,4 +1,4 @@
-use Rattle.std.proofs.Common.{rules, ◌≡◌, ◌≤◌, ◌∙◌, ◌+◌, List, length, subst, refl, sym, arith}
+use Rattle.std.proofs.Common.{◌≤◌, ◌∙◌, ◌+◌, List, length, subst, sym, arith}
 use Rattle.html_view.specs.Following.{way_of, ways_of}
 use Rattle.html_view.specs.Takes.{GoesPast}
 use Rattle.html_view.proofs.WaySets.{goes_past, only_among, past_wider, taken_all, taken_first, taken_more, taken_none}

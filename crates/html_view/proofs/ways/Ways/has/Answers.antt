@@ -1,6 +1,4 @@
-use Rattle.std.proofs.Common.{rules, ◌≡◌, sym, subst, ap, inr, ◌∙◌, arith, List}
-use Rattle.html_view.specs.Following.{way_of, ways_of}
-use Rattle.html_view.specs.Takes.{Among}
+use Rattle.std.proofs.Common.{rules, inr, arith}
 use Rattle.html_view.proofs.WaySets.{among_at, among_same}
 use Rattle.html_view.proofs.ways.Ways.has.Goals as goal
 

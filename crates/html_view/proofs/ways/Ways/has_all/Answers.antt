@@ -1,5 +1,5 @@
-use Rattle.std.proofs.Common.{◌≡◌, ◌≤◌, ◌+◌, List, length, subst, arith}
-use Rattle.html_view.specs.Following.{way_of, ways_of}
+use Rattle.std.proofs.Common.{◌≤◌, ◌+◌, List, length, subst, arith}
+use Rattle.html_view.specs.Following.{ways_of}
 use Rattle.html_view.specs.Takes.{Among}
 use Rattle.html_view.proofs.WaySets.{taken_all, taken_first, taken_more}
 use Rattle.html_view.proofs.ways.Ways.has_all.Goals as goal

@@ -1,4 +1,4 @@
-use Rattle.std.proofs.Common.{rules, ◌≡◌, ◌≤◌, ◌+◌, List, length, subst, refl, arith}
+use Rattle.std.proofs.Common.{◌≤◌, ◌+◌, List, length, subst, arith}
 use Rattle.html_view.specs.Ways.{MayEnd}
 use Rattle.html_view.proofs.WaySets.{taken_all, taken_first, taken_more}
 use Rattle.html_view.proofs.ways.Ways.may_end.Goals as goal

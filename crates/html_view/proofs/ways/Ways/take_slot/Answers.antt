@@ -1,4 +1,3 @@
-use Rattle.std.proofs.Common.{rules}
 use Rattle.html_view.proofs.WaySets.{only_goes_past}
 use Rattle.html_view.proofs.ways.Ways.take_slot.Goals as goal
 
