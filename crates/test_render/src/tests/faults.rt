@@ -25,7 +25,8 @@ pub fn refusal(row: Refusal) -> Row {
     }
 }
 
-pub static REFUSALS: [Refusal; 47] = [
+/// Of the words, of files and of tags.
+pub static REFUSALS: [Refusal; 17] = [
     (&[], &[], b"", 2, "usage: hesc COMMAND [ARGUMENT..]\n"),
     (
         &["render"],
@@ -146,6 +147,10 @@ pub static REFUSALS: [Refusal; 47] = [
         1,
         "hesc: p:2:2: no such partial; give its file, in front of partials that ask for it\n",
     ),
+];
+
+/// Of places and of ways.
+static OF_VIEWS: [Refusal; 13] = [
     // Places.
     (
         &["check", "v"],
@@ -248,6 +253,10 @@ pub static REFUSALS: [Refusal; 47] = [
         1,
         "hesc: v:1:28: no text may stand here (if the sections at v:1:13 and v:1:19 stand, and 2 before them)\n",
     ),
+];
+
+/// Of the input and of values.
+static OF_DATA: [Refusal; 17] = [
     // The input.
     (
         &["render", "v"],
@@ -373,8 +382,26 @@ pub static REFUSALS: [Refusal; 47] = [
 ];
 
 #[test]
-fn each_fault_has_its_status_and_its_line(rt: HostRuntime) -> Result<(), Fail> {
+fn each_fault_of_words_files_and_tags_has_its_line(rt: HostRuntime) -> Result<(), Fail> {
     for &row in &REFUSALS {
+        let found = shown(rt.alloc(), refusal(row))?;
+        assert!(rt; is_right(rt.alloc(), refusal(row))?, "{:?}: {found}", row.4);
+    }
+    Ok(())
+}
+
+#[test]
+fn each_fault_of_a_view_has_its_line(rt: HostRuntime) -> Result<(), Fail> {
+    for &row in &OF_VIEWS {
+        let found = shown(rt.alloc(), refusal(row))?;
+        assert!(rt; is_right(rt.alloc(), refusal(row))?, "{:?}: {found}", row.4);
+    }
+    Ok(())
+}
+
+#[test]
+fn each_fault_of_data_has_its_line(rt: HostRuntime) -> Result<(), Fail> {
+    for &row in &OF_DATA {
         let found = shown(rt.alloc(), refusal(row))?;
         assert!(rt; is_right(rt.alloc(), refusal(row))?, "{:?}: {found}", row.4);
     }
