@@ -14,5 +14,5 @@ pub use crate::templates::{
     asset_page, breadcrumbs, form_page, home_page, link_list, mail_rows, price_list, search_page,
 };
 pub use crate::urls::search_link;
-pub use crate::views::{json_page, two_pages};
+pub use crate::views::{framed_page, json_page, two_pages};
 pub use crate::writers::{log_item, log_list};

@@ -1,4 +1,5 @@
 //! Callers that make pages of data.
 
+pub mod framed_page;
 pub mod json_page;
 pub mod two_pages;
