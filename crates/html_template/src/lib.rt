@@ -20,9 +20,9 @@ mod texts;
 mod walk;
 
 pub use crate::faults::{FillFault, PartFault, TemplateFault, TextFault, WriteFault};
-pub use crate::fill::{text_fault, total_length};
+pub use crate::fill::text_fault;
 pub use crate::open_url::{OpenUrl, PlacedSlot, url_markup};
-pub use crate::page::{Page, put_markup, put_text, write_page};
+pub use crate::page::{put_markup, put_text};
 pub use crate::parts::{Part, SlotKind};
 pub use crate::stored::{Stored, StoredMarkup, StoredSlot};
 pub use crate::template::Template;
