@@ -58,6 +58,10 @@ ends_as behind is_empty None = false
 abbrev pub is_base : BehindBase → List ℕ → Bool
 is_base behind text = is_plain text false && is_own_or_web text && ends_as behind (length text == 0) (after_markup NewSegment text)
 
+-- one of the page's own host: empty, or one `/` and no second one after it
+abbrev pub is_own_base : BehindBase → List ℕ → Bool
+is_own_base behind text = is_base behind text && (length text == 0 || is_rooted text)
+
 -- ---- what follows
 
 -- a byte with which a segment begins behind a base
@@ -75,6 +79,16 @@ behind_byte b =
 abbrev pub behind_base : List ℕ → Option BehindBase
 behind_base [] = None
 behind_base (b ∷ markup) = behind_byte b
+
+abbrev pub is_same : BehindBase → Option BehindBase → Bool
+is_same Slash (Some Slash) = true
+is_same Tail (Some Tail) = true
+is_same Segment (Some Segment) = true
+is_same behind other = false
+
+-- the markup goes on so by its first byte, and begins with no second `/`
+abbrev pub goes_as : BehindBase → List ℕ → Bool
+goes_as behind markup = is_same behind (behind_base markup) && not (begins markup (codes "//"))
 
 -- the markup goes on so: with one `/`, with `?` or `#`, or with no `/`
 abbrev pub goes_on_so : BehindBase → List ℕ → Bool

@@ -1,4 +1,4 @@
-//! Texts with which a URL begins that goes on in its markup: bases.
+//! Texts with which a URL begins that goes on in its markup: bases, and those of the page's own host.
 ghost use Rattle.std.specs.Prelude.{◌≡◌};
 ghost use Rattle.html_urls.specs.Bases as spec;
 ghost use Rattle.html_urls.specs.OpenParts as opened;
@@ -31,6 +31,38 @@ pub fn behind_base(markup: &[u8]) -> Option<BehindBase>
         [b'?' | b'#', ..] => Some(BehindBase::Tail),
         [b, ..] if b.is_ascii_alphanumeric() || *b == b'_' => Some(BehindBase::Segment),
         _ => None,
+    }
+}
+
+fn is_same(behind: BehindBase, other: Option<BehindBase>) -> bool
+    ensures { result ≡ spec.is_same behind other }
+{
+    match (behind, other) {
+        (BehindBase::Slash, Some(BehindBase::Slash)) => true,
+        (BehindBase::Tail, Some(BehindBase::Tail)) => true,
+        (BehindBase::Segment, Some(BehindBase::Segment)) => true,
+        _ => false,
+    }
+}
+
+/// Whether a URL goes on so with this markup behind a base: by its first byte, and with no second `/`.
+///
+/// For `Slash`, of `/items/` it is `true`, and of `//items/` and `?q=` it is `false`.
+pub fn goes_as(behind: BehindBase, markup: &[u8]) -> bool
+    ensures { result ≡ spec.goes_as behind markup.now }
+{
+    is_same(behind, behind_base(markup)) && !markup.starts_with(b"//")
+}
+
+/// What is open behind a base. Before a `/`, a `?` or a `#` its last segment is one that is named.
+///
+/// Of `Slash` and `Tail` it is `NamedSegment`, and of `Segment` it is `NewSegment`.
+pub fn open_behind(behind: BehindBase) -> OpenPart
+    ensures { result ≡ spec.open_behind behind }
+{
+    match behind {
+        BehindBase::Slash | BehindBase::Tail => OpenPart::NamedSegment,
+        BehindBase::Segment => OpenPart::NewSegment,
     }
 }
 
@@ -96,4 +128,15 @@ pub fn is_base(behind: BehindBase, text: &str) -> bool
             bytes.is_empty(),
             after_markup(OpenPart::NewSegment, bytes),
         )
+}
+
+/// Whether the text is a base of the page's own host before what follows: it is empty, or begins with one
+/// `/`.
+///
+/// Before a `/`, of `/b` and the empty text it is `true`, and of `https://a.example/b`, `//a.example` and `b`
+/// it is `false`.
+pub fn is_own_base(behind: BehindBase, text: &str) -> bool
+    ensures { result ≡ spec.is_own_base behind text.now }
+{
+    is_base(behind, text) && (text.is_empty() || is_rooted(text.as_bytes()))
 }

@@ -12,7 +12,7 @@ ghost use Rattle.url.specs.Head.{head_only};
 ghost use Rattle.url.specs.Parser.{parse_url};
 ghost use Rattle.url.specs.Parts.{Parts};
 ghost use Rattle.url.specs.Relative.{segments};
-ghost use Rattle.html_urls.specs.Bases.{FillBehind, IsWebPage, goes_on_so, is_base};
+ghost use Rattle.html_urls.specs.Bases.{FillBehind, IsWebPage, goes_on_so, is_base, is_own_base};
 ghost use Rattle.html_urls.specs.Components.{component};
 ghost use Rattle.html_urls.specs.Decoded.{AreBytes, decoded_segments, has_pairs, query_pairs};
 ghost use Rattle.html_urls.specs.Heads.{head_of, on_ok};
@@ -133,6 +133,22 @@ pub fn base_law(behind: BehindBase, base: &str, parts: &[UrlPart<'_>])
         → FillUrl (Markup base.now ∷ map given parts.now) texts
         → head_of (parse_url page (base.now ++ url_of (map given parts.now) texts))
         ≡ head_of (parse_url page base.now) }
+{}
+
+/// An own base is a base of the page's own host: on each page of the web it has the page's scheme, user,
+/// password, host and port, and so have, by [`base_law`], the URLs that begin with it. Any two own bases have
+/// the same, or are both refused, where there is no page.
+///
+/// For instance on a page of `https://h:8080/d/f` behind `/b` and `/items/` the text `../c` stands in
+/// `https://h:8080/b/items/..%2Fc`.
+pub fn own_base_law(behind: BehindBase, base: &str)
+    requires { is_own_base behind base.now ≡ true }
+    ensures base { is_base behind base.now ≡ true }
+    ensures page { (page : Parts) → IsWebPage (Some page)
+        → head_of (parse_url (Some page) base.now) ≡ Ok (head_only page) }
+    ensures alike { (other : List ℕ) (before : BehindBase) → is_own_base before other ≡ true
+        → (page : Option Parts) → IsWebPage page
+        → head_of (parse_url page base.now) ≡ head_of (parse_url page other) }
 {}
 
 /// An own path is a URL on each page of the web, and has its scheme, user, password, host and port. Any two

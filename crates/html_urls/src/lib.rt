@@ -3,7 +3,8 @@
 //! [`encode_component`] percent-encodes a text so that it stays in its part of a URL: in one segment
 //! of a path, in the value of one pair of a query, in the fragment. The [`laws`] say so of the URL
 //! Standard's parser, each with the condition that it needs of the URL's front. A text that is a whole
-//! URL is asked [`is_link`] first, and where the page runs what the URL leads to, [`is_own_path`].
+//! URL is asked [`is_link`] first, and where the page runs what the URL leads to, [`is_own_path`]; one with
+//! which a URL begins, [`is_base`] or [`is_own_base`].
 #![tactic(auto)]
 
 pub mod append;
@@ -21,7 +22,7 @@ pub mod segment;
 pub mod slots;
 
 pub use crate::append::append_url;
-pub use crate::base::{BehindBase, behind_base, is_base};
+pub use crate::base::{BehindBase, behind_base, goes_as, is_base, is_own_base, open_behind};
 pub use crate::component::{COMPONENT, Component, put_component};
 pub use crate::forms::{
     append_component, append_component_to_vec, encode_component, encode_component_to_string,

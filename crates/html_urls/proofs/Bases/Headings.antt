@@ -49,11 +49,11 @@ rooted_head page _ web plain (below b rest other) =
     reads_head page (47 ∷ b ∷ rest) (from_base page) [] (b ∷ rest)
     (rooted_reads page b rest web other (All-head (IsNot 92) b rest (All-tail (IsNot 92) 47 (b ∷ rest) plain)))
 
-web_base : (page : Option Parts) → IsWebPage page → IsWebBase page
+pub web_base : (page : Option Parts) → IsWebPage page → IsWebBase page
 web_base None web = tt
 web_base (Some url) web = web.0
 
-nothing_head : (page : Option Parts) → IsWebPage page → HeadAt page [] (from_base page)
+pub nothing_head : (page : Option Parts) → IsWebPage page → HeadAt page [] (from_base page)
 unfolding split_scheme scheme_len parse_parts
 nothing_head None web query fragment = refl
 nothing_head (Some url) web query fragment =

@@ -1,5 +1,5 @@
 -- Own paths: the head of their URLs is that of the page.
-use Rattle.std.proofs.Common.{◌≡◌, ℕ, true, false, ◌&&◌, ◌==◌, List, [], ◌∷◌, Option, Some, Ok, sym, ap, ◌∙◌, ⊎_elim}
+use Rattle.std.proofs.Common.{◌≡◌, ℕ, true, false, ◌&&◌, ◌==◌, List, [], ◌∷◌, Option, Some, Ok, All, sym, ap, ◌∙◌, ⊎_elim}
 use Rattle.std.proofs.lemmas.Bool.{and_parts, cases_Bool, cond-false}
 use Rattle.std.proofs.lemmas.List.Elements.{All-nil}
 use Rattle.url.specs.Head.{head_only}
@@ -13,7 +13,7 @@ use Rattle.html_urls.specs.Hosts.{IsWebBase}
 use Rattle.html_urls.specs.Inputs.{IsNot}
 use Rattle.html_urls.specs.OpenParts.{after_markup, is_rooted}
 use Rattle.html_urls.specs.OwnPaths.{is_own_path, may_end}
-use Rattle.html_urls.specs.Slots.{FillUrl, Markup, is_plain}
+use Rattle.html_urls.specs.Slots.{FillUrl, Markup, is_plain, is_plain_byte}
 use Rattle.html_urls.proofs.Bases.Headings.{parse_is, path_bytes, plain_no_backslash, rooted_head}
 use Rattle.html_urls.proofs.Bases.Opened.{Rooted, below, root, rooted_is}
 use Rattle.html_urls.proofs.Filled.FirstSlot.{plain_visible}
@@ -45,14 +45,19 @@ own_is text is =
     let first = and_parts (is_plain text true) (is_rooted text) both.0 in
     record { plain = first.0; rooted = first.1 }
 
-own_head : (base : Option Parts) (text : List ℕ) → IsWebBase base → is_own_path text ≡ true → head_of (parse_url base text) ≡ head_of (from_base base)
-own_head base text web is =
-    let own = own_is text is in
-    let plain = plain_bytes text true own.plain in
+-- the head of the URL of a plain text that is rooted
+pub rooted_text : (base : Option Parts) (text : List ℕ) → IsWebBase base → All (λ b. is_plain_byte b ≡ true) text → is_rooted text ≡ true →
+    head_of (parse_url base text) ≡ head_of (from_base base)
+rooted_text base text web plain rooted =
     let hash = split_once 35 text in
     let no_backslash = (all_halves (IsNot 92) 63 hash.0 (all_halves (IsNot 92) 35 text (plain_no_backslash text plain)).0).0 in
     ap head_of (parse_is base [] text (plain_visible text plain) (All-nil (IsNot 35)) (All-nil (IsNot 63)))
-    ∙ rooted_head base (path_bytes text) web no_backslash (path_rooted text (rooted_is text own.rooted)) (split_once 63 hash.0).1 hash.1
+    ∙ rooted_head base (path_bytes text) web no_backslash (path_rooted text (rooted_is text rooted)) (split_once 63 hash.0).1 hash.1
+
+own_head : (base : Option Parts) (text : List ℕ) → IsWebBase base → is_own_path text ≡ true → head_of (parse_url base text) ≡ head_of (from_base base)
+own_head base text web is =
+    let own = own_is text is in
+    rooted_text base text web (plain_bytes text true own.plain) own.rooted
 
 pub page_head : (page : Parts) (text : List ℕ) → IsWebPage (Some page) → is_own_path text ≡ true → head_of (parse_url (Some page) text) ≡ Ok (head_only page)
 page_head page text web is = own_head (Some page) text web.0 is ∙ ap head_of (cond-false _ _ _ web.1)
