@@ -19,6 +19,7 @@ use Rattle.html_template.specs.Templates.{Chunk, Fill, Markup, MayFill, Slot}
 use Rattle.html_template.specs.Writing.{AnswersWriting}
 use Rattle.html_tokenizer.specs.declared.slot_place.SlotPlace.{SlotPlace}
 use Rattle.html_tokenizer.specs.declared.slot_place.SlotPlace.TheVariants as place
+use Rattle.html_urls.specs.Bases.{is_base, is_own_base}
 use Rattle.html_urls.specs.Links.{is_link}
 use Rattle.html_urls.specs.OwnPaths.{is_own_path}
 use Rattle.html_urls.specs.Slots.{may_fill}
@@ -47,6 +48,14 @@ none_fits p kind.OwnPath text is = elim (cases_Bool (is_own_path text)) [
   | inl own ↦ own
   | inr not ↦ absurd (let clash = rw not at is in cc)
 ]
+none_fits p (kind.Base behind) text is = elim (cases_Bool (is_base behind text)) [
+  | inl base ↦ base
+  | inr not ↦ absurd (let clash = rw not at is in cc)
+]
+none_fits p (kind.OwnBase behind) text is = elim (cases_Bool (is_own_base behind text)) [
+  | inl own ↦ own
+  | inr not ↦ absurd (let clash = rw not at is in cc)
+]
 
 fits_none : (p : SlotPlace) (kind : SlotKind) (text : List ℕ) → MayFill p kind text → text_fault p kind text ≡ None
 fits_none place.Unquoted kind.Text [] may = absurd (may refl)
@@ -55,6 +64,8 @@ fits_none p kind.Text text may = refl
 fits_none p (kind.UrlPart slot) text may = rw may refl
 fits_none p kind.Link text may = rw may refl
 fits_none p kind.OwnPath text may = rw may refl
+fits_none p (kind.Base behind) text may = rw may refl
+fits_none p (kind.OwnBase behind) text may = rw may refl
 
 pub fits : (p : SlotPlace) (kind : SlotKind) (text : List ℕ) → (text_fault p kind text ≡ None) ↔ MayFill p kind text
 fits p kind text = (none_fits p kind text, fits_none p kind text)

@@ -33,4 +33,6 @@ pub written_encoded : (p : SlotPlace) (k : SlotKind) (text : List ℕ) → ((slo
 written_encoded p kind.Text text other = refl
 written_encoded p kind.Link text other = refl
 written_encoded p kind.OwnPath text other = refl
+written_encoded p (kind.Base behind) text other = refl
+written_encoded p (kind.OwnBase behind) text other = refl
 written_encoded p (kind.UrlPart slot) text other = absurd (other slot refl)

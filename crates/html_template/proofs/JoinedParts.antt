@@ -1,12 +1,15 @@
 -- The parts of two templates, one after the other, are a template's.
-use Rattle.std.proofs.Common.{ℕ, ◌≡◌, ◌+◌, true, false, List, [], ◌∷◌, ◌++◌, Ok, Err, refl, sym, ap, subst}
+use Rattle.std.proofs.Common.{ℕ, ◌≡◌, ◌+◌, true, false, List, [], ◌∷◌, ◌++◌, Ok, Err, Option, Some, None, refl, sym, ap, ◌∙◌, subst}
 use Rattle.html_template.specs.declared.open_url.OpenUrl.{OpenUrl}
-use Rattle.html_template.specs.declared.open_url.OpenUrl.TheVariants.{Outside}
+use Rattle.html_template.specs.declared.open_url.OpenUrl.TheVariants.{Outside, Within, Whole, Front}
 use Rattle.html_template.specs.declared.open_url.PlacedSlot.{PlacedSlot}
-use Rattle.html_template.specs.TemplateFaults.{Told, Walk, at_beginning, behind_markup, behind_slot, is_template, is_told, pieces_from, placed, slot_at, template_of, told_chunks}
-use Rattle.html_template.specs.OpenUrls.{url_markup}
+use Rattle.html_template.specs.TemplateFaults.{Told, Walk, at_beginning, behind_markup, behind_slot, is_template, is_told, next_markup, pieces_from, placed, slot_at, template_of, told_chunks}
+use Rattle.html_template.specs.OpenUrls.{before, begun, url_markup}
 use Rattle.html_template.specs.Templates.{Chunk, Given, GivenMarkup, GivenSlot, Markup, Slot, after_slot}
 use Rattle.html_tokenizer.specs.Standing.{is_refused, standing}
+use Rattle.html_tokenizer.specs.declared.slot_place.SlotPlace.{SlotPlace}
+use Rattle.html_urls.specs.Bases.{behind_base}
+use Rattle.html_urls.specs.declared.base.BehindBase.{BehindBase}
 use Rattle.html_tokenizer.specs.Tokenizer.Tokenization.{state_after}
 use Rattle.html_tokenizer.specs.Tokenizer.States.{data_state}
 use Rattle.html_tokenizer.proofs.UrlValues.Slots.Tame.{IsTame, data_state_is_tame, tame_after}
@@ -14,7 +17,7 @@ use Rattle.html_template.proofs.MayEnd.{ends_in_data}
 use Rattle.html_template.proofs.PageUrls.OpenPlaces.{OpenStands, markup_stands, none_open, slot_stands}
 use Rattle.html_template.proofs.PageUrls.SlotSteps.{past_slot, tame_behind}
 use Rattle.html_template.proofs.Pieces.{at_end, at_markup, at_slot}
-use Rattle.html_template.proofs.Walks.{slot_suits}
+use Rattle.html_template.proofs.Walks.{before_suits}
 
 -- ---- the number of a part decides only what its fault tells
 
@@ -24,10 +27,10 @@ markup_before : (number : ℕ) (walk : Walk) (bytes : List ℕ) (parts : List Gi
     pieces_from (number + 1) (behind_markup walk bytes url) parts ≡ Ok rest → pieces_from number walk (GivenMarkup bytes ∷ parts) ≡ Ok (Markup bytes ∷ rest)
 markup_before number walk bytes parts url rest read opened told = rw (read, opened, told) refl
 
-slot_before : (number : ℕ) (walk : Walk) (parts : List Given) (slot : PlacedSlot) (rest : List Chunk) →
-    slot_at walk.markup walk.url (standing walk.tokenizer) ≡ Ok slot → pieces_from (number + 1) (behind_slot walk slot) parts ≡ Ok rest →
-    pieces_from number walk (GivenSlot ∷ parts) ≡ Ok (Slot slot.place slot.kind ∷ rest)
-slot_before number walk parts slot rest placed told = rw (placed, told) refl
+slot_before : (number : ℕ) (walk : Walk) (parts : List Given) (found slot : PlacedSlot) (rest : List Chunk) →
+    slot_at walk.markup walk.url (standing walk.tokenizer) ≡ Ok found → before (next_markup parts) found ≡ slot →
+    pieces_from (number + 1) (behind_slot walk slot) parts ≡ Ok rest → pieces_from number walk (GivenSlot ∷ parts) ≡ Ok (Slot slot.place slot.kind ∷ rest)
+slot_before number walk parts found slot rest placed is told = rw (placed, is, told) refl
 
 pieces_number : (n m : ℕ) (walk : Walk) (parts : List Given) (chunks : List Chunk) → pieces_from n walk parts ≡ Ok chunks → pieces_from m walk parts ≡ Ok chunks
 pieces_number n m walk [] chunks told = told
@@ -39,8 +42,8 @@ pieces_number n m walk (GivenMarkup bytes ∷ parts) chunks told =
 pieces_number n m walk (GivenSlot ∷ parts) chunks told =
     let here = at_slot n walk parts chunks told in
     rw here.whole
-    (slot_before m walk parts here.slot here.rest here.placed
-    (pieces_number (n + 1) (m + 1) (behind_slot walk here.slot) parts here.rest here.told))
+    (slot_before m walk parts here.found (before (next_markup parts) here.found) here.rest here.placed refl
+    (pieces_number (n + 1) (m + 1) (behind_slot walk (before (next_markup parts) here.found)) parts here.rest here.told))
 
 -- ---- two templates
 
@@ -59,8 +62,8 @@ begins_anew number markup (GivenMarkup bytes ∷ parts) chunks told =
 begins_anew number markup (GivenSlot ∷ parts) chunks told =
     let here = at_slot 0 at_beginning parts chunks told in
     rw here.whole
-    (slot_before number (behind_template markup) parts here.slot here.rest here.placed
-    (pieces_number 1 (number + 1) (behind_slot (behind_template markup) here.slot) parts here.rest here.told))
+    (slot_before number (behind_template markup) parts here.found (before (next_markup parts) here.found) here.rest here.placed refl
+    (pieces_number 1 (number + 1) (behind_slot (behind_template markup) (before (next_markup parts) here.found)) parts here.rest here.told))
 
 begins_where : (number : ℕ) (walk : Walk) (parts : List Given) (chunks : List Chunk) → walk.tokenizer ≡ data_state → walk.url ≡ Outside →
     template_of parts ≡ Ok chunks → pieces_from number walk parts ≡ Ok chunks
@@ -70,6 +73,39 @@ told_behind_slot : (walk : Walk) (slot : PlacedSlot) → after_slot slot.place s
     IsTame (past_slot walk.tokenizer slot.place) → OpenStands slot.url (past_slot walk.tokenizer slot.place) →
     IsTame (behind_slot walk slot).tokenizer × OpenStands (behind_slot walk slot).url (behind_slot walk slot).tokenizer
 told_behind_slot walk slot goes tame stands = (subst IsTame (sym goes) tame, subst (OpenStands slot.url) (sym goes) stands)
+
+-- a slot behind which no URL is open is the same whatever follows
+whole_stays : (found : PlacedSlot) (p : SlotPlace) (first second : Option BehindBase) → found.url ≡ Whole p → (begun found (Whole p) first).url ≡ Outside →
+    begun found (Whole p) second ≡ begun found (Whole p) first
+whole_stays found p None second is outside = let clash : Whole p ≡ Outside = sym is ∙ outside in absurd (cc)
+whole_stays found p (Some behind) second is outside = absurd (cc)
+
+begun_same : (found : PlacedSlot) (url : OpenUrl) (first second : Option BehindBase) → found.url ≡ url → (begun found url first).url ≡ Outside →
+    begun found url second ≡ begun found url first
+begun_same found Outside first second is outside = refl
+begun_same found (Within p part) first second is outside = refl
+begun_same found (Front p behind) first second is outside = refl
+begun_same found (Whole p) first second is outside = whole_stays found p first second is outside
+
+outside_same : (first second : List ℕ) (found : PlacedSlot) → (before first found).url ≡ Outside → before second found ≡ before first found
+outside_same first second found outside = begun_same found found.url (behind_base first) (behind_base second) refl outside
+
+-- the last one of a template is
+last_told : (number : ℕ) (walk : Walk) (found : PlacedSlot) (parts : List Given) (rest : List Chunk) → parts ≡ [] →
+    pieces_from number (behind_slot walk (before (next_markup parts) found)) parts ≡ Ok rest →
+    IsTame (behind_slot walk (before (next_markup parts) found)).tokenizer →
+    OpenStands (behind_slot walk (before (next_markup parts) found)).url (behind_slot walk (before (next_markup parts) found)).tokenizer →
+    (before [] found).url ≡ Outside
+last_told number walk found [] rest none told tame stands =
+    let last : Walk = behind_slot walk (before [] found) in
+    none_open last.url last.tokenizer tame (at_end number last rest told).may stands
+last_told number walk found (part ∷ parts) rest none told tame stands = absurd (cc)
+
+same_next : (first second : List Given) (found : PlacedSlot) → (first ≡ [] → (before [] found).url ≡ Outside) →
+    before (next_markup (first ++ second)) found ≡ before (next_markup first) found
+same_next [] second found ends = outside_same [] (next_markup second) found (ends refl)
+same_next (GivenMarkup bytes ∷ first) second found ends = refl
+same_next (GivenSlot ∷ first) second found ends = refl
 
 joined_from : (number : ℕ) (walk : Walk) (first second : List Given) (one two : List Chunk) → pieces_from number walk first ≡ Ok one →
     IsTame walk.tokenizer → OpenStands walk.url walk.tokenizer → template_of second ≡ Ok two → pieces_from number walk (first ++ second) ≡ Ok (one ++ two)
@@ -85,13 +121,15 @@ joined_from number walk (GivenMarkup bytes ∷ first) second one two told tame s
     (markup_stands walk.url walk.tokenizer bytes here.url tame here.read here.opened stands) next))
 joined_from number walk (GivenSlot ∷ first) second one two told tame stands next =
     let here = at_slot number walk first one told in
-    let suited = (slot_suits walk.markup walk.url (standing walk.tokenizer) here.slot here.placed).suited in
-    let goes : after_slot here.slot.place here.slot.kind walk.tokenizer ≡ past_slot walk.tokenizer here.slot.place = rw suited refl in
-    let behind = told_behind_slot walk here.slot goes (tame_behind walk.markup walk.url walk.tokenizer here.slot tame here.placed)
-    (slot_stands walk.markup walk.url walk.tokenizer (standing walk.tokenizer) here.slot refl here.placed) in
+    let slot : PlacedSlot = before (next_markup first) here.found in
+    let suited = (before_suits (next_markup first) walk.markup walk.url (standing walk.tokenizer) here.found here.placed).suited in
+    let goes : after_slot slot.place slot.kind walk.tokenizer ≡ past_slot walk.tokenizer slot.place = rw suited refl in
+    let behind = told_behind_slot walk slot goes (tame_behind (next_markup first) walk.markup walk.url walk.tokenizer here.found tame here.placed)
+    (slot_stands (next_markup first) walk.markup walk.url walk.tokenizer (standing walk.tokenizer) here.found refl here.placed) in
+    let ends : first ≡ [] → (before [] here.found).url ≡ Outside = λ none. last_told (number + 1) walk here.found first here.rest none here.told behind.0 behind.1 in
     rw here.whole
-    (slot_before number walk (first ++ second) here.slot (here.rest ++ two) here.placed
-    (joined_from (number + 1) (behind_slot walk here.slot) first second here.rest two here.told behind.0 behind.1 next))
+    (slot_before number walk (first ++ second) here.found slot (here.rest ++ two) here.placed (same_next first second here.found ends)
+    (joined_from (number + 1) (behind_slot walk slot) first second here.rest two here.told behind.0 behind.1 next))
 
 pub joined_told : (first second : List Given) (one two : List Chunk) → template_of first ≡ Ok one → template_of second ≡ Ok two →
     template_of (first ++ second) ≡ Ok (one ++ two)

@@ -11,6 +11,7 @@ pub mod TokenLaw
 pub mod Markup
 pub mod PageUrls
 pub mod FirstPieces
+pub mod Fronts
 pub mod JoinedParts
 pub mod Pages
 pub mod PagesAreProps

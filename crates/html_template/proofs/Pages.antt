@@ -4,7 +4,7 @@ use Rattle.html_tokenizer.specs.Tokenizer.States.{data_state}
 use Rattle.html_tokenizer.specs.Tokenizer.Tokenization.{actions_of, state_after}
 use Rattle.html_tokenizer.specs.Tokens.{skeleton, tokens}
 use Rattle.html_template.specs.FilledUrls.{FillUrls, HasUrls, filled_urls, template_urls, url_texts}
-use Rattle.html_template.specs.PageUrls.{AllAlike, urls_of, whole_urls}
+use Rattle.html_template.specs.PageUrls.{AllAlike, urls_of, first_texts}
 use Rattle.html_template.specs.Structure.{IsPageOf, IsReadAs, structure}
 use Rattle.html_template.specs.TemplateFaults.{is_template, placed}
 use Rattle.html_template.specs.Templates.{Given, state_after_all}
@@ -58,7 +58,7 @@ urls_fill parts texts bytes is = (parts_have_urls parts is.template texts is.ful
 
 -- and those of two pages
 pub same_urls : (parts : List Given) (texts others : List (List ℕ)) (first second : List ℕ) → IsPageOf parts texts first → IsPageOf parts others second →
-    AllAlike (whole_urls (placed parts) texts) (whole_urls (placed parts) others) (urls_of first) (urls_of second)
+    AllAlike (first_texts (placed parts) texts) (first_texts (placed parts) others) (urls_of first) (urls_of second)
 same_urls parts texts others first second one two =
     let any = parts_have_urls parts one.template in
     rw (← one.whole, ← two.whole)

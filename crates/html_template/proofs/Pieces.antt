@@ -13,8 +13,8 @@ use Rattle.html_template.specs.declared.open_url.PlacedSlot.{PlacedSlot}
 use Rattle.html_template.specs.declared.parts.Part.{Part}
 use Rattle.html_template.specs.declared.stored.Stored.{Stored}
 use Rattle.html_template.specs.declared.stored.StoredSlot.{StoredSlot}
-use Rattle.html_template.specs.OpenUrls.{url_markup}
-use Rattle.html_template.specs.TemplateFaults.{TakesMore, TakesPart, Told, Walk, at_beginning, behind_markup, behind_slot, faulty_part, pieces_from, put, put_all, slot_at, template_of, told_behind, told_of}
+use Rattle.html_template.specs.OpenUrls.{before, url_markup}
+use Rattle.html_template.specs.TemplateFaults.{TakesMore, TakesPart, Told, Walk, at_beginning, behind_markup, behind_slot, faulty_part, next_markup, pieces_from, put, put_all, put_slot, slot_at, template_of, told_behind, told_of}
 use Rattle.html_template.specs.Templates.{Chunk, Markup, Slot, Given, GivenMarkup, GivenSlot, after_slot, chunk_of, given, part_of, state_after_all}
 use Rattle.html_tokenizer.specs.Standing.{is_refused, may_end, standing}
 use Rattle.html_tokenizer.specs.Tokenizer.States.{Tokenizer, data_state}
@@ -57,14 +57,14 @@ slot_chunk s slot place kind = rw (place, kind) refl
 
 -- if it was pushed
 pub pushed_more : {T : Type 0} (chunk : T → Chunk) (taken : T) (pieces new_pieces : List Stored) (p : Stored) (number : ℕ) (old new : Walk) (part same : Given)
-    (result : Result (Unit {0}) TemplateFault) → same ≡ part → chunk_of p ≡ chunk taken → TakesPart {T = T} chunk number old part new (Ok taken) →
+    (parts : List Given) (result : Result (Unit {0}) TemplateFault) → same ≡ part → chunk_of p ≡ chunk taken → TakesPart {T = T} chunk number old part parts new (Ok taken) →
     OnOk result (new_pieces ≡ pieces ++ p ∷ []) → IfErr result (λ fault. fault ≡ Memory) →
-    TakesMore number (map chunk_of pieces) old same (map chunk_of new_pieces) new result
-pushed_more chunk taken pieces new_pieces p number old new part same (Ok done) given is takes pushed memory = λ parts.
+    TakesMore number (map chunk_of pieces) old same parts (map chunk_of new_pieces) new result
+pushed_more chunk taken pieces new_pieces p number old new part same parts (Ok done) given is takes pushed memory =
     ap (λ x. told_behind (map chunk_of pieces) number old (x ∷ parts)) given
-    ∙ piece_more pieces p (chunk taken) number old new part parts is (takes parts)
+    ∙ piece_more pieces p (chunk taken) number old new part parts is takes
     ∙ ap (λ all. told_behind (map chunk_of all) (number + 1) new parts) (sym pushed)
-pushed_more chunk taken pieces new_pieces p number old new part same (Err fault) given is takes pushed memory = rw memory tt
+pushed_more chunk taken pieces new_pieces p number old new part same parts (Err fault) given is takes pushed memory = rw memory tt
 
 fault_told : (chunks : List Chunk) (fault : TemplateFault) (told : Told) → told ≡ Err fault → put_all chunks told ≡ Err fault
 fault_told chunks fault told is = ap (put_all chunks) is ∙ put_all-fault chunks fault
@@ -73,19 +73,18 @@ fault_behind : (pieces : List Stored) (number : ℕ) (walk : Walk) (parts : List
     told_behind (map chunk_of pieces) number walk parts ≡ Err fault
 fault_behind pieces number walk parts fault is = fault_told (map chunk_of pieces) fault (pieces_from number walk parts) is
 
-fault_here : (pieces : List Stored) (number : ℕ) (walk : Walk) (part same : Given) (fault : TemplateFault) → same ≡ part →
-    ((parts : List Given) → pieces_from number walk (part ∷ parts) ≡ Err fault) → (parts : List Given) →
-    told_behind (map chunk_of pieces) number walk (same ∷ parts) ≡ Err fault
-fault_here pieces number walk part same fault is takes parts =
-    fault_behind pieces number walk (same ∷ parts) fault (ap (λ x. pieces_from number walk (x ∷ parts)) is ∙ takes parts)
+fault_here : (pieces : List Stored) (number : ℕ) (walk : Walk) (part same : Given) (parts : List Given) (fault : TemplateFault) → same ≡ part →
+    pieces_from number walk (part ∷ parts) ≡ Err fault → told_behind (map chunk_of pieces) number walk (same ∷ parts) ≡ Err fault
+fault_here pieces number walk part same parts fault is takes =
+    fault_behind pieces number walk (same ∷ parts) fault (ap (λ x. pieces_from number walk (x ∷ parts)) is ∙ takes)
 
 -- or a fault
-pub fault_more : {T : Type 0} (chunk : T → Chunk) (pieces : List Stored) (number : ℕ) (old new : Walk) (part same : Given) (new_chunks : List Chunk)
-    (fault : TemplateFault) → same ≡ part → TakesPart {T = T} chunk number old part new (Err fault) →
-    TakesMore {T = Unit {0}} number (map chunk_of pieces) old same new_chunks new (Err fault)
-fault_more chunk pieces number old new part same new_chunks (fault.Part n why) is takes = fault_here pieces number old part same (fault.Part n why) is takes
-fault_more chunk pieces number old new part same new_chunks Unfinished is takes = fault_here pieces number old part same Unfinished is takes
-fault_more chunk pieces number old new part same new_chunks Memory is takes = tt
+pub fault_more : {T : Type 0} (chunk : T → Chunk) (pieces : List Stored) (number : ℕ) (old new : Walk) (part same : Given) (parts : List Given)
+    (new_chunks : List Chunk) (fault : TemplateFault) → same ≡ part → TakesPart {T = T} chunk number old part parts new (Err fault) →
+    TakesMore {T = Unit {0}} number (map chunk_of pieces) old same parts new_chunks new (Err fault)
+fault_more chunk pieces number old new part same parts new_chunks (fault.Part n why) is takes = fault_here pieces number old part same parts (fault.Part n why) is takes
+fault_more chunk pieces number old new part same parts new_chunks Unfinished is takes = fault_here pieces number old part same parts Unfinished is takes
+fault_more chunk pieces number old new part same parts new_chunks Memory is takes = tt
 
 -- no part is left, and a template may not end there
 pub unfinished : (pieces : List Stored) (number : ℕ) (walk : Walk) → may_end walk.tokenizer ≡ false →
@@ -161,19 +160,20 @@ at_markup number walk bytes parts chunks told =
 
 -- a slot, and the pieces behind it
 pub record AtSlot (number : ℕ) (walk : Walk) (parts : List Given) (chunks : List Chunk) : Type 0 where
-  pub slot : PlacedSlot
-  pub placed : slot_at walk.markup walk.url (standing walk.tokenizer) ≡ Ok slot
+  pub found : PlacedSlot
+  pub placed : slot_at walk.markup walk.url (standing walk.tokenizer) ≡ Ok found
   pub rest : List Chunk
-  pub told : pieces_from (number + 1) (behind_slot walk slot) parts ≡ Ok rest
-  pub whole : chunks ≡ Slot slot.place slot.kind ∷ rest
+  pub told : pieces_from (number + 1) (behind_slot walk (before (next_markup parts) found)) parts ≡ Ok rest
+  pub whole : chunks ≡ Slot (before (next_markup parts) found).place (before (next_markup parts) found).kind ∷ rest
 
 pub at_slot : (number : ℕ) (walk : Walk) (parts : List Given) (chunks : List Chunk) → pieces_from number walk (GivenSlot ∷ parts) ≡ Ok chunks →
     AtSlot number walk parts chunks
 at_slot number walk parts chunks told =
-    let found = told_parts (faulty_part number) (slot_at walk.markup walk.url (standing walk.tokenizer)) (λ slot. put (Slot slot.place slot.kind) (pieces_from (number + 1) (behind_slot walk slot) parts)) chunks told in
-    let slot : PlacedSlot = found.value in
-    let others = put_parts (Slot slot.place slot.kind) (pieces_from (number + 1) (behind_slot walk slot) parts) chunks found.told in
-    record { slot = slot; placed = found.is; rest = others.rest; told = others.is; whole = others.whole }
+    let at = told_parts (faulty_part number) (slot_at walk.markup walk.url (standing walk.tokenizer))
+    (λ slot. put_slot (before (next_markup parts) slot) (pieces_from (number + 1) (behind_slot walk (before (next_markup parts) slot)) parts)) chunks told in
+    let slot : PlacedSlot = before (next_markup parts) at.value in
+    let others = put_parts (Slot slot.place slot.kind) (pieces_from (number + 1) (behind_slot walk slot) parts) chunks at.told in
+    record { found = at.value; placed = at.is; rest = others.rest; told = others.is; whole = others.whole }
 
 -- ---- the pieces are those of a template
 
@@ -186,7 +186,7 @@ parts_from number walk (GivenMarkup bytes ∷ parts) chunks told =
     ap (map part_of) here.whole ∙ ap (λ x. GivenMarkup bytes ∷ x) (parts_from (number + 1) (behind_markup walk bytes here.url) parts here.rest here.told)
 parts_from number walk (GivenSlot ∷ parts) chunks told =
     let here = at_slot number walk parts chunks told in
-    ap (map part_of) here.whole ∙ ap (λ x. GivenSlot ∷ x) (parts_from (number + 1) (behind_slot walk here.slot) parts here.rest here.told)
+    ap (map part_of) here.whole ∙ ap (λ x. GivenSlot ∷ x) (parts_from (number + 1) (behind_slot walk (before (next_markup parts) here.found)) parts here.rest here.told)
 
 -- a page of them ends where one may end
 sound_from : (number : ℕ) (walk : Walk) (parts : List Given) (chunks : List Chunk) → pieces_from number walk parts ≡ Ok chunks →
@@ -199,7 +199,7 @@ sound_from number walk (GivenMarkup bytes ∷ parts) chunks told =
     ap (state_after_all walk.tokenizer) here.whole ∙ sound_from (number + 1) (behind_markup walk bytes here.url) parts here.rest here.told
 sound_from number walk (GivenSlot ∷ parts) chunks told =
     let here = at_slot number walk parts chunks told in
-    ap (state_after_all walk.tokenizer) here.whole ∙ sound_from (number + 1) (behind_slot walk here.slot) parts here.rest here.told
+    ap (state_after_all walk.tokenizer) here.whole ∙ sound_from (number + 1) (behind_slot walk (before (next_markup parts) here.found)) parts here.rest here.told
 
 pub parts_told : (parts : List Given) (chunks : List Chunk) → template_of parts ≡ Ok chunks → map part_of chunks ≡ parts
 parts_told parts chunks told = parts_from 0 at_beginning parts chunks told

@@ -19,9 +19,9 @@ use Rattle.html_tokenizer.specs.declared.reader.Standing.TheVariants.{Barred, In
 use Rattle.html_tokenizer.specs.Standing.{in_code, in_content, is_same, unless_forbidden, standing_in, standing}
 use Rattle.html_tokenizer.specs.UrlValues.{is_url}
 use Rattle.html_template.specs.declared.parts.SlotKind.{SlotKind}
-use Rattle.html_template.specs.declared.parts.SlotKind.TheVariants.{Text, UrlPart, Link, OwnPath}
+use Rattle.html_template.specs.declared.parts.SlotKind.TheVariants.{Text, UrlPart, Link, OwnPath, Base, OwnBase}
 use Rattle.html_template.specs.declared.parts.SlotKind.TheVariants as kind
-use Rattle.html_template.specs.Slots.{FitsPlace, is_quoted, suits, whole_kind}
+use Rattle.html_template.specs.Slots.{FitsPlace, base_kind, is_quoted, suits, whole_kind}
 use Rattle.html_template.specs.Templates.{Chunk, Markup, Slot, after_slot, encoder_for, handed, state_after_all, page, actions_all, MayFill, Fill, written}
 use Rattle.html_tokenizer.specs.Tokenizer.Tokenization.{state_after}
 use Rattle.html_tokenizer.proofs.Slots.Html.{Remains, text_stays, double_stays, double_stays_in, single_stays, single_stays_in, unquoted_stays, first_stays}
@@ -32,8 +32,9 @@ use Rattle.html_tokenizer.proofs.Slots.Scripts.{script_stays, script_single_read
 use Rattle.url.proofs.InputLemmas.{list_all_from_All}
 use Rattle.html_urls.proofs.Components.{component_bytes}
 use Rattle.html_urls.specs.Components.{component}
+use Rattle.html_urls.specs.declared.base.BehindBase.{BehindBase}
 use Rattle.html_urls.specs.declared.parts.UrlSlot.{UrlSlot}
-use Rattle.html_template.proofs.Walks.{same_place}
+use Rattle.html_template.proofs.Walks.{base_stands, same_place}
 use Rattle.html_tokenizer.proofs.Slots.Styles.{style_stays, style_single_reads, style_double_reads}
 
 no : false ≡ true → ⊥
@@ -48,6 +49,10 @@ no_place Link p true = refl
 no_place Link p false = refl
 no_place OwnPath p true = refl
 no_place OwnPath p false = refl
+no_place (Base behind) p true = refl
+no_place (Base behind) p false = refl
+no_place (OwnBase behind) p true = refl
+no_place (OwnBase behind) p false = refl
 
 no_code : (kind : SlotKind) (p : SlotPlace) (code : Code) → suits kind p (in_code code) ≡ false
 no_code kind p code = no_place kind p (is_opaque code)
@@ -58,6 +63,8 @@ in_any Text p NoScript standing may = absurd (no may)
 in_any (UrlPart slot) p NoScript standing may = absurd (no may)
 in_any Link p NoScript standing may = absurd (no may)
 in_any OwnPath p NoScript standing may = absurd (no may)
+in_any (Base behind) p NoScript standing may = absurd (no may)
+in_any (OwnBase behind) p NoScript standing may = absurd (no may)
 in_any kind p other standing may = may
 
 -- ---- a slot for a text
@@ -156,6 +163,13 @@ pub whole_in_url : (is_followed : Bool) (p : SlotPlace) (state : State) (content
 whole_in_url true p state content attribute may = link_in_url p state content attribute may
 whole_in_url false p state content attribute may = own_in_url p state content attribute may
 
+-- also as a base
+pub base_in_url : (is_followed : Bool) (behind : BehindBase) (p : SlotPlace) (state : State) (content : Content) (attribute : Attribute) →
+    suits (base_kind behind (whole_kind is_followed)) p (standing_in state content attribute) ≡ true → IsInQuotes p state attribute
+base_in_url is_followed behind p state content attribute may =
+    whole_in_url is_followed p state content attribute
+    (sym (base_stands behind (whole_kind is_followed) p (standing_in state content attribute)) ∙ may)
+
 url_remains_so : (attribute : Attribute) → is_url attribute ≡ true → Remains attribute
 url_remains_so attribute url = record { bytes = λ b. byte_settled attribute b url; references = reference_settled attribute url }
 
@@ -185,6 +199,12 @@ slot_passes p Link state content attribute text may full utf8 =
 slot_passes p OwnPath state content attribute text may full utf8 =
     let here = own_in_url p state content attribute may in
     rw here.state_is (quoted_passes p content attribute text here.quoted here.attribute_is)
+slot_passes p (Base behind) state content attribute text may full utf8 =
+    let here = base_in_url true behind p state content attribute may in
+    rw here.state_is (quoted_passes p content attribute text here.quoted here.attribute_is)
+slot_passes p (OwnBase behind) state content attribute text may full utf8 =
+    let here = base_in_url false behind p state content attribute may in
+    rw here.state_is (quoted_passes p content attribute text here.quoted here.attribute_is)
 
 all_refused : (chunks : List Chunk) → state_after_all refused chunks ≡ refused
 all_refused [] = refl
@@ -193,6 +213,8 @@ all_refused (Slot p Text ∷ chunks) = all_refused chunks
 all_refused (Slot p (UrlPart slot) ∷ chunks) = all_refused chunks
 all_refused (Slot p Link ∷ chunks) = all_refused chunks
 all_refused (Slot p OwnPath ∷ chunks) = all_refused chunks
+all_refused (Slot p (Base behind) ∷ chunks) = all_refused chunks
+all_refused (Slot p (OwnBase behind) ∷ chunks) = all_refused chunks
 
 apart : refused ≡ data_state → ⊥
 apart is = let states : Refused ≡ In place.Text = ap (λ (t : Tokenizer). t.state) is in cc

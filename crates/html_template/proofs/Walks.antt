@@ -2,12 +2,14 @@
 use Rattle.std.proofs.Common.{ℕ, ◌≡◌, ◌≤◌, ◌+◌, Bool, true, false, List, [], ◌∷◌, Option, Some, None, Result, Ok, length, arith, refl, sym, ap, subst, ◌∙◌}
 use Rattle.html_template.specs.declared.faults.PartFault.{PartFault}
 use Rattle.html_template.specs.declared.open_url.OpenUrl.{OpenUrl}
-use Rattle.html_template.specs.declared.open_url.OpenUrl.TheVariants.{Outside, Within, Whole}
+use Rattle.html_template.specs.declared.open_url.OpenUrl.TheVariants.{Outside, Within, Whole, Front}
 use Rattle.html_template.specs.declared.open_url.PlacedSlot.{PlacedSlot}
-use Rattle.html_template.specs.OpenUrls.{at_open, behind_text, first_slot, in_part, plain_text, url_slot, whole_slot}
-use Rattle.html_template.specs.Slots.{after_slot, suits}
-use Rattle.html_template.specs.TemplateFaults.{Walk, pieces_from, put, slot_at}
-use Rattle.html_template.specs.Templates.{Given, GivenSlot, Slot}
+use Rattle.html_template.specs.OpenUrls.{at_open, before, begun, behind_front, behind_text, first_slot, in_part, plain_text, url_slot, whole_slot}
+use Rattle.html_template.specs.Slots.{after_slot, base_kind, suits}
+use Rattle.html_template.specs.TemplateFaults.{Walk, next_markup, pieces_from, put_slot, slot_at}
+use Rattle.html_template.specs.declared.parts.SlotKind.{SlotKind}
+use Rattle.html_template.specs.declared.parts.SlotKind.TheVariants as kind
+use Rattle.html_template.specs.Templates.{Given, GivenSlot}
 use Rattle.html_tokenizer.specs.declared.reader.Standing.{Standing}
 use Rattle.html_tokenizer.specs.declared.reader.Standing.TheVariants.{Stands, InUrl, InLink, Nowhere, Barred}
 use Rattle.html_tokenizer.specs.declared.slot_place.SlotPlace.{SlotPlace}
@@ -16,7 +18,10 @@ use Rattle.html_tokenizer.specs.Standing.{AfterStanding, is_same, standing, stat
 use Rattle.html_tokenizer.specs.Tokenizer.States.{In, Tokenizer, at_value}
 use Rattle.html_tokenizer.specs.UrlValues.{after_last, begins_value}
 use Rattle.html_urls.specs.OpenParts as parts
+use Rattle.html_urls.specs.declared.base.BehindBase.{BehindBase}
+use Rattle.html_urls.specs.declared.base.BehindBase.TheVariants.{Slash, Tail, Segment}
 use Rattle.html_urls.specs.declared.open_part.OpenPart.{OpenPart}
+use Rattle.html_urls.specs.declared.open_part.OpenPart.TheVariants.{NewSegment}
 use Rattle.html_urls.specs.declared.parts.UrlSlot.{UrlSlot}
 
 pub same_itself : (p : SlotPlace) → is_same p p ≡ true
@@ -86,11 +91,18 @@ pub some_front : (p : SlotPlace) (is_followed : Bool) (markup : List ℕ) → 1 
 some_front p is_followed [] some = absurd (omega arith)
 some_front p is_followed (b ∷ markup) some = refl
 
+base_suits : (is_followed : Bool) (p : SlotPlace) (behind : BehindBase) (slot : PlacedSlot) →
+    behind_front p behind ≡ Ok slot → IsInUrl is_followed p slot
+base_suits is_followed p Segment slot told = open_suits is_followed p (Some NewSegment) slot told
+base_suits is_followed p Slash slot told = absurd (cc)
+base_suits is_followed p Tail slot told = absurd (cc)
+
 url_suits : (is_followed : Bool) (p : SlotPlace) (markup : List ℕ) (url : OpenUrl) (slot : PlacedSlot) →
     url_slot p is_followed markup url ≡ Ok slot → IsInUrl is_followed p slot
 url_suits is_followed p markup Outside slot told = front_suits is_followed p (after_last (begins_value p) markup) slot told
 url_suits is_followed p markup (Within q part) slot told = open_suits is_followed p (Some part) slot told
 url_suits is_followed p markup (Whole q) slot told = absurd (cc)
+url_suits is_followed p markup (Front q behind) slot told = base_suits is_followed p behind slot told
 
 -- a slot that is told suits where it stands
 pub record IsSuited (s : Standing) (slot : PlacedSlot) : Type 0 where
@@ -118,6 +130,35 @@ slot_suits markup url (InLink p) slot told = in_link_suited p slot (url_suits tr
 slot_suits markup url Barred slot told = absurd (cc)
 slot_suits markup url Nowhere slot told = absurd (cc)
 
+-- as a base it stands where it stood
+pub base_stands : (behind : BehindBase) (k : SlotKind) (p : SlotPlace) (s : Standing) → suits (base_kind behind k) p s ≡ suits k p s
+base_stands behind kind.Text p s = refl
+base_stands behind (kind.UrlPart slot) p s = refl
+base_stands behind kind.Link p (Stands q) = refl
+base_stands behind kind.Link p (InUrl q) = refl
+base_stands behind kind.Link p (InLink q) = refl
+base_stands behind kind.Link p Barred = refl
+base_stands behind kind.Link p Nowhere = refl
+base_stands behind kind.OwnPath p (Stands q) = refl
+base_stands behind kind.OwnPath p (InUrl q) = refl
+base_stands behind kind.OwnPath p (InLink q) = refl
+base_stands behind kind.OwnPath p Barred = refl
+base_stands behind kind.OwnPath p Nowhere = refl
+base_stands behind (kind.Base other) p s = refl
+base_stands behind (kind.OwnBase other) p s = refl
+
+begun_suits : (s : Standing) (slot : PlacedSlot) (url : OpenUrl) (following : Option BehindBase) → IsSuited s slot → IsSuited s (begun slot url following)
+begun_suits s slot (Whole p) (Some behind) is =
+    record { suited = base_stands behind slot.kind slot.place s ∙ is.suited; stood = is.stood }
+begun_suits s slot (Whole p) None is = is
+begun_suits s slot Outside following is = is
+begun_suits s slot (Within p part) following is = is
+begun_suits s slot (Front p behind) following is = is
+
+pub before_suits : (next markup : List ℕ) (url : OpenUrl) (s : Standing) (slot : PlacedSlot) →
+    slot_at markup url s ≡ Ok slot → IsSuited s (before next slot)
+before_suits next markup url s slot told = begun_suits s slot slot.url _ (slot_suits markup url s slot told)
+
 pub same_place : (p q : SlotPlace) → is_same p q ≡ true → p ≡ q
 same_place place.Text place.Text is = refl
 same_place place.DoubleQuoted place.DoubleQuoted is = refl
@@ -137,22 +178,23 @@ placed_at Barred p old new stood after = absurd (cc)
 placed_at Nowhere p old new stood after = absurd (cc)
 
 -- the tokenizer goes on behind it as the definition says
-pub same_after_slot : (markup : List ℕ) (url : OpenUrl) (s : Standing) (slot : PlacedSlot) (old new : Tokenizer) →
-    slot_at markup url s ≡ Ok slot → s ≡ standing old → AfterStanding s old new → new ≡ after_slot slot.place slot.kind old
-same_after_slot markup url s slot old new told same after =
-    let is = slot_suits markup url s slot told in
-    let suited : suits slot.kind slot.place (standing old) ≡ true = ap (suits slot.kind slot.place) (sym same) ∙ is.suited in
-    let stood : stands slot.place (standing old) ≡ true = ap (stands slot.place) (sym same) ∙ is.stood in
-    let there : after_slot slot.place slot.kind old ≡ at_value (In slot.place) old.content old.attribute = rw suited refl in
-    let here : state_after_slot slot.place old ≡ at_value (In slot.place) old.content old.attribute = rw stood refl in
-    placed_at s slot.place old new is.stood after ∙ here ∙ sym there
+pub same_after_slot : (next markup : List ℕ) (url : OpenUrl) (s : Standing) (slot : PlacedSlot) (old new : Tokenizer) →
+    slot_at markup url s ≡ Ok slot → s ≡ standing old → AfterStanding s old new → new ≡ after_slot (before next slot).place (before next slot).kind old
+same_after_slot next markup url s slot old new told same after =
+    let here : PlacedSlot = before next slot in
+    let is = before_suits next markup url s slot told in
+    let suited : suits here.kind here.place (standing old) ≡ true = ap (suits here.kind here.place) (sym same) ∙ is.suited in
+    let stood : stands here.place (standing old) ≡ true = ap (stands here.place) (sym same) ∙ is.stood in
+    let by_kind : after_slot here.place here.kind old ≡ at_value (In here.place) old.content old.attribute = rw suited refl in
+    let by_place : state_after_slot here.place old ≡ at_value (In here.place) old.content old.attribute = rw stood refl in
+    placed_at s here.place old new is.stood after ∙ by_place ∙ sym by_kind
 
 -- so the pieces behind it are told
-pub taken_slot : (number : ℕ) (walk : Walk) (markup : List ℕ) (s : Standing) (slot : PlacedSlot) (new : Tokenizer) (parts : List Given) →
-    slot_at markup walk.url s ≡ Ok slot → markup ≡ walk.markup → s ≡ standing walk.tokenizer → AfterStanding s walk.tokenizer new →
+pub taken_slot : (number : ℕ) (walk : Walk) (markup : List ℕ) (s : Standing) (slot : PlacedSlot) (new : Tokenizer) (next : List ℕ) (parts : List Given) →
+    slot_at markup walk.url s ≡ Ok slot → markup ≡ walk.markup → s ≡ standing walk.tokenizer → AfterStanding s walk.tokenizer new → next_markup parts ≡ next →
     pieces_from number walk (GivenSlot ∷ parts)
-    ≡ put (Slot slot.place slot.kind) (pieces_from (number + 1) (record { tokenizer = new; markup = []; url = slot.url }) parts)
-taken_slot number walk markup s slot new parts told same_markup same after =
+    ≡ put_slot (before next slot) (pieces_from (number + 1) (record { tokenizer = new; markup = []; url = (before next slot).url }) parts)
+taken_slot number walk markup s slot new next parts told same_markup same after follows =
     let here : slot_at walk.markup walk.url (standing walk.tokenizer) ≡ Ok slot = rw (same_markup, same) at told in
-    let there = same_after_slot walk.markup walk.url s slot walk.tokenizer new (rw same_markup at told) same after in
-    rw (here, there) refl
+    let there = same_after_slot next walk.markup walk.url s slot walk.tokenizer new (rw same_markup at told) same after in
+    rw (here, follows, there) refl

@@ -6,12 +6,13 @@ use Rattle.html_template.specs.declared.faults.FillFault.{FillFault}
 use Rattle.html_template.specs.declared.faults.FillFault.TheVariants as fill
 use Rattle.html_template.specs.declared.faults.FillFault.TheVariants.{WrongCount, Memory}
 use Rattle.html_template.specs.declared.faults.TextFault.{TextFault}
-use Rattle.html_template.specs.declared.faults.TextFault.TheVariants.{EmptyUnquoted, EmptySegment, DotSegment, NotALink, NotAnOwnPath}
+use Rattle.html_template.specs.declared.faults.TextFault.TheVariants.{EmptyUnquoted, EmptySegment, DotSegment, NotALink, NotAnOwnPath, NotABase, NotAnOwnBase}
 use Rattle.html_template.specs.declared.parts.SlotKind.{SlotKind}
-use Rattle.html_template.specs.declared.parts.SlotKind.TheVariants.{Text, UrlPart, Link, OwnPath}
+use Rattle.html_template.specs.declared.parts.SlotKind.TheVariants.{Text, UrlPart, Link, OwnPath, Base, OwnBase}
 use Rattle.html_tokenizer.specs.declared.slot_place.SlotPlace.{SlotPlace}
 use Rattle.html_tokenizer.specs.declared.slot_place.SlotPlace.TheVariants.{Unquoted}
 use Rattle.html_template.specs.Templates.{Chunk, Markup, Slot}
+use Rattle.html_urls.specs.Bases.{is_base, is_own_base}
 use Rattle.html_urls.specs.Links.{is_link}
 use Rattle.html_urls.specs.OwnPaths.{is_own_path}
 use Rattle.html_urls.specs.Slots as urls
@@ -37,6 +38,8 @@ text_fault p Text text = empty_fault p text
 text_fault p (UrlPart slot) text = segment_fault slot text
 text_fault p Link text = if is_link text then None else Some NotALink
 text_fault p OwnPath text = if is_own_path text then None else Some NotAnOwnPath
+text_fault p (Base behind) text = if is_base behind text then None else Some NotABase
+text_fault p (OwnBase behind) text = if is_own_base behind text then None else Some NotAnOwnBase
 
 -- ---- all of them
 
@@ -78,7 +81,7 @@ is_unquoted other = false
 abbrev pub is_checked : SlotPlace → SlotKind → Bool
 is_checked p Text = is_unquoted p
 is_checked p (UrlPart slot) = slot.begins_segment
-is_checked p whole = true
+is_checked p begins = true
 
 -- and one of the slots is such a one
 abbrev pub has_checked : List Chunk → Bool

@@ -4,24 +4,27 @@ use Rattle.std.specs.List.{AllByRecursion}
 use Rattle.std.specs.Str.{IsUtf8}
 use Rattle.html_template.specs.declared.parts.SlotKind.{SlotKind}
 use Rattle.html_template.specs.declared.parts.SlotKind.TheVariants as kind
-use Rattle.html_template.specs.PageUrls.{WholeUrl, urls_of, whole_urls}
-use Rattle.html_template.specs.Slots.{IsWholeUrl}
+use Rattle.html_template.specs.PageUrls.{FirstText, first_texts, urls_of}
+use Rattle.html_template.specs.Slots.{MayBegin}
 use Rattle.html_template.specs.TemplateFaults.{placed}
 use Rattle.html_template.specs.Templates as template
 use Rattle.html_template.specs.Templates.{Chunk, Fill, Markup, Slot, after_slot, page}
 use Rattle.html_tokenizer.specs.Tokenizer.States.{Tokenizer, data_state}
 use Rattle.html_tokenizer.specs.Tokenizer.Tokenization.{state_after}
 use Rattle.html_tokenizer.specs.UrlValues.{open_url, urls_from}
+use Rattle.html_urls.specs.Bases.{FillBehind}
 use Rattle.html_urls.specs.Slots.{FillUrl, Given, url_of}
 use Rattle.html_urls.specs.Slots as part
 
--- a URL of a template: without a slot, with slots between markup as the tokenizer reads it, or one slot that is all of it
+-- a URL of a template: without a slot, with slots between markup as the tokenizer reads it, one slot that is all of it, or the slot of a base
+-- and these parts behind it
 pub data TemplateUrl : Type 0 where
   Fixed : List ℕ → TemplateUrl
   Parts : List Given → TemplateUrl
   Whole : SlotKind → TemplateUrl
+  Based : SlotKind → List Given → TemplateUrl
 
--- the texts of slots that are parts of URLs or whole ones, in their order
+-- the texts of slots in URLs, in their order
 abbrev pub url_text : SlotKind → List ℕ → List (List ℕ)
 url_text kind.Text text = []
 url_text other text = text ∷ []
@@ -45,36 +48,50 @@ filled_urls (Fixed url ∷ urls) texts = url ∷ filled_urls urls texts
 filled_urls (Parts parts ∷ urls) texts = url_of parts (take (slots_in parts) texts) ∷ filled_urls urls (drop (slots_in parts) texts)
 filled_urls (Whole kind ∷ urls) [] = filled_urls urls []
 filled_urls (Whole kind ∷ urls) (text ∷ texts) = text ∷ filled_urls urls texts
+filled_urls (Based kind parts ∷ urls) [] = url_of parts [] ∷ filled_urls urls []
+filled_urls (Based kind parts ∷ urls) (text ∷ texts) =
+    (text ++ url_of parts (take (slots_in parts) texts)) ∷ filled_urls urls (drop (slots_in parts) texts)
 
--- there is a text for each slot and no more: those of parts may fill them, and a whole URL is one that its slot takes
+-- the texts fill the parts behind a base
+abbrev pub FillBase : SlotKind → List Given → List (List ℕ) → Type 0
+FillBase (kind.Base behind) parts texts = FillBehind behind parts texts
+FillBase (kind.OwnBase behind) parts texts = FillBehind behind parts texts
+FillBase other parts texts = ⊥
+
+-- there is a text for each slot and no more: those of parts may fill them, and one with which a URL begins is one that its slot takes
 abbrev pub FillUrls : List TemplateUrl → List (List ℕ) → Type 0
 FillUrls [] [] = ⊤
 FillUrls [] (text ∷ texts) = ⊥
 FillUrls (Fixed url ∷ urls) texts = FillUrls urls texts
 FillUrls (Parts parts ∷ urls) texts = FillUrl parts (take (slots_in parts) texts) × FillUrls urls (drop (slots_in parts) texts)
 FillUrls (Whole kind ∷ urls) [] = ⊥
-FillUrls (Whole kind ∷ urls) (text ∷ texts) = IsWholeUrl kind text × FillUrls urls texts
+FillUrls (Whole kind ∷ urls) (text ∷ texts) = MayBegin kind text × FillUrls urls texts
+FillUrls (Based kind parts ∷ urls) [] = ⊥
+FillUrls (Based kind parts ∷ urls) (text ∷ texts) =
+    MayBegin kind text × FillBase kind parts (take (slots_in parts) texts) × FillUrls urls (drop (slots_in parts) texts)
 
--- of the texts those that are whole URLs
-abbrev pub whole_texts : List TemplateUrl → List (List ℕ) → List WholeUrl
-whole_texts [] texts = []
-whole_texts (Fixed url ∷ urls) texts = whole_texts urls texts
-whole_texts (Parts parts ∷ urls) texts = whole_texts urls (drop (slots_in parts) texts)
-whole_texts (Whole kind ∷ urls) [] = whole_texts urls []
-whole_texts (Whole kind ∷ urls) (text ∷ texts) = (kind, text) ∷ whole_texts urls texts
+-- of the texts those with which URLs begin
+abbrev pub begun_texts : List TemplateUrl → List (List ℕ) → List FirstText
+begun_texts [] texts = []
+begun_texts (Fixed url ∷ urls) texts = begun_texts urls texts
+begun_texts (Parts parts ∷ urls) texts = begun_texts urls (drop (slots_in parts) texts)
+begun_texts (Whole kind ∷ urls) [] = begun_texts urls []
+begun_texts (Whole kind ∷ urls) (text ∷ texts) = (kind, text) ∷ begun_texts urls texts
+begun_texts (Based kind parts ∷ urls) [] = begun_texts urls []
+begun_texts (Based kind parts ∷ urls) (text ∷ texts) = (kind, text) ∷ begun_texts urls (drop (slots_in parts) texts)
 
--- the URLs of the page of these texts are these, filled by the texts of its slots in URLs; the whole ones are those of its slots
+-- the URLs of the page of these texts are these, filled by the texts of its slots in URLs; those with which URLs begin are those of such slots
 pub record AreFilled (urls : List TemplateUrl) (chunks : List Chunk) (texts : List (List ℕ)) : Type 0 where
   pub same : urls_of (page chunks texts) ≡ filled_urls urls (url_texts chunks texts)
   pub full : FillUrls urls (url_texts chunks texts)
-  pub whole : whole_urls chunks texts ≡ whole_texts urls (url_texts chunks texts)
+  pub first : first_texts chunks texts ≡ begun_texts urls (url_texts chunks texts)
 
 -- ---- the URLs of a template, as the tokenizer reads them
 
--- what is open of a URL: its value so far, the parts so far of one with slots, or a slot that is all of it
+-- what is open of a URL: its value so far; the parts so far of one with slots, and which URL all of them make; or a slot that is all of it
 pub data OpenValue : Type 0 where
   Value : List ℕ → OpenValue
-  Slotted : List Given → OpenValue
+  Slotted : (List Given → TemplateUrl) → List Given → OpenValue
   OneSlot : SlotKind → OpenValue
 
 -- the value so far where markup begins
@@ -85,22 +102,24 @@ value_before other = []
 -- the URLs that end in markup, of which the first is what was open
 abbrev pub ended_urls : OpenValue → List (List ℕ) → List TemplateUrl
 ended_urls (Value value) urls = map Fixed urls
-ended_urls (Slotted parts) [] = []
-ended_urls (Slotted parts) (url ∷ urls) = Parts (parts ++ part.Markup url ∷ []) ∷ map Fixed urls
+ended_urls (Slotted url_by parts) [] = []
+ended_urls (Slotted url_by parts) (url ∷ urls) = url_by (parts ++ part.Markup url ∷ []) ∷ map Fixed urls
 ended_urls (OneSlot kind) [] = []
 ended_urls (OneSlot kind) (url ∷ urls) = Whole kind ∷ map Fixed urls
 
 -- what is open behind markup in which these URLs end, and this value is left
 abbrev pub open_behind : OpenValue → List (List ℕ) → List ℕ → OpenValue
-open_behind (Slotted parts) [] value = Slotted (parts ++ part.Markup value ∷ [])
+open_behind (Slotted url_by parts) [] value = Slotted url_by (parts ++ part.Markup value ∷ [])
 open_behind (OneSlot kind) [] value = OneSlot kind
 open_behind other urls value = Value value
 
 -- and behind a slot
 abbrev pub open_at_slot : OpenValue → SlotKind → OpenValue
 open_at_slot held kind.Text = Value []
-open_at_slot (Value value) (kind.UrlPart slot) = Slotted (part.Markup value ∷ part.Slot ∷ [])
-open_at_slot (Slotted parts) (kind.UrlPart slot) = Slotted (parts ++ part.Slot ∷ [])
+open_at_slot (Value value) (kind.UrlPart slot) = Slotted Parts (part.Markup value ∷ part.Slot ∷ [])
+open_at_slot (Slotted url_by parts) (kind.UrlPart slot) = Slotted url_by (parts ++ part.Slot ∷ [])
+open_at_slot held (kind.Base behind) = Slotted (Based (kind.Base behind)) []
+open_at_slot held (kind.OwnBase behind) = Slotted (Based (kind.OwnBase behind)) []
 open_at_slot held whole = OneSlot whole
 
 -- the URLs that end in these pieces

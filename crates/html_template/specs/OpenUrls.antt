@@ -3,22 +3,26 @@
 -- what stands after the last of these bytes, and it ends before the next byte that ends it.
 pub mod PlainTexts
 pub mod UrlTexts
-use Rattle.std.specs.Prelude.{ℕ, Bool, false, List, [], ◌∷◌, Option, Some, None, Result, Ok, Err, if◌then◌else◌, length, nat_lt, take}
+use Rattle.std.specs.Prelude.{ℕ, Bool, false, not, ◌&&◌, List, [], ◌∷◌, Option, Some, None, Result, Ok, Err, bytes_eq, codes, if◌then◌else◌, length, nat_lt, take}
 use Rattle.std.specs.List.{position_or_len}
 use Rattle.std.specs.Option.{option_and_then}
 use Rattle.html_tokenizer.specs.declared.slot_place.SlotPlace.{SlotPlace}
 use Rattle.html_tokenizer.specs.UrlValues.{after_last, begins_value, ends_value, url_text}
+use Rattle.html_urls.specs.Bases.{behind_base, goes_as, open_behind}
 use Rattle.html_urls.specs.OpenParts.{after_markup, after_text, may_be_dots, open_of, slot_at}
 use Rattle.html_urls.specs.Slots.{is_plain}
+use Rattle.html_urls.specs.declared.base.BehindBase.{BehindBase}
+use Rattle.html_urls.specs.declared.base.BehindBase.TheVariants.{Slash, Tail, Segment}
 use Rattle.html_urls.specs.declared.open_part.OpenPart.{OpenPart}
+use Rattle.html_urls.specs.declared.open_part.OpenPart.TheVariants.{NewSegment}
 use Rattle.html_urls.specs.declared.parts.UrlSlot.{UrlSlot}
 use Rattle.html_template.specs.declared.faults.PartFault.{PartFault}
 use Rattle.html_template.specs.declared.faults.PartFault.TheVariants.{NotPlain, NotFixed, DotSegment, AfterLink}
 use Rattle.html_template.specs.declared.open_url.OpenUrl.{OpenUrl}
-use Rattle.html_template.specs.declared.open_url.OpenUrl.TheVariants.{Outside, Within, Whole}
+use Rattle.html_template.specs.declared.open_url.OpenUrl.TheVariants.{Outside, Within, Whole, Front}
 use Rattle.html_template.specs.declared.open_url.PlacedSlot.{PlacedSlot}
 use Rattle.html_template.specs.declared.parts.SlotKind.TheVariants as kind
-use Rattle.html_template.specs.Slots.{is_quoted, whole_kind}
+use Rattle.html_template.specs.Slots.{base_kind, is_quoted, whole_kind}
 
 -- what markup adds to a URL, which ends behind it or goes on, if it has no white space, no control, no `\` and no reference but `&amp;`, and leaves
 -- no escape open where the URL goes on
@@ -42,6 +46,14 @@ abbrev pub whole_slot : SlotPlace → Bool → Result PlacedSlot PartFault
 whole_slot p is_followed =
     if is_quoted p then Ok (record { place = p; kind = whole_kind is_followed; url = Whole p }) else Err NotFixed
 
+-- and where the markup that follows it goes on with a URL, it is a base: its kind alone looks ahead, and no fault does
+abbrev pub begun : PlacedSlot → OpenUrl → Option BehindBase → PlacedSlot
+begun slot (Whole p) (Some behind) = record { place = slot.place; kind = base_kind behind slot.kind; url = Front p behind }
+begun slot other following = slot
+
+abbrev pub before : List ℕ → PlacedSlot → PlacedSlot
+before next slot = begun slot slot.url (behind_base next)
+
 -- behind this text, which the markup before adds to the URL
 abbrev pub behind_text : SlotPlace → Option (List ℕ) → Result PlacedSlot PartFault
 behind_text p None = Err NotPlain
@@ -53,11 +65,18 @@ first_slot p is_followed None = Err NotFixed
 first_slot p is_followed (Some []) = whole_slot p is_followed
 first_slot p is_followed (Some (b ∷ markup)) = behind_text p (plain_text false (b ∷ markup))
 
+-- a slot behind a base that ends in `/`, as one does with the `/` behind it, and behind one directly
+abbrev pub behind_front : SlotPlace → BehindBase → Result PlacedSlot PartFault
+behind_front p Segment = in_part p (Some NewSegment)
+behind_front p Slash = Err AfterLink
+behind_front p Tail = Err AfterLink
+
 -- a slot in a URL, where this is the part before it
 abbrev pub url_slot : SlotPlace → Bool → List ℕ → OpenUrl → Result PlacedSlot PartFault
 url_slot p is_followed markup Outside = first_slot p is_followed (after_last (begins_value p) markup)
 url_slot p is_followed markup (Within q part) = in_part p (Some part)
 url_slot p is_followed markup (Whole q) = Err AfterLink
+url_slot p is_followed markup (Front q behind) = behind_front p behind
 
 -- ---- markup behind a slot
 
@@ -83,6 +102,18 @@ abbrev pub behind_link : SlotPlace → List ℕ → Result OpenUrl PartFault
 behind_link p [] = Ok (Whole p)
 behind_link p (b ∷ markup) = if ends_value p b then Ok Outside else Err AfterLink
 
+-- behind a base, the URL goes on as it was taken for. With a `/` that stands alone the base is one that ends in `/`: no second one may follow
+abbrev pub is_slash : List ℕ → Bool
+is_slash text = bytes_eq text (codes "/")
+
+abbrev pub behind_base_text : SlotPlace → BehindBase → Bool → List ℕ → Result OpenUrl PartFault
+behind_base_text p behind is_ended text =
+    if not is_ended && is_slash text then Ok (Front p Segment) else behind_part p is_ended (after_markup (open_behind behind) text)
+
+abbrev pub after_base : SlotPlace → BehindBase → Bool → Option (List ℕ) → Result OpenUrl PartFault
+after_base p behind is_ended None = Err NotPlain
+after_base p behind is_ended (Some text) = if goes_as behind text then behind_base_text p behind is_ended text else Err AfterLink
+
 -- after markup
 abbrev pub url_markup : OpenUrl → List ℕ → Result OpenUrl PartFault
 url_markup Outside markup = Ok Outside
@@ -90,3 +121,6 @@ url_markup (Within p part) markup =
     behind_slot p part (nat_lt (value_length p markup) (length markup))
     (plain_text (nat_lt (value_length p markup) (length markup)) (take (value_length p markup) markup))
 url_markup (Whole p) markup = behind_link p markup
+url_markup (Front p behind) markup =
+    after_base p behind (nat_lt (value_length p markup) (length markup))
+    (plain_text (nat_lt (value_length p markup) (length markup)) (take (value_length p markup) markup))

@@ -8,13 +8,15 @@ use Rattle.html_tokenizer.specs.declared.slot_place.SlotPlace.{SlotPlace}
 use Rattle.html_tokenizer.specs.declared.slot_place.SlotPlace.TheVariants.{DoubleQuoted, SingleQuoted, Unquoted}
 use Rattle.html_tokenizer.specs.Standing.{is_same, standing}
 use Rattle.html_tokenizer.specs.Tokenizer.States.{In, Tokenizer, at_value, refused}
+use Rattle.html_urls.specs.Bases.{is_base, is_own_base}
 use Rattle.html_urls.specs.Components.{component}
 use Rattle.html_urls.specs.Links.{is_link}
 use Rattle.html_urls.specs.OwnPaths.{is_own_path}
 use Rattle.html_urls.specs.Slots as urls
+use Rattle.html_urls.specs.declared.base.BehindBase.{BehindBase}
 use Rattle.html_template.specs.Encoders.{encoder_for}
 use Rattle.html_template.specs.declared.parts.SlotKind.{SlotKind}
-use Rattle.html_template.specs.declared.parts.SlotKind.TheVariants.{Text, UrlPart, Link, OwnPath}
+use Rattle.html_template.specs.declared.parts.SlotKind.TheVariants.{Text, UrlPart, Link, OwnPath, Base, OwnBase}
 
 -- a part of a URL is written as a component, which needs no encoding in any value; else the encoder of its place writes the text
 abbrev pub written : SlotPlace → SlotKind → List ℕ → List ℕ
@@ -35,16 +37,25 @@ FitsPlace other text = ⊤
 abbrev pub whole_kind : Bool → SlotKind
 whole_kind is_followed = if is_followed then Link else OwnPath
 
-abbrev pub IsWholeUrl : SlotKind → List ℕ → Type 0
-IsWholeUrl Link text = is_link text ≡ true
-IsWholeUrl OwnPath text = is_own_path text ≡ true
-IsWholeUrl other text = ⊥
+-- and with markup behind it that goes on with it so, a base, and there one of the page's own host
+abbrev pub base_kind : BehindBase → SlotKind → SlotKind
+base_kind behind Link = Base behind
+base_kind behind OwnPath = OwnBase behind
+base_kind behind other = other
+
+-- a URL may begin with this text
+abbrev pub MayBegin : SlotKind → List ℕ → Type 0
+MayBegin Link text = is_link text ≡ true
+MayBegin OwnPath text = is_own_path text ≡ true
+MayBegin (Base behind) text = is_base behind text ≡ true
+MayBegin (OwnBase behind) text = is_own_base behind text ≡ true
+MayBegin other text = ⊥
 
 -- a text that begins a segment of a path is not empty, and neither `.` nor `..`
 abbrev pub MayFill : SlotPlace → SlotKind → List ℕ → Type 0
 MayFill p Text text = FitsPlace p text
 MayFill p (UrlPart slot) text = urls.may_fill slot text ≡ true
-MayFill p whole text = IsWholeUrl whole text
+MayFill p begins text = MayBegin begins text
 
 -- the value of an attribute in quotes
 abbrev pub is_quoted : SlotPlace → Bool
@@ -59,6 +70,8 @@ suits (UrlPart slot) p (InUrl q) = is_same p q
 suits (UrlPart slot) p (InLink q) = is_same p q
 suits Link p (InLink q) = is_quoted p && is_same p q
 suits OwnPath p (InUrl q) = is_quoted p && is_same p q
+suits (Base behind) p (InLink q) = is_quoted p && is_same p q
+suits (OwnBase behind) p (InUrl q) = is_quoted p && is_same p q
 suits kind p other = false
 
 -- the tokenizer after a slot, by the template alone

@@ -8,7 +8,7 @@ use Rattle.html_template.specs.declared.open_url.OpenUrl.{OpenUrl}
 use Rattle.html_template.specs.declared.open_url.OpenUrl.TheVariants.{Outside}
 use Rattle.html_template.specs.declared.parts.SlotKind.TheVariants as kind
 use Rattle.html_template.specs.declared.open_url.PlacedSlot.{PlacedSlot}
-use Rattle.html_template.specs.OpenUrls.{url_markup, url_slot}
+use Rattle.html_template.specs.OpenUrls.{before, url_markup, url_slot}
 use Rattle.html_template.specs.Templates.{Chunk, Markup, Slot, Given, GivenMarkup, GivenSlot, after_slot}
 use Rattle.html_tokenizer.specs.declared.reader.Standing.{Standing}
 use Rattle.html_tokenizer.specs.declared.reader.Standing.TheVariants.{Stands, InUrl, InLink, Nowhere, Barred}
@@ -58,6 +58,14 @@ behind_markup walk bytes url = record { tokenizer = state_after walk.tokenizer b
 abbrev pub behind_slot : Walk → PlacedSlot → Walk
 behind_slot walk slot = record { tokenizer = after_slot slot.place slot.kind walk.tokenizer; markup = []; url = slot.url }
 
+-- the markup that follows directly, and nothing where a slot follows, or no part
+abbrev pub next_markup : List Given → List ℕ
+next_markup (GivenMarkup bytes ∷ parts) = bytes
+next_markup other = []
+
+abbrev pub put_slot : PlacedSlot → Told → Told
+put_slot slot told = put (Slot slot.place slot.kind) told
+
 -- the pieces of the parts from this number on
 abbrev pub pieces_from : ℕ → Walk → List Given → Told
 pieces_from number walk [] = if may_end walk.tokenizer then Ok [] else Err Unfinished
@@ -66,7 +74,7 @@ pieces_from number walk (GivenMarkup bytes ∷ parts) =
     else told_of (λ why. number) (url_markup walk.url bytes) (λ url. put (Markup bytes) (pieces_from (number + 1) (behind_markup walk bytes url) parts))
 pieces_from number walk (GivenSlot ∷ parts) =
     told_of (faulty_part number) (slot_at walk.markup walk.url (standing walk.tokenizer))
-    (λ slot. put (Slot slot.place slot.kind) (pieces_from (number + 1) (behind_slot walk slot) parts))
+    (λ slot. put_slot (before (next_markup parts) slot) (pieces_from (number + 1) (behind_slot walk (before (next_markup parts) slot)) parts))
 
 -- the pieces of the parts
 abbrev pub template_of : List Given → Told
@@ -88,12 +96,12 @@ is_told (Err fault) = false
 abbrev pub is_template : List Given → Bool
 is_template parts = is_told (template_of parts)
 
--- after one part more the pieces are this one and those of the others, or its fault is the first
-abbrev pub TakesPart : {T : Type 0} → (T → Chunk) → ℕ → Walk → Given → Walk → Result T TemplateFault → Type 0
-TakesPart chunk number old part new (Ok taken) =
-    (parts : List Given) → pieces_from number old (part ∷ parts) ≡ put (chunk taken) (pieces_from (number + 1) new parts)
-TakesPart chunk number old part new (Err Memory) = ⊤
-TakesPart chunk number old part new (Err other) = (parts : List Given) → pieces_from number old (part ∷ parts) ≡ Err other
+-- after one part more, behind which these follow, the pieces are this one and those of the others, or its fault is the first
+abbrev pub TakesPart : {T : Type 0} → (T → Chunk) → ℕ → Walk → Given → List Given → Walk → Result T TemplateFault → Type 0
+TakesPart chunk number old part parts new (Ok taken) =
+    pieces_from number old (part ∷ parts) ≡ put (chunk taken) (pieces_from (number + 1) new parts)
+TakesPart chunk number old part parts new (Err Memory) = ⊤
+TakesPart chunk number old part parts new (Err other) = pieces_from number old (part ∷ parts) ≡ Err other
 
 -- pieces before those that are told
 abbrev pub put_all : List Chunk → Told → Told
@@ -104,12 +112,12 @@ abbrev pub told_behind : List Chunk → ℕ → Walk → List Given → Told
 told_behind chunks number walk parts = put_all chunks (pieces_from number walk parts)
 
 -- after one part more the same is told, or its fault is
-abbrev pub TakesMore : {T : Type 0} → ℕ → List Chunk → Walk → Given → List Chunk → Walk → Result T TemplateFault → Type 0
-TakesMore number chunks walk part new_chunks new_walk (Ok done) =
-    (parts : List Given) → told_behind chunks number walk (part ∷ parts) ≡ told_behind new_chunks (number + 1) new_walk parts
-TakesMore number chunks walk part new_chunks new_walk (Err Memory) = ⊤
-TakesMore number chunks walk part new_chunks new_walk (Err other) =
-    (parts : List Given) → told_behind chunks number walk (part ∷ parts) ≡ Err other
+abbrev pub TakesMore : {T : Type 0} → ℕ → List Chunk → Walk → Given → List Given → List Chunk → Walk → Result T TemplateFault → Type 0
+TakesMore number chunks walk part parts new_chunks new_walk (Ok done) =
+    told_behind chunks number walk (part ∷ parts) ≡ told_behind new_chunks (number + 1) new_walk parts
+TakesMore number chunks walk part parts new_chunks new_walk (Err Memory) = ⊤
+TakesMore number chunks walk part parts new_chunks new_walk (Err other) =
+    told_behind chunks number walk (part ∷ parts) ≡ Err other
 
 -- ---- the answer
 

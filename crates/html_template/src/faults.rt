@@ -20,7 +20,8 @@ pub enum PartFault {
     /// A segment of a URL's path ends in the part, or a slot stands in one, that with some text may read
     /// as `.` or `..`: it has no other bytes than those of dots.
     DotSegment,
-    /// The part goes on with a URL that a slot began. Such a slot is the whole URL.
+    /// The part goes on with a URL that a slot began, other than by markup whose first byte is a `?`, a `#`, an
+    /// ASCII letter, a digit, `_`, or a `/` with no second one. Such a slot is the whole URL.
     AfterLink,
 }
 
@@ -60,6 +61,13 @@ pub enum TextFault {
     /// It is for a whole URL that the page runs, as of a script, and leads to no path of the page's own host:
     /// it does not begin with one `/`, or has white space, a control, a `\` or a segment that may be `.` or `..`.
     NotAnOwnPath,
+    /// It is for the beginning of a URL, and is no base before what follows: it is not empty, and begins
+    /// neither with one `/` nor with `http://` or `https://` and a host; or has white space, a control, a `\`,
+    /// a `?`, a `#` or a segment that may be `.` or `..`; or ends in `/` before a `/`, or in none before a segment.
+    NotABase,
+    /// It is for the beginning of a URL that the page runs, as of a script, and is no base of the page's own
+    /// host: none that is empty or begins with one `/`.
+    NotAnOwnBase,
 }
 
 /// Why texts do not fill a template.

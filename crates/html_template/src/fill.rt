@@ -11,7 +11,7 @@ use crate::parts::SlotKind;
 use crate::stored::{Stored, StoredSlot};
 use crate::texts::Texts;
 use html_tokenizer::SlotPlace;
-use html_urls::{UrlSlot, is_link, is_own_path, may_fill};
+use html_urls::{UrlSlot, is_base, is_link, is_own_base, is_own_path, may_fill};
 
 fn empty_fault(place: SlotPlace, text: &str) -> Option<TextFault>
     ensures { result ≡ empty_fault place text.now }
@@ -46,6 +46,10 @@ pub fn text_fault(slot: &StoredSlot, text: &str) -> Option<TextFault>
         SlotKind::Link => Some(TextFault::NotALink),
         SlotKind::OwnPath if is_own_path(text) => None,
         SlotKind::OwnPath => Some(TextFault::NotAnOwnPath),
+        SlotKind::Base(behind) if is_base(behind, text) => None,
+        SlotKind::Base(_) => Some(TextFault::NotABase),
+        SlotKind::OwnBase(behind) if is_own_base(behind, text) => None,
+        SlotKind::OwnBase(_) => Some(TextFault::NotAnOwnBase),
     }
 }
 
@@ -56,7 +60,7 @@ fn is_checked(slot: &StoredSlot) -> bool
     match slot.kind {
         SlotKind::Text => slot.place == SlotPlace::Unquoted,
         SlotKind::UrlPart(url_slot) => url_slot.begins_segment,
-        SlotKind::Link | SlotKind::OwnPath => true,
+        SlotKind::Link | SlotKind::OwnPath | SlotKind::Base(_) | SlotKind::OwnBase(_) => true,
     }
 }
 

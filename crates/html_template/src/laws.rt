@@ -7,7 +7,7 @@ ghost use Rattle.html_tokenizer.specs.Tokenizer.Tokenization.{actions_of};
 ghost use Rattle.html_tokenizer.specs.Tokens.{skeleton, tokens};
 ghost use Rattle.html_template.specs.FillFaults.{AnswersFill, count_fault, fill_fault, text_fault, text_faults};
 ghost use Rattle.html_template.specs.FilledUrls.{FillUrls, HasUrls, HasUrlsOf, filled_urls, template_urls, url_texts};
-ghost use Rattle.html_template.specs.PageUrls.{AllAlike, LeadsAsAny, urls_of, whole_urls};
+ghost use Rattle.html_template.specs.PageUrls.{AllAlike, LeadsAsAny, urls_of, first_texts};
 ghost use Rattle.html_template.specs.Structure.{IsPageOf, IsReadAs, structure};
 ghost use Rattle.html_template.specs.TemplateFaults.{is_template, placed};
 ghost use Rattle.html_template.specs.Templates.{Chunk, Fill, Given, MayFill};
@@ -59,10 +59,12 @@ pub fn token_law()
 {}
 
 /// The URLs of two pages of the same parts, which are the values of their attributes that hold one, as
-/// the tokenizer reads them: they are as many, and one by one each two lead alike, or are the texts of
-/// a slot that is a whole URL. Each of these texts is met once, in the order of the slots: both are links,
-/// or where the slot is an own path both are own paths, which `html_urls::laws::own_path_law` says to lead
-/// to the scheme, user, password, host and port of the page.
+/// the tokenizer reads them: they are as many, and one by one each two lead alike, or are those of a slot with
+/// which a URL begins. Each text of such a slot is met once, in the order of the slots. A whole URL is this
+/// text: both are links, or where the slot is an own path both are own paths, which
+/// `html_urls::laws::own_path_law` says to lead to the scheme, user, password, host and port of the page. A URL
+/// that begins with a base has those of the base alone, whatever stands behind it; two own bases have those of
+/// the page, as `own_base_law` says. Where the two texts are the same, the two URLs lead alike.
 ///
 /// Two URLs lead alike if on any page of the web, and on none, both are refused or have one scheme,
 /// user, password, host and port, as many segments and as many strings between `&`.
@@ -75,7 +77,7 @@ pub fn token_law()
 pub fn url_law()
     ensures pages { (parts : List Given) (texts others : List (List ℕ)) (first second : List ℕ)
         → IsPageOf parts texts first → IsPageOf parts others second
-        → AllAlike (whole_urls (placed parts) texts) (whole_urls (placed parts) others)
+        → AllAlike (first_texts (placed parts) texts) (first_texts (placed parts) others)
         (urls_of first) (urls_of second) }
     ensures pieces { (pieces : List Chunk) (texts : List (List ℕ)) → HasUrlsOf pieces texts
         → LeadsAsAny pieces texts }
@@ -83,8 +85,9 @@ pub fn url_law()
 
 /// The URLs of a page, as the tokenizer reads them, are those of its template, `template_urls parts`,
 /// filled by the texts of its slots in URLs, in order: a part of a URL is the component of its text, a
-/// whole URL is its text, which is a link or an own path as its slot asks, and no text is left. So what
-/// `html_urls::laws` say of a URL's parts and their texts holds of the URLs of a page.
+/// whole URL is its text, which is a link or an own path as its slot asks, one that begins with a base is its
+/// text, which is a base, and then the parts behind it, and no text is left. So what `html_urls::laws` say of a
+/// URL's parts, of bases and of their texts holds of the URLs of a page.
 ///
 /// For instance `<a href="/?q=`, a slot and `&amp;p=1">` has one URL, of the parts `/?q=`, a slot and
 /// `&p=1`. In the page of `b&p=2` it is `/?q=b%26p%3D2&p=1`.

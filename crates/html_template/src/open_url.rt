@@ -1,15 +1,33 @@
 //! URLs that hold slots: what is open of one, and what a slot and markup are in it.
 pub(crate) mod markup;
 
-ghost use Rattle.std.specs.Prelude.{◌≡◌, IfOk, option_map};
-ghost use Rattle.html_template.specs.OpenUrls.{behind_link, first_slot, in_part, url_end, url_markup, url_slot, whole_slot};
-ghost use Rattle.html_template.specs.Slots.{is_quoted, whole_kind};
+ghost use Rattle.std.specs.Prelude.{◌≡◌, IfOk, Some, option_map};
+ghost use Rattle.html_template.specs.OpenUrls.{
+  after_base,
+  before,
+  behind_base_text,
+  behind_front,
+  behind_link,
+  behind_part,
+  first_slot,
+  in_part,
+  is_slash,
+  url_end,
+  url_markup,
+  url_slot,
+  whole_slot,
+};
+ghost use Rattle.html_template.specs.declared.open_url.OpenUrl.TheVariants.{Front, Within};
+ghost use Rattle.html_template.specs.Slots.{base_kind, is_quoted, whole_kind};
 
 use crate::faults::PartFault;
 use crate::open_url::markup::{after_last, ends_value, plain_text, value_length};
 use crate::parts::SlotKind;
 use html_tokenizer::SlotPlace;
-use html_urls::{OpenPart, after_markup, after_text, may_be_dots, open_of, slot_at};
+use html_urls::{
+    BehindBase, OpenPart, after_markup, after_text, behind_base, goes_as, may_be_dots, open_behind,
+    open_of, slot_at,
+};
 use std::alloc::{AllocError, Allocator};
 
 /// What is open of a URL that holds a slot.
@@ -21,6 +39,8 @@ pub enum OpenUrl {
     Within(SlotPlace, OpenPart),
     /// In a value at this place, a URL that is all of it.
     Whole(SlotPlace),
+    /// In a value at this place, a base with which the URL begins, and which goes on so.
+    Front(SlotPlace, BehindBase),
 }
 
 /// A slot, and what is open behind it.
@@ -79,6 +99,36 @@ fn whole_slot(place: SlotPlace, is_followed: bool) -> Result<PlacedSlot, PartFau
     })
 }
 
+// The kind of a slot with which a URL begins that goes on so behind it.
+fn base_kind(behind: BehindBase, kind: SlotKind) -> SlotKind
+    ensures { result ≡ base_kind behind kind }
+{
+    match kind {
+        SlotKind::Link => SlotKind::Base(behind),
+        SlotKind::OwnPath => SlotKind::OwnBase(behind),
+        other => other,
+    }
+}
+
+/// The slot before this markup: one that is a whole URL is a base where the markup goes on with it.
+///
+/// Before `/items/` a `Link` is a `Base(Slash)`, and before `"` it is a `Link`.
+pub fn before(next: &[u8], slot: PlacedSlot) -> PlacedSlot
+    ensures { result ≡ before next.now slot }
+{
+    let OpenUrl::Whole(place) = slot.url else {
+        return slot;
+    };
+    match behind_base(next) {
+        Some(behind) => PlacedSlot {
+            place: slot.place,
+            kind: base_kind(behind, slot.kind),
+            url: OpenUrl::Front(place, behind),
+        },
+        None => slot,
+    }
+}
+
 // The first slot of a URL, behind this markup.
 #[tactic(auto, using(crate::proofs::Walks::some_front))]
 fn first_slot<A: Allocator>(
@@ -100,6 +150,16 @@ fn first_slot<A: Allocator>(
     }
 }
 
+// A slot behind a base.
+fn behind_front(place: SlotPlace, behind: BehindBase) -> Result<PlacedSlot, PartFault>
+    ensures { result ≡ behind_front place behind }
+{
+    match behind {
+        BehindBase::Segment => in_part(place, Some(OpenPart::NewSegment)),
+        BehindBase::Slash | BehindBase::Tail => Err(PartFault::AfterLink),
+    }
+}
+
 /// A slot in a URL, where this is the part before it. It is the markup before that is not plain.
 pub fn url_slot<A: Allocator>(
     alloc: A,
@@ -117,6 +177,7 @@ pub fn url_slot<A: Allocator>(
         }
         OpenUrl::Within(_, open_part) => Ok(in_part(place, Some(open_part))),
         OpenUrl::Whole(_) => Ok(Err(PartFault::AfterLink)),
+        OpenUrl::Front(_, behind) => Ok(behind_front(place, behind)),
     }
 }
 
@@ -144,6 +205,73 @@ fn behind_link(place: SlotPlace, markup: &[u8]) -> Result<OpenUrl, PartFault>
     }
 }
 
+// Behind markup in the part of a URL that is open, unless a dot segment ends in it.
+fn behind_part(
+    place: SlotPlace,
+    is_ended: bool,
+    open_part: Option<OpenPart>,
+) -> Result<OpenUrl, PartFault>
+    ensures { result ≡ behind_part place is_ended open_part }
+{
+    match open_part {
+        None => Err(PartFault::DotSegment),
+        Some(open_part) => url_end(place, is_ended, open_part),
+    }
+}
+
+// Behind a base and this text.
+fn after_base(
+    place: SlotPlace,
+    behind: BehindBase,
+    is_ended: bool,
+    text: &[u8],
+) -> Result<OpenUrl, PartFault>
+    ensures { result ≡ after_base place behind is_ended (Some text.now) }
+{
+    if !goes_as(behind, text) {
+        return Err(PartFault::AfterLink);
+    }
+    if !is_ended && text == b"/".as_slice() {
+        return Ok(OpenUrl::Front(place, BehindBase::Segment));
+    }
+    behind_part(place, is_ended, after_markup(open_behind(behind), text))
+}
+
+// What is open after markup, where this part of a URL was.
+fn within_markup<A: Allocator>(
+    alloc: A,
+    place: SlotPlace,
+    open_part: OpenPart,
+    markup: &[u8],
+) -> Result<Result<OpenUrl, PartFault>, AllocError>
+    ensures { IfOk result (λ opened. opened ≡ url_markup (Within place open_part) markup.now) }
+{
+    let end = value_length(place, markup);
+    let is_ended = end < markup.len();
+    let Some(text) = plain_text(alloc, &markup[..end], is_ended)? else {
+        return Ok(Err(PartFault::NotPlain));
+    };
+    let after = after_markup(open_part, text.as_bytes());
+    Ok(behind_part(place, is_ended, after))
+}
+
+// And where a base was.
+fn front_markup<A: Allocator>(
+    alloc: A,
+    place: SlotPlace,
+    behind: BehindBase,
+    markup: &[u8],
+) -> Result<Result<OpenUrl, PartFault>, AllocError>
+    ensures { IfOk result (λ opened. opened ≡ url_markup (Front place behind) markup.now) }
+{
+    let end = value_length(place, markup);
+    let is_ended = end < markup.len();
+    let Some(text) = plain_text(alloc, &markup[..end], is_ended)? else {
+        return Ok(Err(PartFault::NotPlain));
+    };
+    Ok(after_base(place, behind, is_ended, text.as_bytes()))
+}
+
 /// What is open after markup.
 pub fn url_markup<A: Allocator>(
     alloc: A,
@@ -152,18 +280,10 @@ pub fn url_markup<A: Allocator>(
 ) -> Result<Result<OpenUrl, PartFault>, AllocError>
     ensures { IfOk result (λ opened. opened ≡ url_markup url markup.now) }
 {
-    let (place, open_part) = match url {
-        OpenUrl::Outside => return Ok(Ok(OpenUrl::Outside)),
-        OpenUrl::Whole(place) => return Ok(behind_link(place, markup)),
-        OpenUrl::Within(place, open_part) => (place, open_part),
-    };
-    let end = value_length(place, markup);
-    let is_ended = end < markup.len();
-    let Some(text) = plain_text(alloc, &markup[..end], is_ended)? else {
-        return Ok(Err(PartFault::NotPlain));
-    };
-    match after_markup(open_part, text.as_bytes()) {
-        None => Ok(Err(PartFault::DotSegment)),
-        Some(open_part) => Ok(url_end(place, is_ended, open_part)),
+    match url {
+        OpenUrl::Outside => Ok(Ok(OpenUrl::Outside)),
+        OpenUrl::Within(place, open_part) => within_markup(alloc, place, open_part, markup),
+        OpenUrl::Whole(place) => Ok(behind_link(place, markup)),
+        OpenUrl::Front(place, behind) => front_markup(alloc, place, behind, markup),
     }
 }

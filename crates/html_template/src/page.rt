@@ -103,7 +103,11 @@ fn text_length(slot: &StoredSlot, text: &str) -> Option<usize>
 {
     match slot.kind {
         SlotKind::UrlPart(_) => component_length(text),
-        SlotKind::Text | SlotKind::Link | SlotKind::OwnPath => total(&Escape(slot.class), text),
+        SlotKind::Text
+        | SlotKind::Link
+        | SlotKind::OwnPath
+        | SlotKind::Base(_)
+        | SlotKind::OwnBase(_) => total(&Escape(slot.class), text),
     }
 }
 

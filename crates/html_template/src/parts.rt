@@ -1,5 +1,5 @@
 //! What a template is made of, and what its laws speak of.
-use html_urls::UrlSlot;
+use html_urls::{BehindBase, UrlSlot};
 
 /// A part of a template.
 #[derive(Clone, Copy, Debug)]
@@ -22,4 +22,10 @@ pub enum SlotKind {
     /// A whole URL that the page runs, frames, sends to or goes on with. It has to be an own path, and is
     /// encoded for its place.
     OwnPath,
+    /// The beginning of a URL that its element only shows or follows, which goes on so in the markup behind it.
+    /// It has to be a base, and is encoded for its place.
+    Base(BehindBase),
+    /// The same of a URL that the page runs, frames, sends to or goes on with. It has to be an own base, which
+    /// is one of the page's own host.
+    OwnBase(BehindBase),
 }

@@ -12,7 +12,13 @@ ghost use Rattle.html_template.specs.Writing.{AnswersWriting};
 ghost use Rattle.html_template.specs.declared.faults.TemplateFault.TheVariants.{Memory};
 ghost use Rattle.html_template.specs.FilledUrls.{HasUrlsOf};
 ghost use Rattle.html_template.specs.PageUrls.{urls_of};
-ghost use Rattle.html_template.specs.TemplateFaults.{Answers, TakesMore, placed, template_of};
+ghost use Rattle.html_template.specs.TemplateFaults.{
+  Answers,
+  TakesMore,
+  next_markup,
+  placed,
+  template_of,
+};
 ghost use Rattle.html_template.specs.Templates.{
   Fill,
   Given,
@@ -65,7 +71,8 @@ impl<'a, A: Allocator + Copy> Template<'a, A> {
         let mut pieces = Vec::with_capacity(alloc, parts.len())?;
         let mut rest = parts;
         'parts: while let [part, others @ ..] = rest {
-            take_part(&mut walk, &mut pieces, *part, parts.len() - rest.len())?;
+            let number = parts.len() - rest.len();
+            take_part(&mut walk, &mut pieces, *part, others, number)?;
             rest = others;
         }
         if !walk.may_end() {
@@ -226,23 +233,34 @@ impl<'a, A: Allocator + Copy> Template<'a, A> {
     }
 }
 
-// Takes one part more, which has this number.
+// The markup that follows directly.
+fn next_markup<'a>(parts: &[Part<'a>]) -> &'a [u8]
+    ensures { result.now ≡ next_markup (map given parts.now) }
+{
+    match parts {
+        [Part::Markup(text), ..] => text.as_bytes(),
+        _ => b"",
+    }
+}
+
+// Takes one part more, which has this number, and behind which these follow.
 #[inline(always)]
 fn take_part<'a, A: Allocator + Copy>(
     walk: &mut Walk<'a, A>,
     pieces: &mut Vec<Stored<'a>, A>,
     part: Part<'a>,
+    others: &[Part<'a>],
     number: usize,
 ) -> Result<(), TemplateFault>
     ensures { TakesMore number (map chunk_of pieces.old.items) (walk_of walk.old) (given part.entry)
-        (map chunk_of pieces.new.items) (walk_of walk.new) result }
+        (map given others.now) (map chunk_of pieces.new.items) (walk_of walk.new) result }
 {
     match part {
         Part::Markup(text) => match walk.take_markup(text, number) {
             Ok(()) => push_piece(pieces, Stored::Markup(StoredMarkup::new(text))),
             Err(fault) => Err(fault),
         },
-        Part::Slot => match walk.take_slot(number) {
+        Part::Slot => match walk.take_slot(next_markup(others), number) {
             Ok(slot) => push_piece(pieces, Stored::Slot(StoredSlot::new(slot.place, slot.kind))),
             Err(fault) => Err(fault),
         },

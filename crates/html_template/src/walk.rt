@@ -1,12 +1,18 @@
 //! What was read of the parts of a template.
-ghost use Rattle.std.specs.Prelude.{◌≡◌, IfOk};
-ghost use Rattle.html_template.specs.TemplateFaults.{TakesPart, at_beginning, faulty_part, slot_at};
-ghost use Rattle.html_template.specs.Templates.{GivenMarkup, GivenSlot, Markup, Slot};
+ghost use Rattle.std.specs.Prelude.{◌≡◌, IfOk, List};
+ghost use Rattle.html_template.specs.TemplateFaults.{
+  TakesPart,
+  at_beginning,
+  faulty_part,
+  next_markup,
+  slot_at,
+};
+ghost use Rattle.html_template.specs.Templates.{Given, GivenMarkup, GivenSlot, Markup, Slot};
 ghost use Rattle.html_template.specs.Walks.{walk_of};
 ghost use Rattle.html_tokenizer.specs.Standing.{may_end};
 
 use crate::faults::{PartFault, TemplateFault};
-use crate::open_url::{OpenUrl, PlacedSlot, url_markup, url_slot};
+use crate::open_url::{OpenUrl, PlacedSlot, before, url_markup, url_slot};
 use crate::parts::SlotKind;
 use html_tokenizer::{Reader, Standing};
 use std::alloc::{AllocError, Allocator};
@@ -68,8 +74,8 @@ impl<'a, A: Allocator + Copy> Walk<'a, A> {
     /// Reads markup, which is the part of this number.
     #[inline(always)]
     pub(crate) fn take_markup(&mut self, text: &'a str, number: usize) -> Result<(), TemplateFault>
-        ensures { TakesPart (λ done. Markup text.now) number (walk_of self.old)
-            (GivenMarkup text.now) (walk_of self.new) result }
+        ensures { (parts : List Given) → TakesPart (λ done. Markup text.now) number
+            (walk_of self.old) (GivenMarkup text.now) parts (walk_of self.new) result }
     {
         self.reader.read(text.as_bytes())?;
         if self.reader.is_refused() {
@@ -83,15 +89,21 @@ impl<'a, A: Allocator + Copy> Walk<'a, A> {
         Ok(())
     }
 
-    /// Reads a slot, which is the part of this number.
-    pub(crate) fn take_slot(&mut self, number: usize) -> Result<PlacedSlot, TemplateFault>
-        ensures { TakesPart (λ slot. Slot slot.place slot.kind) number (walk_of self.old) GivenSlot
-            (walk_of self.new) result }
+    /// Reads a slot before this markup, which is the part of this number.
+    pub(crate) fn take_slot(
+        &mut self,
+        next: &[u8],
+        number: usize,
+    ) -> Result<PlacedSlot, TemplateFault>
+        ensures { (parts : List Given) → next_markup parts ≡ next.now
+            → TakesPart (λ slot. Slot slot.place slot.kind) number (walk_of self.old) GivenSlot
+            parts (walk_of self.new) result }
     {
         let standing = self.reader.slot();
         let markup = self.markup.as_bytes();
         match placed(self.alloc, markup, self.url, standing)? {
-            Ok(slot) => {
+            Ok(found) => {
+                let slot = before(next, found);
                 self.markup = "";
                 self.url = slot.url;
                 Ok(slot)

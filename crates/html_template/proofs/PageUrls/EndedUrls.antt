@@ -2,8 +2,8 @@
 use Rattle.std.proofs.Common.{ℕ, ◌≡◌, true, false, List, [], ◌∷◌, ◌++◌, map, refl, sym, ap, ◌∙◌, ⊎_elim, append-nil, append_assoc}
 use Rattle.std.proofs.lemmas.Bool.{cases_Bool, true≢false}
 use Rattle.html_template.specs.declared.open_url.OpenUrl.TheVariants.{Outside}
-use Rattle.html_template.specs.FilledUrls.{Fixed, Parts, Whole, url_texts}
-use Rattle.html_template.specs.PageUrls.{whole_urls}
+use Rattle.html_template.specs.FilledUrls.{Fixed, Whole, url_texts}
+use Rattle.html_template.specs.PageUrls.{first_texts}
 use Rattle.html_template.specs.Templates.{Chunk, Markup, page}
 use Rattle.html_tokenizer.specs.Tokenizer.States.{Tokenizer}
 use Rattle.html_tokenizer.specs.Tokenizer.Tokenization.{consume, state_after}
@@ -96,7 +96,7 @@ module _ (here there : Tokenizer) (tame : IsTame here) (fresh : IsFresh here [])
       ends = λ value texts full utf8. record {
         others = fixed ++ urls_from (state_after here all) left (page chunks texts);
         same = ended_urls raw text added b rest value (page chunks texts) stays ends;
-        filled = fixed_before fixed (urls_from (state_after here all) left (page chunks texts)) (whole_urls chunks texts) found.urls (url_texts chunks texts) (found.filled texts full utf8);
+        filled = fixed_before fixed (urls_from (state_after here all) left (page chunks texts)) (first_texts chunks texts) found.urls (url_texts chunks texts) (found.filled texts full utf8);
       };
     }
 
@@ -105,7 +105,7 @@ module _ (here there : Tokenizer) (tame : IsTame here) (fresh : IsFresh here [])
     unfolding ends_in found
     parts_end = record {
       end = ends_in;
-      told = λ before.
+      told = λ url_by before.
           rw (ends_there raw text added b rest stays ends, left_behind)
-          (ap (λ urls. Parts (before ++ part.Markup (text ++ added) ∷ []) ∷ (map Fixed fixed ++ urls)) found.told);
+          (ap (λ urls. url_by (before ++ part.Markup (text ++ added) ∷ []) ∷ (map Fixed fixed ++ urls)) found.told);
     }

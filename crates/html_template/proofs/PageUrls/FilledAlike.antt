@@ -1,9 +1,18 @@
 -- The URLs of a template, filled by two lists of texts, lead alike.
-use Rattle.std.proofs.Common.{ℕ, List, [], ◌∷◌, drop, take, inl, inr, refl}
-use Rattle.html_urls.specs.Slots.{FillUrl, Given, url_of}
+use Rattle.std.proofs.Common.{ℕ, ◌≡◌, true, List, [], ◌∷◌, ◌++◌, drop, take, inl, inr, refl, sym, subst, append-nil}
+use Rattle.html_urls.specs.Bases.{FillBehind, is_base}
+use Rattle.html_urls.specs.Slots.{FillUrl, Given, Markup, url_of}
+use Rattle.html_urls.specs.declared.base.BehindBase.{BehindBase}
+use Rattle.html_urls.proofs.Bases.Filling.{fills}
+use Rattle.html_urls.proofs.Bases.GoesAs.{behind_goes}
+use Rattle.html_urls.proofs.Bases.Headings.{base_head}
+use Rattle.html_urls.proofs.Bases.OwnBases.{own_is_base}
 use Rattle.html_urls.proofs.Shapes.SameCounts.{same_head, same_segments, same_strings}
-use Rattle.html_template.specs.FilledUrls.{FillUrls, Fixed, Parts, TemplateUrl, Whole, filled_urls, slots_in, whole_texts}
-use Rattle.html_template.specs.PageUrls.{AllAlike, LeadAlike, WholeUrl}
+use Rattle.html_template.specs.declared.parts.SlotKind.{SlotKind}
+use Rattle.html_template.specs.declared.parts.SlotKind.TheVariants as kind
+use Rattle.html_template.specs.FilledUrls.{Based, FillBase, FillUrls, Fixed, Parts, TemplateUrl, Whole, begun_texts, filled_urls, slots_in}
+use Rattle.html_template.specs.PageUrls.{AllAlike, BeginsWith, FirstText, IsUrlOf, LeadAlike}
+use Rattle.html_template.specs.Slots.{MayBegin}
 
 leads_itself : (url : List ℕ) → LeadAlike url url
 leads_itself url = record { head = λ base web. refl; segments = λ base web. refl; strings = λ base web. refl }
@@ -16,8 +25,59 @@ parts_alike parts texts others full others_full = record {
   strings = λ base web. same_strings base parts texts others web full others_full;
 }
 
--- two URLs more, before the others
-alike_first : (wholes more : List WholeUrl) (first second : List ℕ) (urls others : List (List ℕ)) → LeadAlike first second →
+-- two that are whole, and two that begin with bases: they lead alike where these texts are the same
+abbrev AreOfTexts : SlotKind → List ℕ → List ℕ → List ℕ → List ℕ → Type 0 → Type 0
+AreOfTexts kind text other url another Rest =
+    (kind ≡ kind) × IsUrlOf (kind, text) url × IsUrlOf (kind, other) another × (text ≡ other → LeadAlike url another) × Rest
+
+begins_itself : (text : List ℕ) → BeginsWith text text
+begins_itself text = record { rest = []; is = sym (append-nil text); head = λ page web. refl }
+
+whole_alike : (kind : SlotKind) (text other : List ℕ) {Rest : Type 0} → MayBegin kind text → MayBegin kind other → Rest → AreOfTexts kind text other text other Rest
+whole_alike kind.Link text other may may_other rest =
+    (refl, (may, refl), (may_other, refl), λ same. subst (λ url. LeadAlike text url) same (leads_itself text), rest)
+whole_alike kind.OwnPath text other may may_other rest =
+    (refl, (may, refl), (may_other, refl), λ same. subst (λ url. LeadAlike text url) same (leads_itself text), rest)
+whole_alike (kind.Base behind) text other may may_other rest =
+    (refl, (may, begins_itself text), (may_other, begins_itself other), λ same. subst (λ url. LeadAlike text url) same (leads_itself text), rest)
+whole_alike (kind.OwnBase behind) text other may may_other rest =
+    (refl, (may, begins_itself text), (may_other, begins_itself other), λ same. subst (λ url. LeadAlike text url) same (leads_itself text), rest)
+whole_alike kind text other may may_other rest = absurd may
+
+begins_with : (behind : BehindBase) (text : List ℕ) (parts : List Given) (texts : List (List ℕ)) → is_base behind text ≡ true → FillBehind behind parts texts →
+    BeginsWith text (text ++ url_of parts texts)
+begins_with behind text parts texts is full = record {
+  rest = url_of parts texts;
+  is = refl;
+  head = λ page web. base_head page behind text parts texts web is (behind_goes behind parts texts full) (fills behind text parts texts is full);
+}
+
+same_base : (behind : BehindBase) (text other : List ℕ) (parts : List Given) (texts others : List (List ℕ)) → is_base behind text ≡ true →
+    FillBehind behind parts texts → FillBehind behind parts others → text ≡ other → LeadAlike (text ++ url_of parts texts) (other ++ url_of parts others)
+same_base behind text other parts texts others is full others_full same =
+    subst (λ x. LeadAlike (text ++ url_of parts texts) (x ++ url_of parts others)) same
+    (parts_alike (Markup text ∷ parts) texts others (fills behind text parts texts is full) (fills behind text parts others is others_full))
+
+based_alike : (kind : SlotKind) (parts : List Given) (text other : List ℕ) (texts others : List (List ℕ)) {Rest : Type 0} → MayBegin kind text → MayBegin kind other →
+    FillBase kind parts texts → FillBase kind parts others → Rest → AreOfTexts kind text other (text ++ url_of parts texts) (other ++ url_of parts others) Rest
+based_alike (kind.Base behind) parts text other texts others may may_other full others_full rest = (
+  refl,
+  (may, begins_with behind text parts texts may full),
+  (may_other, begins_with behind other parts others may_other others_full),
+  same_base behind text other parts texts others may full others_full,
+  rest,
+)
+based_alike (kind.OwnBase behind) parts text other texts others may may_other full others_full rest =
+    let is = own_is_base behind text may in (
+      refl,
+      (may, begins_with behind text parts texts is full),
+      (may_other, begins_with behind other parts others (own_is_base behind other may_other) others_full),
+      same_base behind text other parts texts others is full others_full,
+      rest,
+    )
+based_alike kind parts text other texts others may may_other full others_full rest = absurd full
+
+alike_first : (wholes more : List FirstText) (first second : List ℕ) (urls others : List (List ℕ)) → LeadAlike first second →
     AllAlike wholes more urls others → AllAlike wholes more (first ∷ urls) (second ∷ others)
 alike_first [] [] first second urls others here there = (here, there)
 alike_first [] (other ∷ more) first second urls others here there = absurd there
@@ -25,22 +85,28 @@ alike_first (whole ∷ wholes) [] first second urls others here there = absurd t
 alike_first (whole ∷ wholes) (other ∷ more) first second urls others here there = inl (here, there)
 
 pub filled_alike : (urls : List TemplateUrl) (texts others : List (List ℕ)) → FillUrls urls texts → FillUrls urls others →
-    AllAlike (whole_texts urls texts) (whole_texts urls others) (filled_urls urls texts) (filled_urls urls others)
+    AllAlike (begun_texts urls texts) (begun_texts urls others) (filled_urls urls texts) (filled_urls urls others)
 filled_alike [] [] [] full others_full = tt
 filled_alike [] (text ∷ texts) others full others_full = absurd full
 filled_alike [] [] (other ∷ others) full others_full = absurd others_full
 filled_alike (Fixed url ∷ urls) texts others full others_full =
-    alike_first (whole_texts urls texts) (whole_texts urls others) url url (filled_urls urls texts) (filled_urls urls others)
+    alike_first (begun_texts urls texts) (begun_texts urls others) url url (filled_urls urls texts) (filled_urls urls others)
     (leads_itself url) (filled_alike urls texts others full others_full)
 filled_alike (Parts parts ∷ urls) texts others full others_full =
     let count : ℕ = slots_in parts in
     let rest : List (List ℕ) = drop count texts in
     let others_rest : List (List ℕ) = drop count others in
-    alike_first (whole_texts urls rest) (whole_texts urls others_rest) (url_of parts (take count texts)) (url_of parts (take count others))
+    alike_first (begun_texts urls rest) (begun_texts urls others_rest) (url_of parts (take count texts)) (url_of parts (take count others))
     (filled_urls urls rest) (filled_urls urls others_rest)
     (parts_alike parts (take count texts) (take count others) full.0 others_full.0)
     (filled_alike urls rest others_rest full.1 others_full.1)
 filled_alike (Whole kind ∷ urls) [] others full others_full = absurd full
 filled_alike (Whole kind ∷ urls) (text ∷ texts) [] full others_full = absurd others_full
 filled_alike (Whole kind ∷ urls) (text ∷ texts) (other ∷ others) full others_full =
-    inr (refl, (refl, full.0), (refl, others_full.0), filled_alike urls texts others full.1 others_full.1)
+    inr (whole_alike kind text other full.0 others_full.0 (filled_alike urls texts others full.1 others_full.1))
+filled_alike (Based kind parts ∷ urls) [] others full others_full = absurd full
+filled_alike (Based kind parts ∷ urls) (text ∷ texts) [] full others_full = absurd others_full
+filled_alike (Based kind parts ∷ urls) (text ∷ texts) (other ∷ others) full others_full =
+    let count : ℕ = slots_in parts in
+    let rest = filled_alike urls (drop count texts) (drop count others) full.2 others_full.2 in
+    inr (based_alike kind parts text other (take count texts) (take count others) full.0 others_full.0 full.1 others_full.1 rest)

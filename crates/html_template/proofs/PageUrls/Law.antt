@@ -2,11 +2,12 @@
 use Rattle.std.proofs.Common.{ℕ, ◌≡◌, ◌+◌, true, List, [], ◌∷◌, map, IsUtf8, Ok, refl, sym, subst}
 use Rattle.std.specs.List.{AllByRecursion}
 use Rattle.html_template.specs.declared.open_url.OpenUrl.{OpenUrl}
-use Rattle.html_template.specs.declared.open_url.OpenUrl.TheVariants.{Outside, Within, Whole}
+use Rattle.html_template.specs.declared.open_url.OpenUrl.TheVariants.{Outside, Within, Whole, Front}
 use Rattle.html_template.specs.declared.open_url.PlacedSlot.{PlacedSlot}
 use Rattle.html_template.specs.FilledUrls.{AreFilled, HasUrls, HasUrlsOf, piece_urls, url_texts}
+use Rattle.html_template.specs.OpenUrls.{before}
 use Rattle.html_template.specs.PageUrls.{LeadsAsAny}
-use Rattle.html_template.specs.TemplateFaults.{Walk, at_beginning, behind_markup, behind_slot, pieces_from, template_of}
+use Rattle.html_template.specs.TemplateFaults.{Walk, at_beginning, behind_markup, behind_slot, next_markup, pieces_from, template_of}
 use Rattle.html_template.specs.Templates.{Chunk, Fill, Given, GivenMarkup, GivenSlot, after_slot, part_of}
 use Rattle.html_tokenizer.specs.Standing.{may_end, standing}
 use Rattle.html_tokenizer.specs.Tokenizer.States.{Tokenizer, data_state}
@@ -18,12 +19,13 @@ use Rattle.html_template.proofs.PageUrls.MarkupSteps.{markup_goes}
 use Rattle.html_template.proofs.PageUrls.OpenEnds.{no_end}
 use Rattle.html_template.proofs.PageUrls.Opening.{Goes, no_url_open}
 use Rattle.html_template.proofs.PageUrls.SlotSteps.{past_slot, slot_goes, tame_behind}
-use Rattle.html_template.proofs.Walks.{slot_suits}
+use Rattle.html_template.proofs.Walks.{before_suits}
 
 end_goes : (url : OpenUrl) (t : Tokenizer) (markup : List ℕ) → IsTame t → may_end t ≡ true → Goes url t markup []
 end_goes Outside t markup tame may = λ value from. record { urls = []; told = refl; filled = λ texts full utf8. record { same = refl; full = tt; whole_same = refl } }
 end_goes (Within p open_part) t markup tame may = λ stands. absurd (no_end p t tame may stands)
 end_goes (Whole p) t markup tame may = λ stands. absurd (no_end p t tame may stands)
+end_goes (Front p behind) t markup tame may = λ stands. absurd (no_end p t tame may stands)
 
 all_goes : (number : ℕ) (walk : Walk) (parts : List Given) (chunks : List Chunk) → pieces_from number walk parts ≡ Ok chunks → IsTame walk.tokenizer →
     Goes walk.url walk.tokenizer walk.markup chunks
@@ -37,13 +39,13 @@ all_goes number walk (GivenMarkup bytes ∷ parts) chunks told tame =
     (all_goes (number + 1) (behind_markup walk bytes here.url) parts here.rest here.told (tame_after walk.tokenizer bytes tame)))
 all_goes number walk (GivenSlot ∷ parts) chunks told tame =
     let here = at_slot number walk parts chunks told in
-    let slot : PlacedSlot = here.slot in
-    let suited = (slot_suits walk.markup walk.url (standing walk.tokenizer) slot here.placed).suited in
+    let slot : PlacedSlot = before (next_markup parts) here.found in
+    let suited = (before_suits (next_markup parts) walk.markup walk.url (standing walk.tokenizer) here.found here.placed).suited in
     let next : Tokenizer = past_slot walk.tokenizer slot.place in
     let goes_to : after_slot slot.place slot.kind walk.tokenizer ≡ next = rw suited refl in
-    let next_tame = tame_behind walk.markup walk.url walk.tokenizer slot tame here.placed in
+    let next_tame = tame_behind (next_markup parts) walk.markup walk.url walk.tokenizer here.found tame here.placed in
     subst (Goes walk.url walk.tokenizer walk.markup) (sym here.whole)
-    (slot_goes walk.markup walk.url walk.tokenizer slot here.rest tame here.placed
+    (slot_goes (next_markup parts) walk.markup walk.url walk.tokenizer here.found here.rest tame here.placed
     (subst (λ (t : Tokenizer). Goes slot.url t [] here.rest) goes_to
     (all_goes (number + 1) (behind_slot walk slot) parts here.rest here.told (subst IsTame (sym goes_to) next_tame))))
 
@@ -56,7 +58,7 @@ pub has_urls : (parts : List Given) (chunks : List Chunk) → template_of parts 
 has_urls parts chunks told = λ texts full utf8.
     let later = all_later parts chunks told in
     let found = later.filled texts full utf8 in
-    subst (λ urls. AreFilled urls chunks texts) (sym later.told) (record { same = found.same; full = found.full; whole = found.whole_same })
+    subst (λ urls. AreFilled urls chunks texts) (sym later.told) (record { same = found.same; full = found.full; first = found.whole_same })
 
 pub has_urls_of : (chunks : List Chunk) (texts : List (List ℕ)) → template_of (map part_of chunks) ≡ Ok chunks → Fill chunks texts →
     AllByRecursion IsUtf8 texts → HasUrlsOf chunks texts
@@ -68,5 +70,5 @@ has_urls_of chunks texts told full utf8 =
 pub leads_as_any : (chunks : List Chunk) (texts : List (List ℕ)) → HasUrlsOf chunks texts → LeadsAsAny chunks texts
 leads_as_any chunks texts has = λ others full utf8.
     let second = has.any others full utf8 in
-    rw (has.here.whole, second.whole, has.here.same, second.same)
+    rw (has.here.first, second.first, has.here.same, second.same)
     (filled_alike (piece_urls chunks) (url_texts chunks texts) (url_texts chunks others) has.here.full second.full)

@@ -1,13 +1,13 @@
 -- Markup, and what is open behind it.
 use Rattle.std.proofs.Common.{ℕ, ◌≡◌, ◌+◌, Bool, true, false, not, List, [], ◌∷◌, ◌++◌, Ok, Err, Some, length, map, take, nat_lt, refl, sym, ap, ◌∙◌, subst, ⊎_elim, append-nil, append_assoc, arith}
-use Rattle.std.proofs.lemmas.Bool.{and_parts, cases_Bool}
+use Rattle.std.proofs.lemmas.Bool.{and_parts, cases_Bool, true≢false}
 use Rattle.std.proofs.lemmas.Bool.Decides.{nat_tests}
 use Rattle.html_template.specs.declared.faults.PartFault.TheVariants.{AfterLink}
 use Rattle.html_template.specs.declared.open_url.OpenUrl.{OpenUrl}
-use Rattle.html_template.specs.declared.open_url.OpenUrl.TheVariants.{Outside, Within, Whole}
-use Rattle.html_template.specs.FilledUrls.{Fixed, Parts, url_texts}
+use Rattle.html_template.specs.declared.open_url.OpenUrl.TheVariants.{Outside, Within, Whole, Front}
+use Rattle.html_template.specs.FilledUrls.{Fixed, url_texts}
 use Rattle.html_template.specs.OpenUrls.{url_markup, value_length}
-use Rattle.html_template.specs.PageUrls.{whole_urls}
+use Rattle.html_template.specs.PageUrls.{first_texts}
 use Rattle.html_template.specs.Templates.{Chunk, Markup, page}
 use Rattle.html_tokenizer.specs.declared.elements.Content.{Content}
 use Rattle.html_tokenizer.specs.declared.slot_place.SlotPlace.{SlotPlace}
@@ -24,14 +24,20 @@ use Rattle.html_tokenizer.proofs.UrlValues.Slots.AtSlots.{value_fresh, value_tam
 use Rattle.html_tokenizer.proofs.UrlValues.Slots.Refusals.{not_refused}
 use Rattle.html_tokenizer.proofs.UrlValues.Slots.Tame.{IsTame}
 use Rattle.html_tokenizer.proofs.UrlValues.Staying.{StaysUrl, stays_none}
+use Rattle.html_urls.specs.Bases.{goes_as, goes_on_so, open_behind}
 use Rattle.html_urls.specs.OpenParts.{after_markup, may_be_dots}
+use Rattle.html_urls.specs.Shapes.{front_of}
 use Rattle.html_urls.specs.Slots as part
 use Rattle.html_urls.specs.Slots.{are_plain, ends_in_escape, is_plain, no_parts}
+use Rattle.html_urls.specs.declared.base.BehindBase.{BehindBase}
+use Rattle.html_urls.specs.declared.base.BehindBase.TheVariants.{Slash, Segment}
 use Rattle.html_urls.specs.declared.open_part.OpenPart.{OpenPart}
-use Rattle.html_template.proofs.PageUrls.Filled.{EndsBehind, EndsParts, GoesOn, IsFilled, ends_more, fixed_before}
+use Rattle.html_urls.specs.declared.open_part.OpenPart.TheVariants.{NewSegment}
+use Rattle.html_urls.proofs.Bases.GoesAs.{goes_alone, goes_more, slash_alone, slash_goes}
+use Rattle.html_template.proofs.PageUrls.Filled.{EndsBehind, EndsParts, GoesBehind, GoesOn, IsFilled, ends_more, fixed_before}
 use Rattle.html_template.proofs.PageUrls.EndedUrls.{ends_in, parts_end}
-use Rattle.html_template.proofs.PageUrls.LaterMarkup.{as_told, behind_told, goes_on, is_ended, ok_url}
-use Rattle.html_template.proofs.PageUrls.Opening.{Goes, behind_bytes, fresh_here, goes_as, value_place}
+use Rattle.html_template.proofs.PageUrls.LaterMarkup.{BehindFront, InPartOf, SlashAlone, as_told, base_told, behind_told, goes_on, is_ended, ok_url}
+use Rattle.html_template.proofs.PageUrls.Opening.{Goes, behind_bytes, fresh_here, goes_told, value_place}
 use Rattle.html_template.proofs.PageUrls.Splitting.{IsCut, IsWhole, whole_or_cut}
 
 -- ---- where no URL with a slot is open
@@ -46,9 +52,9 @@ outside_goes t markup bytes chunks tame goes = λ value from.
       urls = map Fixed ended ++ later.urls;
       told = ap (λ urls. map Fixed ended ++ urls) later.told;
       filled = λ texts full utf8.
-          subst (λ found. IsFilled found (whole_urls chunks texts) (map Fixed ended ++ later.urls) (url_texts chunks texts))
+          subst (λ found. IsFilled found (first_texts chunks texts) (map Fixed ended ++ later.urls) (url_texts chunks texts))
           (sym (urls_from-append t value bytes (page chunks texts)))
-          (fixed_before ended (urls_from (state_after t bytes) open_value (page chunks texts)) (whole_urls chunks texts) later.urls (url_texts chunks texts)
+          (fixed_before ended (urls_from (state_after t bytes) open_value (page chunks texts)) (first_texts chunks texts) later.urls (url_texts chunks texts)
           (later.filled texts full utf8));
     }
 
@@ -72,9 +78,9 @@ module _ (p : SlotPlace) (content : Content) (attribute : Attribute) (place : is
     slots = behind.slots;
     fixed = λ number. rw (plain_anywhere text (no_parts behind.parts) plain, opened) (behind.fixed (number + 1));
     later = behind.later;
-    told = λ before.
-        rw (stays.none_ends [], stays.passes.after, stays.value []) (behind.told (before ++ part.Markup text ∷ []))
-        ∙ ap (λ all. Parts all ∷ behind.later) (append_assoc before (part.Markup text ∷ []) behind.parts);
+    told = λ url_by before.
+        rw (stays.none_ends [], stays.passes.after, stays.value []) (behind.told url_by (before ++ part.Markup text ∷ []))
+        ∙ ap (λ all. url_by all ∷ behind.later) (append_assoc before (part.Markup text ∷ []) behind.parts);
     fits = behind.fits;
     ends = λ value texts full utf8.
         ends_more value text _ (behind_bytes here value raw (page chunks texts) (stays.none_ends value) stays.passes.after (stays.value value))
@@ -105,7 +111,7 @@ module _ (p : SlotPlace) (content : Content) (attribute : Attribute) (place : is
         let there : Tokenizer = at_value (In p) content reads.attribute in
         let later : Goes (Within p behind.after) there bytes chunks =
         subst (λ (x : Tokenizer). Goes (Within p behind.after) x bytes chunks) reads.stays.passes.after
-        (goes_as (Within p behind.after) (state_after here bytes) bytes chunks (goes_on p behind.after opened behind.told) goes) in
+        (goes_told (Within p behind.after) (state_after here bytes) bytes chunks (goes_on p behind.after opened behind.told) goes) in
         goes_within open_part behind.after bytes behind.text there chunks behind.adds.plain behind.opened reads.stays (later (record { state_is = refl; attribute_is = reads.url }))
 
     cut_goes : IsCut (ends_value p) bytes → GoesOn open_part here (Markup bytes ∷ chunks)
@@ -123,7 +129,7 @@ module _ (p : SlotPlace) (content : Content) (attribute : Attribute) (place : is
         let reads = reads_to_end p content attribute raw behind.text cut.first place url cut.none cut.passes behind.adds.read still in
         let there : Goes Outside (state_after here (raw ++ cut.first ∷ cut.rest)) (raw ++ cut.first ∷ cut.rest) chunks =
         subst (λ (x : List ℕ). Goes Outside (state_after here x) x chunks) cut.parts
-        (goes_as Outside (state_after here bytes) bytes chunks end.outside goes) in
+        (goes_told Outside (state_after here bytes) bytes chunks end.outside goes) in
         subst (λ (x : List ℕ). GoesOn open_part here (Markup x ∷ chunks)) (sym cut.parts)
         (ends_within open_part behind.after behind.text (Markup (raw ++ cut.first ∷ cut.rest) ∷ chunks) behind.adds.plain behind.opened end.no_dots
         (subst (λ (x : List ℕ). EndsParts here x (Markup (raw ++ cut.first ∷ cut.rest) ∷ chunks)) (sym reads.whole)
@@ -132,19 +138,99 @@ module _ (p : SlotPlace) (content : Content) (attribute : Attribute) (place : is
     within_goes : GoesOn open_part here (Markup bytes ∷ chunks)
     within_goes = ⊎_elim whole_goes cut_goes (whole_or_cut (ends_value p) bytes)
 
+  -- ---- behind a base
+
+  -- the value goes on behind the text
+  base_within : (behind : BehindBase) (after : OpenPart) (raw text : List ℕ) (there : Tokenizer) (chunks : List Chunk) → is_plain text false ≡ true →
+      after_markup (open_behind behind) text ≡ Some after → StaysUrl here raw text there → (on : GoesOn after there chunks) →
+      goes_on_so behind (text ++ front_of on.parts) ≡ true → GoesBehind behind here (Markup raw ∷ chunks)
+  unfolding goes_within
+  base_within behind after raw text there chunks plain opened stays on goes =
+      record { on = goes_within (open_behind behind) after raw text there chunks plain opened stays on; goes = goes }
+
+  -- or ends in it
+  base_ends : (behind : BehindBase) (after : OpenPart) (text : List ℕ) (chunks : List Chunk) → is_plain text true ≡ true →
+      after_markup (open_behind behind) text ≡ Some after → may_be_dots after ≡ false → goes_as behind text ≡ true → EndsParts here text chunks →
+      GoesBehind behind here chunks
+  unfolding ends_within
+  base_ends behind after text chunks plain opened none goes ends =
+      record { on = ends_within (open_behind behind) after text chunks plain opened none ends; goes = goes_alone behind text goes }
+
+  -- a `/` that stands alone
+  slash_within : (behind : BehindBase) (raw text : List ℕ) (there : Tokenizer) (chunks : List Chunk) → is_plain text false ≡ true → goes_as behind text ≡ true →
+      text ≡ 47 ∷ [] → StaysUrl here raw text there → GoesBehind Segment there chunks → GoesBehind behind here (Markup raw ∷ chunks)
+  slash_within behind raw text there chunks plain goes is stays next =
+      let same : behind ≡ Slash = slash_alone behind (subst (λ x. goes_as behind x ≡ true) is goes) in
+      subst (λ b. GoesBehind b here (Markup raw ∷ chunks)) (sym same)
+      (base_within Slash NewSegment raw text there chunks plain (rw is refl) stays next.on (rw is (slash_goes (front_of next.on.parts) next.goes)))
+
+  module _ (behind : BehindBase) (bytes : List ℕ) (opened : OpenUrl) (chunks : List Chunk)
+      (unrefused : is_refused (state_after here bytes).state ≡ false) (told : url_markup (Front p behind) bytes ≡ Ok opened)
+      (goes : Goes opened (state_after here bytes) bytes chunks) where
+    base_whole : IsWhole (ends_value p) bytes → GoesBehind behind here (Markup bytes ∷ chunks)
+    base_whole whole =
+        let end = whole.end in
+        let all_of_it : nat_lt (value_length p bytes) (length bytes) ≡ false = grind (arith, nat_tests) in
+        let front = base_told p behind false bytes opened (rw (all_of_it, whole.all) at told) in
+        let reads = reads_on p content attribute bytes front.text place url whole.none front.adds.read unrefused in
+        let there : Tokenizer = at_value (In p) content reads.attribute in
+        ⊎_elim
+        (λ (slash : SlashAlone p false front.text opened).
+        let later : Goes (Front p Segment) there bytes chunks =
+        subst (λ (x : Tokenizer). Goes (Front p Segment) x bytes chunks) reads.stays.passes.after
+        (goes_told (Front p Segment) (state_after here bytes) bytes chunks slash.told goes) in
+        slash_within behind bytes front.text there chunks front.adds.plain front.goes slash.text_is reads.stays
+        (later (record { state_is = refl; attribute_is = reads.url })))
+        (λ (on : InPartOf p behind false front.text opened).
+        let later : Goes (Within p on.after) there bytes chunks =
+        subst (λ (x : Tokenizer). Goes (Within p on.after) x bytes chunks) reads.stays.passes.after
+        (goes_told (Within p on.after) (state_after here bytes) bytes chunks (goes_on p on.after opened on.told) goes) in
+        let next = later (record { state_is = refl; attribute_is = reads.url }) in
+        base_within behind on.after bytes front.text there chunks front.adds.plain on.opened reads.stays next
+        (goes_more behind front.text (front_of next.parts) front.goes (on.long refl)))
+        front.how
+
+    base_cut : IsCut (ends_value p) bytes → GoesBehind behind here (Markup bytes ∷ chunks)
+    base_cut cut =
+        let raw : List ℕ = take (value_length p bytes) bytes in
+        let within = cut.within in
+        let ends : nat_lt (value_length p bytes) (length bytes) ≡ true = grind (arith, nat_tests) in
+        let front = base_told p behind true raw opened (rw ends at told) in
+        ⊎_elim
+        (λ (slash : SlashAlone p true front.text opened). absurd (true≢false slash.open_still))
+        (λ (on : InPartOf p behind true front.text opened).
+        let end = is_ended p on.after opened on.told in
+        let all : is_refused (state_after here (raw ++ cut.first ∷ cut.rest)).state ≡ false =
+        subst (λ (x : List ℕ). is_refused (state_after here x).state ≡ false) cut.parts unrefused in
+        let still : is_refused (consume (state_after here raw) cut.first).next.state ≡ false =
+        not_refused (consume (state_after here raw) cut.first).next cut.rest
+        (subst (λ (x : Tokenizer). is_refused x.state ≡ false) (state_after-append here raw (cut.first ∷ cut.rest)) all) in
+        let reads = reads_to_end p content attribute raw front.text cut.first place url cut.none cut.passes front.adds.read still in
+        let there : Goes Outside (state_after here (raw ++ cut.first ∷ cut.rest)) (raw ++ cut.first ∷ cut.rest) chunks =
+        subst (λ (x : List ℕ). Goes Outside (state_after here x) x chunks) cut.parts
+        (goes_told Outside (state_after here bytes) bytes chunks end.outside goes) in
+        subst (λ (x : List ℕ). GoesBehind behind here (Markup x ∷ chunks)) (sym cut.parts)
+        (base_ends behind on.after front.text (Markup (raw ++ cut.first ∷ cut.rest) ∷ chunks) front.adds.plain on.opened end.no_dots front.goes
+        (subst (λ (x : List ℕ). EndsParts here x (Markup (raw ++ cut.first ∷ cut.rest) ∷ chunks)) (sym reads.whole)
+        (parts_end here reads.there (value_tame p content attribute place) (value_fresh p content attribute []) reads.url raw reads.first reads.added cut.first cut.rest chunks reads.stays reads.ends there))))
+        front.how
+
+    base_goes : GoesBehind behind here (Markup bytes ∷ chunks)
+    base_goes = ⊎_elim base_whole base_cut (whole_or_cut (ends_value p) bytes)
+
   -- ---- in a whole one
 
   link_goes : (bytes : List ℕ) (opened : OpenUrl) (chunks : List Chunk) → url_markup (Whole p) bytes ≡ Ok opened →
       Goes opened (state_after here bytes) bytes chunks → EndsBehind here [] (Markup bytes ∷ chunks)
   link_goes [] opened chunks told goes =
-      let still : Goes (Whole p) here [] chunks = goes_as (Whole p) here [] chunks (ok_url told) goes in
+      let still : Goes (Whole p) here [] chunks = goes_told (Whole p) here [] chunks (ok_url told) goes in
       let end = still (record { state_is = refl; attribute_is = url }) in
       record { later = end.later; told = end.told; ends = end.ends }
   link_goes (b ∷ rest) opened chunks told goes =
       ⊎_elim
       (λ (ends : ends_value p b ≡ true).
       ends_in here here (value_tame p content attribute place) (value_fresh p content attribute []) url [] [] [] b rest chunks stays_none (ends_at p content attribute b place url ends)
-      (goes_as Outside (state_after here (b ∷ rest)) (b ∷ rest) chunks (ok_url (rw ends at told)) goes))
+      (goes_told Outside (state_after here (b ∷ rest)) (b ∷ rest) chunks (ok_url (rw ends at told)) goes))
       (λ (goes_on : ends_value p b ≡ false).
       let clash : Err AfterLink ≡ as_told opened = rw goes_on at told in
       absurd (cc))
@@ -156,7 +242,7 @@ pub markup_goes : (before : OpenUrl) (t : Tokenizer) (markup bytes : List ℕ) (
     is_refused (state_after t bytes).state ≡ false → url_markup before bytes ≡ Ok opened → Goes opened (state_after t bytes) bytes chunks →
     Goes before t markup (Markup bytes ∷ chunks)
 markup_goes Outside t markup bytes opened chunks tame unrefused told goes =
-    outside_goes t markup bytes chunks tame (goes_as Outside (state_after t bytes) bytes chunks (ok_url told) goes)
+    outside_goes t markup bytes chunks tame (goes_told Outside (state_after t bytes) bytes chunks (ok_url told) goes)
 markup_goes (Within p open_part) t markup bytes opened chunks tame unrefused told goes = λ stands.
     subst (λ s. GoesOn open_part (at_value s t.content t.attribute) (Markup bytes ∷ chunks)) (sym stands.state_is)
     (within_goes p t.content t.attribute (value_place p t tame stands) stands.attribute_is open_part bytes opened chunks
@@ -165,4 +251,9 @@ markup_goes (Within p open_part) t markup bytes opened chunks tame unrefused tol
 markup_goes (Whole p) t markup bytes opened chunks tame unrefused told goes = λ stands.
     subst (λ s. EndsBehind (at_value s t.content t.attribute) [] (Markup bytes ∷ chunks)) (sym stands.state_is)
     (link_goes p t.content t.attribute (value_place p t tame stands) stands.attribute_is bytes opened chunks told
+    (subst (λ s. Goes opened (state_after (at_value s t.content t.attribute) bytes) bytes chunks) stands.state_is goes))
+markup_goes (Front p behind) t markup bytes opened chunks tame unrefused told goes = λ stands.
+    subst (λ s. GoesBehind behind (at_value s t.content t.attribute) (Markup bytes ∷ chunks)) (sym stands.state_is)
+    (base_goes p t.content t.attribute (value_place p t tame stands) stands.attribute_is behind bytes opened chunks
+    (subst (λ s. is_refused (state_after (at_value s t.content t.attribute) bytes).state ≡ false) stands.state_is unrefused) told
     (subst (λ s. Goes opened (state_after (at_value s t.content t.attribute) bytes) bytes chunks) stands.state_is goes))

@@ -1,15 +1,15 @@
 -- Where a URL with slots is open, the tokenizer is in its value.
-use Rattle.std.proofs.Common.{ℕ, ◌≡◌, ◌∙◌, Bool, true, false, List, [], ◌∷◌, Ok, Err, length, take, nat_lt, refl, sym, subst, ⊎_elim, arith}
+use Rattle.std.proofs.Common.{ℕ, ◌≡◌, ◌∙◌, Bool, true, false, List, [], ◌∷◌, Ok, Err, Option, Some, None, length, take, nat_lt, refl, sym, subst, ⊎_elim, arith}
 use Rattle.std.specs.Prelude.{⊤}
 use Rattle.std.proofs.lemmas.Bool.{cases_Bool, true≢false}
 use Rattle.std.proofs.lemmas.Bool.Decides.{nat_tests}
 use Rattle.html_template.specs.declared.faults.PartFault.TheVariants.{AfterLink}
 use Rattle.html_template.specs.declared.open_url.OpenUrl.{OpenUrl}
-use Rattle.html_template.specs.declared.open_url.OpenUrl.TheVariants.{Outside, Within, Whole}
+use Rattle.html_template.specs.declared.open_url.OpenUrl.TheVariants.{Outside, Within, Whole, Front}
 use Rattle.html_template.specs.declared.open_url.PlacedSlot.{PlacedSlot}
 use Rattle.html_template.specs.declared.parts.SlotKind.{SlotKind}
 use Rattle.html_template.specs.declared.parts.SlotKind.TheVariants as kind
-use Rattle.html_template.specs.OpenUrls.{url_markup, url_slot, value_length}
+use Rattle.html_template.specs.OpenUrls.{before, begun, behind_front, url_markup, url_slot, value_length}
 use Rattle.html_template.specs.Slots.{suits}
 use Rattle.html_template.specs.TemplateFaults.{slot_at}
 use Rattle.html_tokenizer.specs.declared.elements.Content.{Content}
@@ -23,13 +23,17 @@ use Rattle.html_tokenizer.specs.UrlValues.{ends_value, is_url}
 use Rattle.html_tokenizer.proofs.UrlValues.Places.{is_value_place}
 use Rattle.html_tokenizer.proofs.UrlValues.Reading.{reads_on}
 use Rattle.html_tokenizer.proofs.UrlValues.Slots.Tame.{IsTame}
+use Rattle.html_urls.specs.Bases.{behind_base}
+use Rattle.html_urls.specs.declared.base.BehindBase.{BehindBase}
+use Rattle.html_urls.specs.declared.base.BehindBase.TheVariants.{Slash, Tail, Segment}
 use Rattle.html_urls.specs.declared.open_part.OpenPart.{OpenPart}
-use Rattle.html_template.proofs.PageUrls.LaterMarkup.{as_told, behind_told, goes_on, is_ended, ok_url}
+use Rattle.html_urls.specs.declared.open_part.OpenPart.TheVariants.{NewSegment}
+use Rattle.html_template.proofs.PageUrls.LaterMarkup.{InPartOf, SlashAlone, as_told, base_told, behind_told, goes_on, is_ended, ok_url}
 use Rattle.html_template.proofs.PageUrls.OpenEnds.{no_end}
 use Rattle.html_template.proofs.PageUrls.Opening.{StandsAt, value_place}
-use Rattle.html_template.proofs.PageUrls.Placed.{InPart, IsFirst, behind, first_told, part_told, whole}
+use Rattle.html_template.proofs.PageUrls.Placed.{InPart, IsFirst, first_told, part_told, past_markup, whole}
 use Rattle.html_template.proofs.PageUrls.SlotSteps.{past_slot}
-use Rattle.html_template.proofs.TemplateLaw.{part_in_url, whole_in_url}
+use Rattle.html_template.proofs.TemplateLaw.{base_in_url, part_in_url, whole_in_url}
 use Rattle.html_template.proofs.Walks.{ok_slot, slot_suits}
 use Rattle.html_template.proofs.PageUrls.Splitting.{IsCut, IsWhole, whole_or_cut}
 
@@ -37,12 +41,14 @@ abbrev pub OpenStands : OpenUrl → Tokenizer → Type 0
 OpenStands Outside t = ⊤
 OpenStands (Within p part) t = StandsAt p t
 OpenStands (Whole p) t = StandsAt p t
+OpenStands (Front p behind) t = StandsAt p t
 
 -- so none is open where a template may end
 pub none_open : (url : OpenUrl) (t : Tokenizer) → IsTame t → may_end t ≡ true → OpenStands url t → url ≡ Outside
 none_open Outside t tame may stands = refl
 none_open (Within p part) t tame may stands = absurd (no_end p t tame may stands)
 none_open (Whole p) t tame may stands = absurd (no_end p t tame may stands)
+none_open (Front p behind) t tame may stands = absurd (no_end p t tame may stands)
 
 -- ---- behind markup
 
@@ -68,6 +74,33 @@ module _ (p : SlotPlace) (content : Content) (attribute : Attribute) (place : is
       subst (λ (x : OpenUrl). OpenStands x (state_after here bytes)) (is_ended p behind.after opened behind.told).outside tt)
       (whole_or_cut (ends_value p) bytes)
 
+  base_stands : (behind : BehindBase) (bytes : List ℕ) (opened : OpenUrl) → is_refused (state_after here bytes).state ≡ false →
+      url_markup (Front p behind) bytes ≡ Ok opened → OpenStands opened (state_after here bytes)
+  base_stands behind bytes opened unrefused told =
+      ⊎_elim
+      (λ (whole : IsWhole (ends_value p) bytes).
+      let end = whole.end in
+      let all_of_it : nat_lt (value_length p bytes) (length bytes) ≡ false = grind (arith, nat_tests) in
+      let front = base_told p behind false bytes opened (rw (all_of_it, whole.all) at told) in
+      let reads = reads_on p content attribute bytes front.text place url whole.none front.adds.read unrefused in
+      let stands : StandsAt p (state_after here bytes) =
+      subst (StandsAt p) (sym reads.stays.passes.after) (record { state_is = refl; attribute_is = reads.url }) in
+      ⊎_elim
+      (λ (slash : SlashAlone p false front.text opened). subst (λ (x : OpenUrl). OpenStands x (state_after here bytes)) slash.told stands)
+      (λ (on : InPartOf p behind false front.text opened).
+      subst (λ (x : OpenUrl). OpenStands x (state_after here bytes)) (goes_on p on.after opened on.told) stands)
+      front.how)
+      (λ (cut : IsCut (ends_value p) bytes).
+      let within = cut.within in
+      let ends : nat_lt (value_length p bytes) (length bytes) ≡ true = grind (arith, nat_tests) in
+      let front = base_told p behind true (take (value_length p bytes) bytes) opened (rw ends at told) in
+      ⊎_elim
+      (λ (slash : SlashAlone p true front.text opened). absurd (true≢false slash.open_still))
+      (λ (on : InPartOf p behind true front.text opened).
+      subst (λ (x : OpenUrl). OpenStands x (state_after here bytes)) (is_ended p on.after opened on.told).outside tt)
+      front.how)
+      (whole_or_cut (ends_value p) bytes)
+
   whole_stands : (bytes : List ℕ) (opened : OpenUrl) → url_markup (Whole p) bytes ≡ Ok opened → OpenStands opened (state_after here bytes)
   whole_stands [] opened told =
       subst (λ (x : OpenUrl). OpenStands x here) (ok_url told) (record { state_is = refl; attribute_is = url })
@@ -90,6 +123,10 @@ markup_stands (Within p part) t bytes opened tame unrefused told stands =
 markup_stands (Whole p) t bytes opened tame unrefused told stands =
     subst (λ s. OpenStands opened (state_after (at_value s t.content t.attribute) bytes)) (sym stands.state_is)
     (whole_stands p t.content t.attribute (value_place p t tame stands) stands.attribute_is bytes opened told)
+markup_stands (Front p behind) t bytes opened tame unrefused told stands =
+    subst (λ s. OpenStands opened (state_after (at_value s t.content t.attribute) bytes)) (sym stands.state_is)
+    (base_stands p t.content t.attribute (value_place p t tame stands) stands.attribute_is behind bytes opened
+    (subst (λ s. is_refused (state_after (at_value s t.content t.attribute) bytes).state ≡ false) stands.state_is unrefused) told)
 
 -- ---- behind a slot
 
@@ -102,13 +139,19 @@ part_opens p part slot placed = subst OpensUrl placed.is (λ t url. record { sta
 
 first_opens : (p : SlotPlace) (markup : List ℕ) (slot : PlacedSlot) → IsFirst p markup slot → OpensUrl slot
 first_opens p markup slot (whole is_followed last is) = subst OpensUrl is (λ t url. record { state_is = refl; attribute_is = url })
-first_opens p markup slot (behind raw last front) = part_opens p front.part slot front.placed
+first_opens p markup slot (past_markup raw last front) = part_opens p front.part slot front.placed
+
+base_opens : (p : SlotPlace) (behind : BehindBase) (slot : PlacedSlot) → behind_front p behind ≡ Ok slot → OpensUrl slot
+base_opens p Segment slot told = part_opens p NewSegment slot (part_told p NewSegment slot told)
+base_opens p Slash slot told = absurd (cc)
+base_opens p Tail slot told = absurd (cc)
 
 url_opens : (p : SlotPlace) (is_followed : Bool) (markup : List ℕ) (url : OpenUrl) (slot : PlacedSlot) →
     url_slot p is_followed markup url ≡ Ok slot → OpensUrl slot
 url_opens p is_followed markup Outside slot told = first_opens p markup slot (first_told p is_followed markup slot told)
 url_opens p is_followed markup (Within q part) slot told = part_opens p part slot (part_told p part slot told)
 url_opens p is_followed markup (Whole q) slot told = absurd (cc)
+url_opens p is_followed markup (Front q behind) slot told = base_opens p behind slot told
 
 -- it stands in the value of an attribute that holds one
 holds_url : (found : SlotKind) (p : SlotPlace) (t : Tokenizer) → suits found p (standing t) ≡ true → suits kind.Text p (standing t) ≡ false → is_url t.attribute ≡ true
@@ -116,15 +159,30 @@ holds_url kind.Text p t suited no_text = absurd (true≢false (sym suited ∙ no
 holds_url (kind.UrlPart slot) p t suited no_text = (part_in_url slot p t.state t.content t.attribute suited).attribute_is
 holds_url kind.Link p t suited no_text = (whole_in_url true p t.state t.content t.attribute suited).attribute_is
 holds_url kind.OwnPath p t suited no_text = (whole_in_url false p t.state t.content t.attribute suited).attribute_is
+holds_url (kind.Base behind) p t suited no_text = (base_in_url true behind p t.state t.content t.attribute suited).attribute_is
+holds_url (kind.OwnBase behind) p t suited no_text = (base_in_url false behind p t.state t.content t.attribute suited).attribute_is
 
-pub slot_stands : (markup : List ℕ) (url : OpenUrl) (t : Tokenizer) (s : Standing) (slot : PlacedSlot) → standing t ≡ s →
+placed_stands : (markup : List ℕ) (url : OpenUrl) (t : Tokenizer) (s : Standing) (slot : PlacedSlot) → standing t ≡ s →
     slot_at markup url s ≡ Ok slot → OpenStands slot.url (past_slot t slot.place)
-slot_stands markup url t (Stands p) slot is told = subst (λ (x : PlacedSlot). OpenStands x.url (past_slot t x.place)) (ok_slot told) tt
-slot_stands markup url t (InUrl p) slot is told =
+placed_stands markup url t (Stands p) slot is told = subst (λ (x : PlacedSlot). OpenStands x.url (past_slot t x.place)) (ok_slot told) tt
+placed_stands markup url t (InUrl p) slot is told =
     url_opens p false markup url slot told t
     (holds_url slot.kind slot.place t (rw is (slot_suits markup url (InUrl p) slot told).suited) (rw is refl))
-slot_stands markup url t (InLink p) slot is told =
+placed_stands markup url t (InLink p) slot is told =
     url_opens p true markup url slot told t
     (holds_url slot.kind slot.place t (rw is (slot_suits markup url (InLink p) slot told).suited) (rw is refl))
-slot_stands markup url t Barred slot is told = absurd (cc)
-slot_stands markup url t Nowhere slot is told = absurd (cc)
+placed_stands markup url t Barred slot is told = absurd (cc)
+placed_stands markup url t Nowhere slot is told = absurd (cc)
+
+-- also where it is a base
+begun_stands : (t : Tokenizer) (slot : PlacedSlot) (url : OpenUrl) (following : Option BehindBase) → slot.url ≡ url →
+    OpenStands slot.url (past_slot t slot.place) → OpenStands (begun slot url following).url (past_slot t (begun slot url following).place)
+begun_stands t slot (Whole p) (Some behind) is stands = subst (λ (u : OpenUrl). OpenStands u (past_slot t slot.place)) is stands
+begun_stands t slot (Whole p) None is stands = stands
+begun_stands t slot Outside following is stands = stands
+begun_stands t slot (Within p part) following is stands = stands
+begun_stands t slot (Front p behind) following is stands = stands
+
+pub slot_stands : (next markup : List ℕ) (url : OpenUrl) (t : Tokenizer) (s : Standing) (slot : PlacedSlot) → standing t ≡ s →
+    slot_at markup url s ≡ Ok slot → OpenStands (before next slot).url (past_slot t (before next slot).place)
+slot_stands next markup url t s slot is told = begun_stands t slot slot.url (behind_base next) refl (placed_stands markup url t s slot is told)

@@ -1,7 +1,7 @@
 -- A place of a template: where the tokenizer is, what was read of the URL that is open, and what is proved from there on.
 use Rattle.std.proofs.Common.{ℕ, ◌≡◌, List, [], ◌++◌, refl, sym, ap, ◌∙◌, subst, true, false}
 use Rattle.html_template.specs.declared.open_url.OpenUrl.{OpenUrl}
-use Rattle.html_template.specs.declared.open_url.OpenUrl.TheVariants.{Outside, Within, Whole}
+use Rattle.html_template.specs.declared.open_url.OpenUrl.TheVariants.{Outside, Within, Whole, Front}
 use Rattle.html_template.specs.Templates.{Chunk}
 use Rattle.html_tokenizer.specs.declared.slot_place.SlotPlace.{SlotPlace}
 use Rattle.html_tokenizer.specs.Tokenizer.States.{Tokenizer}
@@ -12,7 +12,7 @@ use Rattle.html_tokenizer.proofs.UrlValues.Bytes.{may_hold_url}
 use Rattle.html_tokenizer.proofs.UrlValues.Places.{is_value_place}
 use Rattle.html_tokenizer.proofs.UrlValues.Slots.AtSlots.{no_url_fresh, no_url_tame}
 use Rattle.html_tokenizer.proofs.UrlValues.Slots.Tame.{IsFresh, IsTame, fresh_after}
-use Rattle.html_template.proofs.PageUrls.Filled.{EndsBehind, GoesOn, HasLater}
+use Rattle.html_template.proofs.PageUrls.Filled.{EndsBehind, GoesBehind, GoesOn, HasLater}
 use Rattle.html_template.proofs.TemplateLaw.{IsInUrl}
 
 -- the URL that is open, if one is, was read in this markup
@@ -33,11 +33,12 @@ abbrev pub Goes : OpenUrl → Tokenizer → List ℕ → List Chunk → Type 0
 Goes Outside t markup chunks = (value : List ℕ) → FromMarkup t markup value → HasLater t value chunks
 Goes (Within p part) t markup chunks = StandsAt p t → GoesOn part t chunks
 Goes (Whole p) t markup chunks = StandsAt p t → EndsBehind t [] chunks
+Goes (Front p behind) t markup chunks = StandsAt p t → GoesBehind behind t chunks
 
 -- what is open was told
-pub goes_as : (url : OpenUrl) {told : OpenUrl} (t : Tokenizer) (markup : List ℕ) (chunks : List Chunk) → url ≡ told → Goes told t markup chunks →
+pub goes_told : (url : OpenUrl) {told : OpenUrl} (t : Tokenizer) (markup : List ℕ) (chunks : List Chunk) → url ≡ told → Goes told t markup chunks →
     Goes url t markup chunks
-goes_as url t markup chunks is goes = subst (λ (x : OpenUrl). Goes x t markup chunks) (sym is) goes
+goes_told url t markup chunks is goes = subst (λ (x : OpenUrl). Goes x t markup chunks) (sym is) goes
 
 -- the place of a URL that is open is one in a value
 pub value_place : (p : SlotPlace) (t : Tokenizer) → IsTame t → StandsAt p t → is_value_place p ≡ true

@@ -62,14 +62,14 @@ whole_told is_followed p slot told = absurd (cc)
 -- it is a whole URL, or stands behind markup
 pub data IsFirst (p : SlotPlace) (markup : List ℕ) (slot : PlacedSlot) : Type 0 where
   whole : (is_followed : Bool) → after_last (begins_value p) markup ≡ Some [] → quoted_slot p is_followed ≡ slot → IsFirst p markup slot
-  behind : (raw : List ℕ) → after_last (begins_value p) markup ≡ Some raw → BehindFront p raw slot → IsFirst p markup slot
+  past_markup : (raw : List ℕ) → after_last (begins_value p) markup ≡ Some raw → BehindFront p raw slot → IsFirst p markup slot
 
 last_told : (p : SlotPlace) (is_followed : Bool) (markup : List ℕ) (slot : PlacedSlot) (last : Option (List ℕ)) →
     after_last (begins_value p) markup ≡ last → first_slot p is_followed last ≡ Ok slot → IsFirst p markup slot
 last_told p is_followed markup slot None is told = absurd (cc)
 last_told p is_followed markup slot (Some []) is told = whole is_followed is (whole_told is_followed p slot told)
 last_told p is_followed markup slot (Some (b ∷ raw)) is told =
-    behind (b ∷ raw) is (front_told p (b ∷ raw) slot (plain_text false (b ∷ raw)) refl told)
+    past_markup (b ∷ raw) is (front_told p (b ∷ raw) slot (plain_text false (b ∷ raw)) refl told)
 
 pub first_told : (p : SlotPlace) (is_followed : Bool) (markup : List ℕ) (slot : PlacedSlot) →
     first_slot p is_followed (after_last (begins_value p) markup) ≡ Ok slot → IsFirst p markup slot

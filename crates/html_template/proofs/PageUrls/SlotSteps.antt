@@ -1,11 +1,11 @@
 -- A slot, and what is open behind it.
-use Rattle.std.proofs.Common.{ℕ, ◌≡◌, Bool, true, false, List, [], ◌∷◌, Ok, refl, ◌∙◌, subst}
+use Rattle.std.proofs.Common.{ℕ, ◌≡◌, Bool, true, false, List, [], ◌∷◌, Ok, Option, Some, None, refl, ◌∙◌, subst}
 use Rattle.html_template.specs.declared.open_url.OpenUrl.{OpenUrl}
-use Rattle.html_template.specs.declared.open_url.OpenUrl.TheVariants.{Outside, Within, Whole}
+use Rattle.html_template.specs.declared.open_url.OpenUrl.TheVariants.{Outside, Within, Whole, Front}
 use Rattle.html_template.specs.declared.open_url.PlacedSlot.{PlacedSlot}
 use Rattle.html_template.specs.declared.parts.SlotKind.{SlotKind}
 use Rattle.html_template.specs.declared.parts.SlotKind.TheVariants as kind
-use Rattle.html_template.specs.OpenUrls.{url_slot}
+use Rattle.html_template.specs.OpenUrls.{before, begun, behind_front, url_slot}
 use Rattle.html_template.specs.Slots.{suits}
 use Rattle.html_template.specs.TemplateFaults.{slot_at}
 use Rattle.html_template.specs.Templates.{Chunk, Slot}
@@ -16,15 +16,19 @@ use Rattle.html_tokenizer.specs.Standing.{standing}
 use Rattle.html_tokenizer.specs.Tokenizer.States.{In, Tokenizer, at_value}
 use Rattle.html_tokenizer.proofs.UrlValues.Slots.AtSlots.{in_url, no_url_tame, open_at_slot}
 use Rattle.html_tokenizer.proofs.UrlValues.Slots.Tame.{IsTame}
+use Rattle.html_urls.specs.Bases.{behind_base}
+use Rattle.html_urls.specs.declared.base.BehindBase.{BehindBase}
+use Rattle.html_urls.specs.declared.base.BehindBase.TheVariants.{Slash, Tail, Segment}
 use Rattle.html_urls.specs.declared.open_part.OpenPart.{OpenPart}
-use Rattle.html_template.proofs.PageUrls.Filled.{GoesOn, HasLater}
+use Rattle.html_urls.specs.declared.open_part.OpenPart.TheVariants.{NewSegment}
+use Rattle.html_template.proofs.PageUrls.Filled.{GoesBehind, GoesOn, HasLater}
 use Rattle.html_template.proofs.PageUrls.OpenEnds.{no_slot_behind, no_text_stands}
 use Rattle.html_template.proofs.PageUrls.Opening.{FromMarkup, Goes, StandsAt, value_place}
-use Rattle.html_template.proofs.PageUrls.Placed.{IsFirst, behind, first_told, part_told, whole}
+use Rattle.html_template.proofs.PageUrls.Placed.{IsFirst, first_told, part_told, past_markup, quoted_slot, whole}
 use Rattle.html_template.proofs.PageUrls.TextSlots.{text_goes, text_stands_apart}
-use Rattle.html_template.proofs.PageUrls.UrlSlots.{first_goes, later_goes, quoted_place, whole_goes}
-use Rattle.html_template.proofs.TemplateLaw.{part_in_url, whole_in_url}
-use Rattle.html_template.proofs.Walks.{ok_slot, same_itself, slot_suits}
+use Rattle.html_template.proofs.PageUrls.UrlSlots.{base_goes, first_goes, later_goes, quoted_place, slot_behind, whole_goes}
+use Rattle.html_template.proofs.TemplateLaw.{base_in_url, part_in_url, whole_in_url}
+use Rattle.html_template.proofs.Walks.{before_suits, ok_slot, same_itself}
 
 abbrev pub past_slot : Tokenizer → SlotPlace → Tokenizer
 past_slot t p = at_value (In p) t.content t.attribute
@@ -36,10 +40,13 @@ tame_of_kind kind.Text p t tame suited = no_url_tame (past_slot t p) (text_stand
 tame_of_kind (kind.UrlPart slot) p t tame suited = λ is. value_place p t tame (part_in_url slot p t.state t.content t.attribute suited)
 tame_of_kind kind.Link p t tame suited = λ is. quoted_place p t tame (whole_in_url true p t.state t.content t.attribute suited)
 tame_of_kind kind.OwnPath p t tame suited = λ is. quoted_place p t tame (whole_in_url false p t.state t.content t.attribute suited)
+tame_of_kind (kind.Base behind) p t tame suited = λ is. quoted_place p t tame (base_in_url true behind p t.state t.content t.attribute suited)
+tame_of_kind (kind.OwnBase behind) p t tame suited = λ is. quoted_place p t tame (base_in_url false behind p t.state t.content t.attribute suited)
 
-pub tame_behind : (markup : List ℕ) (url : OpenUrl) (t : Tokenizer) (slot : PlacedSlot) → IsTame t →
-    slot_at markup url (standing t) ≡ Ok slot → IsTame (past_slot t slot.place)
-tame_behind markup url t slot tame told = tame_of_kind slot.kind slot.place t tame (slot_suits markup url (standing t) slot told).suited
+pub tame_behind : (next markup : List ℕ) (url : OpenUrl) (t : Tokenizer) (slot : PlacedSlot) → IsTame t →
+    slot_at markup url (standing t) ≡ Ok slot → IsTame (past_slot t (before next slot).place)
+tame_behind next markup url t slot tame told =
+    tame_of_kind (before next slot).kind (before next slot).place t tame (before_suits next markup url (standing t) slot told).suited
 
 -- ---- where no URL with a slot is open, and where one is
 
@@ -49,61 +56,96 @@ module _ (t : Tokenizer) (chunks : List Chunk) (tame : IsTame t) where
   FromSlot Found slot =
       suits slot.kind slot.place (standing t) ≡ true → Goes slot.url (past_slot t slot.place) [] chunks → Found (Slot slot.place slot.kind ∷ chunks)
 
-  first_slot : (p : SlotPlace) (markup value : List ℕ) (slot : PlacedSlot) → in_url p (standing t) ≡ true → FromMarkup t markup value →
-      IsFirst p markup slot → FromSlot (HasLater t value) slot
-  first_slot p markup value slot stands from (whole is_followed last is) =
+  -- with what follows it
+  abbrev FromBegun : (List Chunk → Type 0) → Option BehindBase → PlacedSlot → Type 0
+  FromBegun Found following slot = FromSlot Found (begun slot slot.url following)
+
+  quoted_first : (following : Option BehindBase) (is_followed : Bool) (p : SlotPlace) (value : List ℕ) → value ≡ [] →
+      FromBegun (HasLater t value) following (quoted_slot p is_followed)
+  quoted_first None is_followed p value none = λ suited goes.
+      whole_goes is_followed t p chunks tame suited value none (goes (record { state_is = refl; attribute_is = (whole_in_url is_followed p t.state t.content t.attribute suited).attribute_is }))
+  quoted_first (Some behind) is_followed p value none = λ suited goes.
+      base_goes is_followed behind t p chunks tame suited value none
+      (goes (record { state_is = refl; attribute_is = (base_in_url is_followed behind p t.state t.content t.attribute suited).attribute_is }))
+
+  first_slot : (following : Option BehindBase) (p : SlotPlace) (markup value : List ℕ) (slot : PlacedSlot) → in_url p (standing t) ≡ true → FromMarkup t markup value →
+      IsFirst p markup slot → FromBegun (HasLater t value) following slot
+  first_slot following p markup value slot stands from (whole is_followed last is) =
       let stood = rw from.after at stands in
       let none : value ≡ [] = from.is ∙ open_at_slot p from.start from.before markup [] [] from.tame from.fresh stood last refl in
-      subst (FromSlot (HasLater t value)) is
-      (λ suited goes.
-      whole_goes is_followed t p chunks tame suited value none (goes (record { state_is = refl; attribute_is = (whole_in_url is_followed p t.state t.content t.attribute suited).attribute_is })))
-  first_slot p markup value slot stands from (behind raw last front) =
+      subst (FromBegun (HasLater t value) following) is (quoted_first following is_followed p value none)
+  first_slot following p markup value slot stands from (past_markup raw last front) =
       let stood = rw from.after at stands in
       let same : value ≡ front.text = from.is ∙ open_at_slot p from.start from.before markup raw front.text from.tame from.fresh stood last front.adds.read in
-      subst (FromSlot (HasLater t value)) front.placed.is
+      subst (FromBegun (HasLater t value) following) front.placed.is
       (λ suited goes.
       first_goes t p front.placed.found chunks tame suited front.part front.placed.at
       (goes (record { state_is = refl; attribute_is = (part_in_url front.placed.found p t.state t.content t.attribute suited).attribute_is }))
       front.text front.adds.plain front.opened value same)
 
-  url_from_markup : (p : SlotPlace) (is_followed : Bool) (markup value : List ℕ) (slot : PlacedSlot) → in_url p (standing t) ≡ true →
-      FromMarkup t markup value → url_slot p is_followed markup Outside ≡ Ok slot → FromSlot (HasLater t value) slot
-  url_from_markup p is_followed markup value slot stands from told =
-      first_slot p markup value slot stands from (first_told p is_followed markup slot told)
+  url_from_markup : (following : Option BehindBase) (p : SlotPlace) (is_followed : Bool) (markup value : List ℕ) (slot : PlacedSlot) → in_url p (standing t) ≡ true →
+      FromMarkup t markup value → url_slot p is_followed markup Outside ≡ Ok slot → FromBegun (HasLater t value) following slot
+  url_from_markup following p is_followed markup value slot stands from told =
+      first_slot following p markup value slot stands from (first_told p is_followed markup slot told)
 
-  from_markup : (markup value : List ℕ) (slot : PlacedSlot) (s : Standing) → standing t ≡ s → FromMarkup t markup value →
-      slot_at markup Outside s ≡ Ok slot → FromSlot (HasLater t value) slot
-  from_markup markup value slot (Stands p) is from told =
-      subst (FromSlot (HasLater t value)) (ok_slot told) (λ suited goes. text_goes p t value chunks suited goes)
-  from_markup markup value slot (InUrl p) is from told = url_from_markup p false markup value slot (rw is (same_itself p)) from told
-  from_markup markup value slot (InLink p) is from told = url_from_markup p true markup value slot (rw is (same_itself p)) from told
-  from_markup markup value slot Nowhere is from told = absurd (cc)
-  from_markup markup value slot Barred is from told = absurd (cc)
+  from_markup : (following : Option BehindBase) (markup value : List ℕ) (slot : PlacedSlot) (s : Standing) → standing t ≡ s → FromMarkup t markup value →
+      slot_at markup Outside s ≡ Ok slot → FromBegun (HasLater t value) following slot
+  from_markup following markup value slot (Stands p) is from told =
+      subst (FromBegun (HasLater t value) following) (ok_slot told) (λ suited goes. text_goes p t value chunks suited goes)
+  from_markup following markup value slot (InUrl p) is from told = url_from_markup following p false markup value slot (rw is (same_itself p)) from told
+  from_markup following markup value slot (InLink p) is from told = url_from_markup following p true markup value slot (rw is (same_itself p)) from told
+  from_markup following markup value slot Nowhere is from told = absurd (cc)
+  from_markup following markup value slot Barred is from told = absurd (cc)
 
-  url_within : (p q : SlotPlace) (is_followed : Bool) (open_part : OpenPart) (markup : List ℕ) (slot : PlacedSlot) →
-      url_slot p is_followed markup (Within q open_part) ≡ Ok slot → FromSlot (GoesOn open_part t) slot
-  url_within p q is_followed open_part markup slot told =
+  url_within : (following : Option BehindBase) (p q : SlotPlace) (is_followed : Bool) (open_part : OpenPart) (markup : List ℕ) (slot : PlacedSlot) →
+      url_slot p is_followed markup (Within q open_part) ≡ Ok slot → FromBegun (GoesOn open_part t) following slot
+  url_within following p q is_followed open_part markup slot told =
       let placed = part_told p open_part slot told in
-      subst (FromSlot (GoesOn open_part t)) placed.is
+      subst (FromBegun (GoesOn open_part t) following) placed.is
       (λ suited goes.
       later_goes t p placed.found chunks tame suited open_part placed.at
       (goes (record { state_is = refl; attribute_is = (part_in_url placed.found p t.state t.content t.attribute suited).attribute_is })))
 
-  within : (q : SlotPlace) (open_part : OpenPart) (markup : List ℕ) (slot : PlacedSlot) (s : Standing) → standing t ≡ s → StandsAt q t →
-      slot_at markup (Within q open_part) s ≡ Ok slot → FromSlot (GoesOn open_part t) slot
-  within q open_part markup slot (Stands p) is stands told = absurd (no_text_stands q p t is stands)
-  within q open_part markup slot (InUrl p) is stands told = url_within p q false open_part markup slot told
-  within q open_part markup slot (InLink p) is stands told = url_within p q true open_part markup slot told
-  within q open_part markup slot Nowhere is stands told = absurd (cc)
-  within q open_part markup slot Barred is stands told = absurd (cc)
+  within : (following : Option BehindBase) (q : SlotPlace) (open_part : OpenPart) (markup : List ℕ) (slot : PlacedSlot) (s : Standing) → standing t ≡ s → StandsAt q t →
+      slot_at markup (Within q open_part) s ≡ Ok slot → FromBegun (GoesOn open_part t) following slot
+  within following q open_part markup slot (Stands p) is stands told = absurd (no_text_stands q p t is stands)
+  within following q open_part markup slot (InUrl p) is stands told = url_within following p q false open_part markup slot told
+  within following q open_part markup slot (InLink p) is stands told = url_within following p q true open_part markup slot told
+  within following q open_part markup slot Nowhere is stands told = absurd (cc)
+  within following q open_part markup slot Barred is stands told = absurd (cc)
+
+  -- behind a base that ends in `/`
+  url_behind : (following : Option BehindBase) (p : SlotPlace) (behind : BehindBase) (slot : PlacedSlot) →
+      behind_front p behind ≡ Ok slot → FromBegun (GoesBehind behind t) following slot
+  url_behind following p Segment slot told =
+      let placed = part_told p NewSegment slot told in
+      subst (FromBegun (GoesBehind Segment t) following) placed.is
+      (λ suited goes.
+      slot_behind t p placed.found chunks tame suited placed.at
+      (goes (record { state_is = refl; attribute_is = (part_in_url placed.found p t.state t.content t.attribute suited).attribute_is })))
+  url_behind following p Slash slot told = absurd (cc)
+  url_behind following p Tail slot told = absurd (cc)
+
+  behind_a_base : (following : Option BehindBase) (q : SlotPlace) (behind : BehindBase) (markup : List ℕ) (slot : PlacedSlot) (s : Standing) → standing t ≡ s →
+      StandsAt q t → slot_at markup (Front q behind) s ≡ Ok slot → FromBegun (GoesBehind behind t) following slot
+  behind_a_base following q behind markup slot (Stands p) is stands told = absurd (no_text_stands q p t is stands)
+  behind_a_base following q behind markup slot (InUrl p) is stands told = url_behind following p behind slot told
+  behind_a_base following q behind markup slot (InLink p) is stands told = url_behind following p behind slot told
+  behind_a_base following q behind markup slot Nowhere is stands told = absurd (cc)
+  behind_a_base following q behind markup slot Barred is stands told = absurd (cc)
 
 -- ---- where anything is open
 
-pub slot_goes : (markup : List ℕ) (url : OpenUrl) (t : Tokenizer) (slot : PlacedSlot) (chunks : List Chunk) → IsTame t →
-    slot_at markup url (standing t) ≡ Ok slot → Goes slot.url (past_slot t slot.place) [] chunks → Goes url t markup (Slot slot.place slot.kind ∷ chunks)
-slot_goes markup Outside t slot chunks tame told goes = λ value from.
-    from_markup t chunks tame markup value slot (standing t) refl from told (slot_suits markup Outside (standing t) slot told).suited goes
-slot_goes markup (Within p open_part) t slot chunks tame told goes = λ stands.
-    within t chunks tame p open_part markup slot (standing t) refl stands told (slot_suits markup (Within p open_part) (standing t) slot told).suited goes
-slot_goes markup (Whole p) t slot chunks tame told goes = λ stands.
+pub slot_goes : (next markup : List ℕ) (url : OpenUrl) (t : Tokenizer) (slot : PlacedSlot) (chunks : List Chunk) → IsTame t →
+    slot_at markup url (standing t) ≡ Ok slot → Goes (before next slot).url (past_slot t (before next slot).place) [] chunks →
+    Goes url t markup (Slot (before next slot).place (before next slot).kind ∷ chunks)
+slot_goes next markup Outside t slot chunks tame told goes = λ value from.
+    from_markup t chunks tame (behind_base next) markup value slot (standing t) refl from told (before_suits next markup Outside (standing t) slot told).suited goes
+slot_goes next markup (Within p open_part) t slot chunks tame told goes = λ stands.
+    within t chunks tame (behind_base next) p open_part markup slot (standing t) refl stands told
+    (before_suits next markup (Within p open_part) (standing t) slot told).suited goes
+slot_goes next markup (Whole p) t slot chunks tame told goes = λ stands.
     absurd (no_slot_behind markup p t slot (standing t) refl stands told)
+slot_goes next markup (Front p behind) t slot chunks tame told goes = λ stands.
+    behind_a_base t chunks tame (behind_base next) p behind markup slot (standing t) refl stands told
+    (before_suits next markup (Front p behind) (standing t) slot told).suited goes

@@ -6,7 +6,7 @@ use Rattle.std.proofs.lemmas.Bool.{false≢true}
 use Rattle.html_template.specs.declared.open_url.OpenUrl.TheVariants.{Outside}
 use Rattle.html_template.specs.declared.parts.SlotKind.TheVariants as kind
 use Rattle.html_template.specs.FilledUrls.{url_texts}
-use Rattle.html_template.specs.PageUrls.{whole_urls}
+use Rattle.html_template.specs.PageUrls.{first_texts}
 use Rattle.html_template.specs.Slots.{handed, suits, written}
 use Rattle.html_template.specs.Templates.{Chunk, Fill, Slot, page}
 use Rattle.html_tokenizer.specs.declared.elements.Content.{Content}
@@ -39,7 +39,7 @@ module _ (p : SlotPlace) (t : Tokenizer) (value : List ℕ) (chunks : List Chunk
   next = at_value (In p) t.content t.attribute
 
   text_filled : (later : HasLater next [] chunks) (texts : List (List ℕ)) → Fill (Slot p kind.Text ∷ chunks) texts → AllByRecursion IsUtf8 texts →
-      IsFilled (urls_from t value (page (Slot p kind.Text ∷ chunks) texts)) (whole_urls (Slot p kind.Text ∷ chunks) texts) later.urls (url_texts (Slot p kind.Text ∷ chunks) texts)
+      IsFilled (urls_from t value (page (Slot p kind.Text ∷ chunks) texts)) (first_texts (Slot p kind.Text ∷ chunks) texts) later.urls (url_texts (Slot p kind.Text ∷ chunks) texts)
   text_filled later [] full utf8 = absurd full
   text_filled later (text ∷ texts) full utf8 =
       let apart = text_stands_apart p t suited in
