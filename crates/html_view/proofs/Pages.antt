@@ -2,7 +2,7 @@
 use Rattle.std.proofs.Common.{ℕ, ◌≡◌, List, [], ◌∷◌, map, IsUtf8, Ok, refl, sym, ap, ◌∙◌, subst}
 use Rattle.std.specs.List.{AllByRecursion}
 use Rattle.html_template.specs.FilledUrls.{HasUrls}
-use Rattle.html_template.specs.PageUrls.{AllAlike, urls_of, whole_urls}
+use Rattle.html_template.specs.PageUrls.{AllAlike, first_texts, urls_of}
 use Rattle.html_template.specs.TemplateFaults.{template_of}
 use Rattle.html_template.specs.Templates.{Chunk, Fill, page, part_of, state_after_all}
 use Rattle.html_tokenizer.specs.Tokenizer.States.{data_state}
@@ -64,7 +64,7 @@ same_tokens nodes value other first second sound same told_first told_second utf
 pub same_urls : (nodes : Nodes Placed) (value other : Datum) (first second : Unrolling) → AreTemplates nodes → SameForm value other →
     unrolled nodes (value ∷ []) ≡ Ok first → unrolled nodes (other ∷ []) ≡ Ok second →
     AllByRecursion IsUtf8 first.texts → AllByRecursion IsUtf8 second.texts →
-    AllAlike (whole_urls (joined first.pieces) first.texts) (whole_urls (joined first.pieces) second.texts) (urls_of (rendered first)) (urls_of (rendered second))
+    AllAlike (first_texts (joined first.pieces) first.texts) (first_texts (joined first.pieces) second.texts) (urls_of (rendered first)) (urls_of (rendered second))
 same_urls nodes value other first second sound same told_first told_second utf8 others_utf8 =
     let pages = one_template nodes value other first second same told_first told_second in
     let whole = template_is nodes value first sound told_first in
@@ -74,5 +74,5 @@ same_urls nodes value other first second sound same told_first told_second utf8 
     let two = sym (ap (λ p. page p second.texts) pages.is) ∙ pages.two in
     let has = urls.has_urls_of (joined first.pieces) first.texts whole full utf8 in
     let alike = urls.leads_as_any (joined first.pieces) first.texts has second.texts others_full others_utf8 in
-    subst (λ p. AllAlike (whole_urls (joined first.pieces) first.texts) (whole_urls (joined first.pieces) second.texts) (urls_of p) (urls_of (rendered second))) one
-    (subst (λ p. AllAlike (whole_urls (joined first.pieces) first.texts) (whole_urls (joined first.pieces) second.texts) (urls_of (page (joined first.pieces) first.texts)) (urls_of p)) two alike)
+    subst (λ p. AllAlike (first_texts (joined first.pieces) first.texts) (first_texts (joined first.pieces) second.texts) (urls_of p) (urls_of (rendered second))) one
+    (subst (λ p. AllAlike (first_texts (joined first.pieces) first.texts) (first_texts (joined first.pieces) second.texts) (urls_of (page (joined first.pieces) first.texts)) (urls_of p)) two alike)

@@ -1,8 +1,9 @@
 -- Where a way is refused, the parts of its unrolling are no template.
-use Rattle.std.proofs.Common.{ℕ, ◌≡◌, ◌+◌, Bool, true, false, List, [], ◌∷◌, ◌++◌, Result, Ok, Err, refl, sym, ap, ◌∙◌, subst, inl, ⊎_elim, append_assoc}
+use Rattle.std.proofs.Common.{ℕ, ◌≡◌, ◌⊎◌, ◌==◌, ◌+◌, Bool, true, false, if◌then◌else◌, List, [], ◌∷◌, ◌++◌, length, Option, Some, None, Result, Ok, Err, refl, sym, ap, ◌∙◌, subst, inl, inr, ⊎_elim, append_assoc, arith}
 use Rattle.std.specs.List.{list_any}
-use Rattle.std.proofs.lemmas.Bool.{cases_Bool, true≢false}
-use Rattle.html_template.specs.OpenUrls.{first_slot, url_markup}
+use Rattle.std.proofs.lemmas.Bool.{cases_Bool, cond-false, cond-true, ne_eqb, true≢false}
+use Rattle.html_template.specs.OpenUrls.{before, begun, first_slot, plain_text, url_markup}
+use Rattle.html_template.specs.Slots.{base_kind}
 use Rattle.html_template.specs.TemplateFaults.{Walk, at_beginning, behind_markup, behind_slot, faulty_part, pieces_from, put, put_all, slot_at, template_of, told_behind, Told}
 use Rattle.html_template.specs.Templates.{Chunk, Given, GivenMarkup, GivenSlot, Markup, Slot, after_slot}
 use Rattle.html_template.specs.declared.faults.PartFault.{PartFault}
@@ -10,10 +11,12 @@ use Rattle.html_template.specs.declared.faults.PartFault.TheVariants as fault
 use Rattle.html_template.specs.declared.faults.TemplateFault.{TemplateFault}
 use Rattle.html_template.specs.declared.faults.TemplateFault.TheVariants as template
 use Rattle.html_template.specs.declared.open_url.OpenUrl.{OpenUrl}
-use Rattle.html_template.specs.declared.open_url.OpenUrl.TheVariants.{Outside}
+use Rattle.html_template.specs.declared.open_url.OpenUrl.TheVariants.{Outside, Within, Whole, Front}
 use Rattle.html_template.specs.declared.open_url.PlacedSlot.{PlacedSlot}
+use Rattle.html_template.specs.declared.parts.SlotKind.{SlotKind}
+use Rattle.html_template.proofs.Walks.{base_stands}
 use Rattle.html_tokenizer.specs.Standing.{is_refused, may_end, standing}
-use Rattle.html_tokenizer.specs.Tokenizer.States.{Tokenizer}
+use Rattle.html_tokenizer.specs.Tokenizer.States.{In, Tokenizer, at_value, refused}
 use Rattle.html_tokenizer.specs.Tokenizer.Tokenization.{state_after}
 use Rattle.html_tokenizer.specs.UrlValues.{after_last, begins_value, is_url}
 use Rattle.html_tokenizer.specs.declared.reader.Standing.{Standing}
@@ -23,66 +26,173 @@ use Rattle.html_tokenizer.proofs.Passing.{state_after-append}
 use Rattle.html_tokenizer.proofs.UrlValues.Following.{same_place}
 use Rattle.html_tokenizer.proofs.UrlValues.Slots.AtSlots.{AtUrl, in_url, no_url_tame, stands_in_url}
 use Rattle.html_tokenizer.proofs.UrlValues.Slots.Marks.{walks_back}
+use Rattle.html_urls.specs.Bases.{behind_base}
+use Rattle.html_urls.specs.declared.base.BehindBase.{BehindBase}
 use Rattle.html_view.specs.Reached.{AreRefused}
-use Rattle.html_view.specs.Ways.{Way, behind, first_way, let_go, on_ok, past_slot, settled, slot_in, way_behind, way_slot}
+use Rattle.html_view.specs.Ways.{Way, behind, first_way, let_go, on_ok, past_slot, settled, slot_in, turned, url_as, way_behind, way_slot}
 use Rattle.html_view.proofs.Sound.{AtSlot, Holds, LetGo, Reads, opened_outside, reads_behind, reads_markup, reads_slot}
-use Rattle.html_view.proofs.Steps.{any_more, ended_more}
+use Rattle.html_view.proofs.Steps.{any_more, base_open, ended_more, still_open}
 
 -- ---- parts that were read
 
--- the way is where these parts lead, and the markup behind them
+-- the same walk, where this follows its last slot
+abbrev turned_walk : Walk → Option BehindBase → Walk
+turned_walk walk following = record { tokenizer = walk.tokenizer; markup = walk.markup; url = url_as walk.url following }
+
+-- the way is where these parts lead, and the markup behind them. What the last slot is, and what is open behind it, is told by the first byte of that
+-- markup
 pub record ReadsParts (way : Way) (parts : List Given) (markup : List ℕ) : Type 0 where
   pub number : ℕ
-  pub chunks : List Chunk
+  pub chunks : Option BehindBase → List Chunk
   pub walk : Walk
-  pub told : (more : List Given) → template_of (parts ++ more) ≡ told_behind chunks number walk more
-  pub reads : Reads way walk.tokenizer walk.url markup
+  pub told : (next : List ℕ) (more : List Given) →
+      template_of (parts ++ GivenMarkup next ∷ more)
+      ≡ told_behind (chunks (behind_base next)) number (turned_walk walk (behind_base next)) (GivenMarkup next ∷ more)
+  pub reads : Reads way walk.tokenizer (url_as walk.url (behind_base markup)) markup
 
 pub reads_first : ReadsParts first_way [] []
 reads_first = record {
   number = 0;
-  chunks = [];
+  chunks = λ following. [];
   walk = at_beginning;
-  told = λ more. refl;
+  told = λ next more. refl;
   reads = record { state = refl; kept = inl (record { same = refl; url_same = refl }) };
 }
 
-pub reads_more : (way next : Way) (parts : List Given) (markup bytes : List ℕ) → ReadsParts way parts markup → way_behind way bytes ≡ Ok next →
+-- ---- what follows a slot
+
+url_none : (url : OpenUrl) → url_as url None ≡ url
+url_none Outside = refl
+url_none (Within p part) = refl
+url_none (Whole p) = refl
+url_none (Front p behind) = refl
+
+begun_none : (found : PlacedSlot) (url : OpenUrl) → begun found url None ≡ found
+begun_none found Outside = refl
+begun_none found (Within p part) = refl
+begun_none found (Whole p) = refl
+begun_none found (Front p behind) = refl
+
+pub before_nothing : (found : PlacedSlot) → before [] found ≡ found
+before_nothing found = begun_none found found.url
+
+-- a way that has read markup since the last slot, or is in no URL with slots, stays as it is
+turned_same : (way : Way) (bytes : List ℕ) → ((length way.markup == 0) ≡ false) ⊎ (way.url ≡ Outside) → turned way bytes ≡ way
+turned_same way bytes (inl some) = cond-false _ _ _ some
+turned_same way bytes (inr outside) =
+    ⊎_elim
+    (λ (none : (length way.markup == 0) ≡ true).
+    cond-true _ _ _ none
+    ∙ ap (λ u. record { tokenizer = way.tokenizer; markup = way.markup; url = u }) (ap (λ u. url_as u (behind_base bytes)) outside ∙ sym outside))
+    (λ (some : (length way.markup == 0) ≡ false). cond-false _ _ _ some)
+    (cases_Bool (length way.markup == 0))
+
+-- no URL ends before any markup
+none_ends : (url : OpenUrl) → url_markup url [] ≡ Ok Outside → url ≡ Outside
+none_ends Outside told = refl
+none_ends (Within p part) told = absurd (still_open p part (plain_text false []) told)
+none_ends (Whole p) told = absurd (cc)
+none_ends (Front p behind) told = absurd (base_open p behind (plain_text false []) told)
+
+no_front : (front markup : List ℕ) → [] ≡ front ++ markup → front ≡ []
+no_front [] markup whole = refl
+no_front (b ∷ front) markup whole = absurd (cc)
+
+turned_first : (way : Way) (t : Tokenizer) (url : OpenUrl) (bytes : List ℕ) → Reads way t (url_as url None) [] →
+    Reads (turned way bytes) t (url_as url (behind_base bytes)) []
+turned_first way t url bytes reads =
+    ⊎_elim
+    (λ (holds : Holds way (url_as url None) []).
+    subst (λ w. Reads w t (url_as url (behind_base bytes)) []) (sym (cond-true _ _ _ (ap (λ (l : List ℕ). length l == 0) holds.same)))
+    (record {
+      state = reads.state;
+      kept = inl (record { same = holds.same; url_same = ap (λ u. url_as u (behind_base bytes)) (holds.url_same ∙ url_none url) });
+    }))
+    (λ (gone : LetGo way t (url_as url None) []).
+    let ended : url_markup (url_as url None) [] ≡ Ok Outside = sym (ap (url_markup (url_as url None)) (no_front gone.front way.markup gone.whole)) ∙ gone.ended in
+    let outside : url ≡ Outside = sym (url_none url) ∙ none_ends (url_as url None) ended in
+    let same : url_as url None ≡ url_as url (behind_base bytes) = ap (λ u. url_as u None) outside ∙ sym (ap (λ u. url_as u (behind_base bytes)) outside) in
+    subst (λ w. Reads w t (url_as url (behind_base bytes)) []) (sym (turned_same way bytes (inr gone.outside)))
+    (subst (λ u. Reads way t u []) same reads))
+    reads.kept
+
+turned_reads : (way : Way) (t : Tokenizer) (url : OpenUrl) (markup bytes : List ℕ) → Reads way t (url_as url (behind_base markup)) markup →
+    Reads (turned way bytes) t (url_as url (behind_base (markup ++ bytes))) markup
+turned_reads way t url [] bytes reads = turned_first way t url bytes reads
+turned_reads way t url (b ∷ markup) bytes reads =
+    subst (λ w. Reads w t (url_as url (behind_base (b ∷ markup))) (b ∷ markup))
+    (sym (turned_same way bytes
+    (⊎_elim
+    (λ (holds : Holds way (url_as url (behind_base (b ∷ markup))) (b ∷ markup)).
+    inl (ap (λ (l : List ℕ). length l == 0) holds.same ∙ ne_eqb (length (b ∷ markup)) 0 (λ same. omega (arith, same))))
+    (λ (gone : LetGo way t (url_as url (behind_base (b ∷ markup))) (b ∷ markup)). inr gone.outside)
+    reads.kept)))
+    reads
+
+-- ---- one node more
+
+pub reads_more : (way next : Way) (parts : List Given) (markup bytes : List ℕ) → ReadsParts way parts markup → way_behind (turned way bytes) bytes ≡ Ok next →
     ReadsParts next parts (markup ++ bytes)
 reads_more way next parts markup bytes reads goes = record {
   number = reads.number;
   chunks = reads.chunks;
   walk = reads.walk;
   told = reads.told;
-  reads = reads_markup way next reads.walk.tokenizer reads.walk.url markup bytes reads.reads goes;
+  reads = reads_markup (turned way bytes) next reads.walk.tokenizer (url_as reads.walk.url (behind_base (markup ++ bytes))) markup bytes
+      (turned_reads way reads.walk.tokenizer reads.walk.url markup bytes reads.reads) goes;
 }
 
 put_more : (chunks : List Chunk) (first second : Chunk) (told : Told) → put_all (chunks ++ first ∷ second ∷ []) told ≡ put_all chunks (put first (put second told))
 put_more [] first second told = refl
 put_more (chunk ∷ chunks) first second told = ap (put chunk) (put_more chunks first second told)
 
-slot_told : (walk : Walk) (number : ℕ) (markup : List ℕ) (slot : PlacedSlot) (more : List Given) (at : AtSlot walk.tokenizer walk.url markup slot) →
-    pieces_from number walk (GivenMarkup markup ∷ GivenSlot ∷ more)
-    ≡ put (Markup markup) (put (Slot slot.place slot.kind) (pieces_from (number + 1 + 1) (behind_slot (behind_markup walk markup at.opened) slot) more))
-slot_told walk number markup slot more at = rw (at.read, at.told, at.stands) refl
+slot_told : (walk : Walk) (number : ℕ) (markup next : List ℕ) (found : PlacedSlot) (more : List Given) (at : AtSlot walk.tokenizer walk.url markup found) →
+    pieces_from number walk (GivenMarkup markup ∷ GivenSlot ∷ GivenMarkup next ∷ more)
+    ≡ put (Markup markup)
+    (put (Slot (before next found).place (before next found).kind)
+    (pieces_from (number + 1 + 1) (behind_slot (behind_markup walk markup at.opened) (before next found)) (GivenMarkup next ∷ more)))
+slot_told walk number markup next found more at = rw (at.read, at.told, at.stands) refl
 
-pub reads_past : (way : Way) (slot : PlacedSlot) (parts : List Given) (markup : List ℕ) → ReadsParts way parts markup → way_slot way ≡ Ok slot →
-    ReadsParts (past_slot way slot) (parts ++ GivenMarkup markup ∷ GivenSlot ∷ []) []
-reads_past way slot parts markup reads stands =
-    let walk : Walk = reads.walk in
-    let at = reads_slot way walk.tokenizer walk.url markup slot reads.reads stands in
+-- the tokenizer is in the same state behind a base
+after_as : (behind : BehindBase) (p : SlotPlace) (kind : SlotKind) (t : Tokenizer) → after_slot p (base_kind behind kind) t ≡ after_slot p kind t
+after_as behind p kind t = ap (λ suited. if suited then at_value (In p) t.content t.attribute else refused) (base_stands behind kind p (standing t))
+
+begun_turned : (walk : Walk) (found : PlacedSlot) (url : OpenUrl) (following : Option BehindBase) → found.url ≡ url →
+    behind_slot walk (begun found url following) ≡ turned_walk (behind_slot walk found) following
+begun_turned walk found (Whole p) (Some behind) is =
+    ap (λ t. record { tokenizer = t; markup = []; url = Front p behind }) (after_as behind found.place found.kind walk.tokenizer)
+    ∙ ap (λ u. record { tokenizer = after_slot found.place found.kind walk.tokenizer; markup = []; url = u }) (sym (ap (λ u. url_as u (Some behind)) is))
+begun_turned walk found (Whole p) None is =
+    ap (λ u. record { tokenizer = after_slot found.place found.kind walk.tokenizer; markup = []; url = u }) (sym (url_none found.url))
+begun_turned walk found Outside following is =
+    ap (λ u. record { tokenizer = after_slot found.place found.kind walk.tokenizer; markup = []; url = u }) (is ∙ sym (ap (λ u. url_as u following) is))
+begun_turned walk found (Within p part) following is =
+    ap (λ u. record { tokenizer = after_slot found.place found.kind walk.tokenizer; markup = []; url = u }) (is ∙ sym (ap (λ u. url_as u following) is))
+begun_turned walk found (Front p behind) following is =
+    ap (λ u. record { tokenizer = after_slot found.place found.kind walk.tokenizer; markup = []; url = u }) (is ∙ sym (ap (λ u. url_as u following) is))
+
+pub reads_past : (way : Way) (found : PlacedSlot) (parts : List Given) (markup : List ℕ) → ReadsParts way parts markup → way_slot way ≡ Ok found →
+    ReadsParts (past_slot way found) (parts ++ GivenMarkup markup ∷ GivenSlot ∷ []) []
+reads_past way found parts markup reads stands =
+    let walk : Walk = turned_walk reads.walk (behind_base markup) in
+    let chunks : List Chunk = reads.chunks (behind_base markup) in
+    let at = reads_slot way walk.tokenizer walk.url markup found reads.reads stands in
+    let last : Walk = behind_markup walk markup at.opened in
     record {
       number = reads.number + 1 + 1;
-      chunks = reads.chunks ++ Markup markup ∷ Slot slot.place slot.kind ∷ [];
-      walk = behind_slot (behind_markup walk markup at.opened) slot;
-      told = λ more.
-          ap template_of (append_assoc parts (GivenMarkup markup ∷ GivenSlot ∷ []) more)
-          ∙ reads.told (GivenMarkup markup ∷ GivenSlot ∷ more)
-          ∙ ap (put_all reads.chunks) (slot_told walk reads.number markup slot more at)
-          ∙ sym (put_more reads.chunks (Markup markup) (Slot slot.place slot.kind) _);
+      chunks = λ following. chunks ++ Markup markup ∷ Slot (begun found found.url following).place (begun found found.url following).kind ∷ [];
+      walk = behind_slot last found;
+      told = λ next more.
+          ap template_of (append_assoc parts (GivenMarkup markup ∷ GivenSlot ∷ []) (GivenMarkup next ∷ more))
+          ∙ reads.told markup (GivenSlot ∷ GivenMarkup next ∷ more)
+          ∙ ap (put_all chunks)
+          (slot_told walk reads.number markup next found more at
+          ∙ ap (λ w. put (Markup markup) (put (Slot (before next found).place (before next found).kind) (pieces_from (reads.number + 1 + 1) w (GivenMarkup next ∷ more))))
+          (begun_turned last found found.url (behind_base next) refl))
+          ∙ sym (put_more chunks (Markup markup) (Slot (before next found).place (before next found).kind) _);
       reads = record {
-        state = ap (after_slot slot.place slot.kind) reads.reads.state;
-        kept = inl (record { same = refl; url_same = refl });
+        state = ap (after_slot found.place found.kind) reads.reads.state;
+        kept = inl (record { same = refl; url_same = sym (url_none found.url) });
       };
     }
 
@@ -92,19 +202,20 @@ put_refused : (chunks : List Chunk) (why : TemplateFault) → put_all chunks (Er
 put_refused [] why = refl
 put_refused (chunk ∷ chunks) why = ap (put chunk) (put_refused chunks why)
 
-refused_told : (way : Way) (parts more : List Given) (markup : List ℕ) (why : TemplateFault) (reads : ReadsParts way parts markup) →
-    pieces_from reads.number reads.walk more ≡ Err why → template_of (parts ++ more) ≡ Err why
-refused_told way parts more markup why reads told =
-    reads.told more ∙ ap (put_all reads.chunks) told ∙ put_refused reads.chunks why
+refused_told : (way : Way) (parts more : List Given) (markup next : List ℕ) (why : TemplateFault) (reads : ReadsParts way parts markup) →
+    pieces_from reads.number (turned_walk reads.walk (behind_base next)) (GivenMarkup next ∷ more) ≡ Err why → template_of (parts ++ GivenMarkup next ∷ more) ≡ Err why
+refused_told way parts more markup next why reads told =
+    reads.told next more ∙ ap (put_all (reads.chunks (behind_base next))) told ∙ put_refused (reads.chunks (behind_base next)) why
 
 -- what is refused of markup and a slot behind it
 record PartRefused (number : ℕ) (walk : Walk) (more : List Given) (why : PartFault) : Type 0 where
   part : ℕ
   told : pieces_from number walk more ≡ Err (template.Part part why)
 
-are_refused : (way : Way) (parts more : List Given) (markup : List ℕ) (why : PartFault) (reads : ReadsParts way parts markup) →
-    PartRefused reads.number reads.walk more why → AreRefused (parts ++ more) why
-are_refused way parts more markup why reads refused = (refused.part, refused_told way parts more markup (template.Part refused.part why) reads refused.told)
+are_refused : (way : Way) (parts more : List Given) (markup next : List ℕ) (why : PartFault) (reads : ReadsParts way parts markup) →
+    PartRefused reads.number (turned_walk reads.walk (behind_base next)) (GivenMarkup next ∷ more) why → AreRefused (parts ++ GivenMarkup next ∷ more) why
+are_refused way parts more markup next why reads refused =
+    (refused.part, refused_told way parts more markup next (template.Part refused.part why) reads refused.told)
 
 -- ---- markup
 
@@ -158,10 +269,12 @@ markup_refused way number walk markup bytes why reads told =
     (cases_Bool (is_refused (state_after way.tokenizer bytes).state))
 
 -- a way that is refused behind markup shows parts that are
-pub markup_shown : (way : Way) (parts : List Given) (markup bytes : List ℕ) (why : PartFault) → ReadsParts way parts markup → way_behind way bytes ≡ Err why →
-    AreRefused (parts ++ GivenMarkup (markup ++ bytes) ∷ []) why
+pub markup_shown : (way : Way) (parts : List Given) (markup bytes : List ℕ) (why : PartFault) → ReadsParts way parts markup →
+    way_behind (turned way bytes) bytes ≡ Err why → AreRefused (parts ++ GivenMarkup (markup ++ bytes) ∷ []) why
 markup_shown way parts markup bytes why reads told =
-    are_refused way parts (GivenMarkup (markup ++ bytes) ∷ []) markup why reads (markup_refused way reads.number reads.walk markup bytes why reads.reads told)
+    are_refused way parts [] markup (markup ++ bytes) why reads
+    (markup_refused (turned way bytes) reads.number (turned_walk reads.walk (behind_base (markup ++ bytes))) markup bytes why
+    (turned_reads way reads.walk.tokenizer reads.walk.url markup bytes reads.reads) told)
 
 -- ---- slots
 
@@ -249,7 +362,8 @@ slot_refused way number walk markup why reads told =
 pub slot_shown : (way : Way) (parts : List Given) (markup : List ℕ) (why : PartFault) → ReadsParts way parts markup → way_slot way ≡ Err why →
     AreRefused (parts ++ GivenMarkup markup ∷ GivenSlot ∷ []) why
 slot_shown way parts markup why reads told =
-    are_refused way parts (GivenMarkup markup ∷ GivenSlot ∷ []) markup why reads (slot_refused way reads.number reads.walk markup why reads.reads told)
+    are_refused way parts (GivenSlot ∷ []) markup markup why reads
+    (slot_refused way reads.number (turned_walk reads.walk (behind_base markup)) markup why reads.reads told)
 
 -- ---- the end
 
@@ -271,8 +385,8 @@ url_read way t url opened markup reads told =
 pub end_shown : (way : Way) (parts : List Given) (markup : List ℕ) (opened : OpenUrl) → ReadsParts way parts markup → is_refused way.tokenizer.state ≡ false →
     may_end way.tokenizer ≡ false → url_markup way.url way.markup ≡ Ok opened → template_of (parts ++ GivenMarkup markup ∷ []) ≡ Err template.Unfinished
 end_shown way parts markup opened reads read may told =
-    let walk : Walk = reads.walk in
+    let walk : Walk = turned_walk reads.walk (behind_base markup) in
     let found = url_read way walk.tokenizer walk.url opened markup reads.reads told in
-    refused_told way parts (GivenMarkup markup ∷ []) markup template.Unfinished reads
+    refused_told way parts [] markup markup template.Unfinished reads
     (end_told reads.number walk markup found.0 (sym (ap (λ (u : Tokenizer). is_refused u.state) reads.reads.state) ∙ read) found.1
     (sym (ap may_end reads.reads.state) ∙ may))

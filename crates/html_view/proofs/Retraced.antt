@@ -9,7 +9,7 @@ use Rattle.html_view.specs.Kept.{asked_node, asked_nodes, asked_of, opening_of}
 use Rattle.html_view.specs.Nodes as node
 use Rattle.html_view.specs.Nodes.{Asked, Nodes, Opening, written_opening, written_times}
 use Rattle.html_view.specs.Reached.{RefusedWith, Reaches, UnfinishedWith, at_first, behind_body, left_out, past_end, past_markup, past_slot, told_with, within}
-use Rattle.html_view.specs.Ways.{EndsWithin, Way, first_way, past_slot as after, way_behind, way_slot}
+use Rattle.html_view.specs.Ways.{EndsWithin, Way, first_way, past_slot as after, turned, way_behind, way_slot}
 use Rattle.html_view.specs.declared.faults.Position.{Position}
 use Rattle.html_view.specs.declared.node.Asked as asked
 use Rattle.html_view.specs.declared.node.Node.{Markup, Node, Section, Slot}
@@ -18,7 +18,8 @@ use Rattle.html_view.specs.declared.node.Times.{Times}
 use Rattle.html_view.specs.declared.node.Times.TheVariants.{Each, Once, If, Whether}
 use Rattle.html_view.specs.declared.retrace.Frame.{Frame}
 use Rattle.html_view.proofs.Followed.{asked_markup, asked_section, asked_slot, take_whole}
-use Rattle.html_view.proofs.Refusals.{ReadsParts, end_shown, markup_shown, reads_first, reads_more, reads_past, slot_shown}
+use Rattle.html_view.specs.Following.{MovedPast}
+use Rattle.html_view.proofs.Refusals.{ReadsParts, before_nothing, end_shown, markup_shown, reads_first, reads_more, reads_past, slot_shown}
 
 -- ---- what the code keeps
 
@@ -167,7 +168,7 @@ traced_led nodes way standing new_standing old new leads traced = record {
 }
 
 pub traced_markup : (nodes : Nodes Asked) (way next : Way) (standing : List Position) (bytes : List ℕ) (rest : Nodes Asked) (work : List (Nodes Asked)) →
-    Traced nodes way standing (node.Markup bytes rest ∷ work) → way_behind way bytes ≡ Ok next → Traced nodes next standing (rest ∷ work)
+    Traced nodes way standing (node.Markup bytes rest ∷ work) → way_behind (turned way bytes) bytes ≡ Ok next → Traced nodes next standing (rest ∷ work)
 traced_markup nodes way next standing bytes rest work traced goes = record {
   parts = traced.parts;
   markup = traced.markup ++ bytes;
@@ -176,20 +177,21 @@ traced_markup nodes way next standing bytes rest work traced goes = record {
 }
 
 pub traced_slot : (nodes : Nodes Asked) (way next : Way) (slot : PlacedSlot) (standing : List Position) (asked : Asked) (rest : Nodes Asked)
-    (work : List (Nodes Asked)) → Traced nodes way standing (node.Slot asked rest ∷ work) → (way_slot way ≡ Ok slot) × (next ≡ after way slot) →
+    (work : List (Nodes Asked)) → Traced nodes way standing (node.Slot asked rest ∷ work) → MovedPast [] way next slot →
     Traced nodes next standing (rest ∷ work)
 traced_slot nodes way next slot standing asked rest work traced moves = record {
   parts = traced.parts ++ GivenMarkup traced.markup ∷ GivenSlot ∷ [];
   markup = [];
   reached = past_slot traced.reached;
-  reads = subst (λ w. ReadsParts w (traced.parts ++ GivenMarkup traced.markup ∷ GivenSlot ∷ []) []) (sym moves.1)
-      (reads_past way slot traced.parts traced.markup traced.reads moves.0);
+  reads = subst (λ w. ReadsParts w (traced.parts ++ GivenMarkup traced.markup ∷ GivenSlot ∷ []) [])
+      (sym (moves.past ∙ ap (after way) (moves.is ∙ before_nothing moves.found)))
+      (reads_past way moves.found traced.parts traced.markup traced.reads moves.stands);
 }
 
 -- ---- faults
 
 pub shown_markup : (nodes : Nodes Asked) (way : Way) (standing : List Position) (bytes : List ℕ) (rest : Nodes Asked) (work : List (Nodes Asked))
-    (position : Position) (why : PartFault) → Traced nodes way standing (node.Markup bytes rest ∷ work) → way_behind way bytes ≡ Err why →
+    (position : Position) (why : PartFault) → Traced nodes way standing (node.Markup bytes rest ∷ work) → way_behind (turned way bytes) bytes ≡ Err why →
     RefusedWith nodes standing position why
 shown_markup nodes way standing bytes rest work position why traced told = record {
   parts = traced.parts;

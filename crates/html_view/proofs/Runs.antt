@@ -1,6 +1,7 @@
 -- A way through pieces, and where nodes lead it.
 use Rattle.std.proofs.Common.{ℕ, ◌≡◌, ◌⊎◌, List, [], ◌∷◌, ◌++◌, Ok, refl, sym, ap, ◌∙◌, subst, ⊎_elim, append_assoc}
 use Rattle.std.specs.List.{AllByRecursion}
+use Rattle.html_template.specs.OpenUrls.{before}
 use Rattle.html_template.specs.Templates.{Chunk, Markup, Slot}
 use Rattle.html_template.specs.declared.open_url.PlacedSlot.{PlacedSlot}
 use Rattle.html_template.specs.declared.parts.SlotKind.{SlotKind}
@@ -17,9 +18,10 @@ use Rattle.html_view.specs.Ways.{Way, past_slot, way_behind, way_slot}
 pub record IsPast (way : Way) (p : SlotPlace) (kind : SlotKind) (next : Way) : Type 0 where
   pub found : PlacedSlot
   pub stands : way_slot way ≡ Ok found
-  pub place : found.place ≡ p
-  pub kind_is : found.kind ≡ kind
-  pub goes : past_slot way found ≡ next
+  pub guess : List ℕ
+  pub place : (before guess found).place ≡ p
+  pub kind_is : (before guess found).kind ≡ kind
+  pub goes : past_slot way (before guess found) ≡ next
 
 -- a way leads through these pieces to another
 abbrev pub Runs : Way → List Chunk → Way → Type 0
@@ -84,10 +86,10 @@ leads (node.Markup bytes rest) ways others takes pieces unrolls way among =
     record { last = more.last; runs = subst (λ all. Runs way all more.last) (sym unrolls.1) (here.next, here.goes, more.runs); among = more.among }
 leads (node.Slot slot rest) ways others takes pieces unrolls way among =
     let here : GoesPast way slot takes.0 = takes.1 way among in
-    let next : Way = past_slot way here.found in
+    let next : Way = past_slot way (before here.guess here.found) in
     let more = leads rest takes.0 others takes.2 unrolls.0 unrolls.2 next here.among in
     let past : IsPast way slot.place slot.kind next =
-    record { found = here.found; stands = here.stands; place = here.place; kind_is = here.kind; goes = refl } in
+    record { found = here.found; stands = here.stands; guess = here.guess; place = here.place; kind_is = here.kind; goes = refl } in
     record { last = more.last; runs = subst (λ all. Runs way all more.last) (sym unrolls.1) (next, past, more.runs); among = more.among }
 leads (node.Section opening body otherwise rest) ways others takes pieces unrolls way among =
     then_runs way unrolls.0 unrolls.1 pieces others takes.2 unrolls.2

@@ -2,21 +2,23 @@
 use Rattle.std.proofs.Common.{ℕ, ◌≡◌, ◌⊎◌, ◌+◌, true, false, List, [], ◌∷◌, ◌++◌, map, IsUtf8, Result, Ok, Err, refl, sym, ap, ◌∙◌, subst, inl, inr, ⊎_elim, append_assoc, append-nil}
 use Rattle.std.specs.List.{AllByRecursion}
 use Rattle.std.proofs.lemmas.Bool.{cases_Bool}
-use Rattle.html_template.specs.OpenUrls.{url_markup}
+use Rattle.html_template.specs.OpenUrls.{before, url_markup}
 use Rattle.html_template.specs.Structure.{IsPageOf}
-use Rattle.html_template.specs.TemplateFaults.{Walk, at_beginning, behind_markup, behind_slot, pieces_from, put, slot_at}
+use Rattle.html_template.specs.TemplateFaults.{Walk, at_beginning, behind_markup, behind_slot, next_markup, pieces_from, put, slot_at}
 use Rattle.html_template.specs.Templates.{Chunk, Fill, Given, Markup, Slot, after_slot, page, part_of, written}
 use Rattle.html_template.specs.declared.faults.PartFault.{PartFault}
 use Rattle.html_template.specs.declared.faults.PartFault.TheVariants as fault
 use Rattle.html_template.specs.declared.open_url.OpenUrl.{OpenUrl}
-use Rattle.html_template.specs.declared.open_url.OpenUrl.TheVariants.{Outside, Within, Whole}
+use Rattle.html_template.specs.declared.open_url.OpenUrl.TheVariants.{Outside, Within, Whole, Front}
 use Rattle.html_template.specs.declared.open_url.PlacedSlot.{PlacedSlot}
 use Rattle.html_tokenizer.specs.Standing.{is_refused, may_end, standing}
 use Rattle.html_tokenizer.specs.Tokenizer.States.{Tokenizer}
 use Rattle.html_tokenizer.specs.Tokenizer.Tokenization.{state_after}
 use Rattle.html_tokenizer.specs.UrlValues.{is_url}
 use Rattle.html_tokenizer.proofs.Passing.{state_after-append}
+use Rattle.html_template.proofs.Fronts.{guess_told}
 use Rattle.html_template.proofs.JoinedParts.{is_template_of, placed_of}
+use Rattle.html_template.proofs.Pieces.{at_markup}
 use Rattle.html_view.specs.Nodes.{Nodes, Placed}
 use Rattle.html_view.specs.Takes.{AreSound}
 use Rattle.html_view.specs.Unrolled.{AreTemplates, Unrolls, joined, joined_behind}
@@ -84,6 +86,9 @@ reads_let_go way next t url markup reads free (Ok (Within q open_part)) is told 
     let here : way ≡ next = cc in
     subst (λ w. Reads w t url markup) here reads
 reads_let_go way next t url markup reads free (Ok (Whole q)) is told =
+    let here : way ≡ next = cc in
+    subst (λ w. Reads w t url markup) here reads
+reads_let_go way next t url markup reads free (Ok (Front q behind)) is told =
     let here : way ≡ next = cc in
     subst (λ w. Reads w t url markup) here reads
 
@@ -192,6 +197,19 @@ reads_end way t url markup reads end =
 
 -- ---- all pieces
 
+-- the guess at a slot was right where the markup behind it was taken
+next_guessed : (pieces : List Chunk) (markup guess : List ℕ) (found : PlacedSlot) (number : ℕ) (walk : Walk) (chunks : List Chunk) → walk.url ≡ (before guess found).url →
+    pieces_from number walk (map part_of (joined_behind markup pieces)) ≡ Ok chunks →
+    before (next_markup (map part_of (joined_behind markup pieces))) found ≡ before guess found
+next_guessed [] markup guess found number walk chunks is told =
+    let at = at_markup number walk markup [] chunks told in
+    guess_told guess markup found at.url (sym (ap (λ u. url_markup u markup) is) ∙ at.opened)
+next_guessed (Markup bytes ∷ pieces) markup guess found number walk chunks is told =
+    next_guessed pieces (markup ++ bytes) guess found number walk chunks is told
+next_guessed (Slot p kind ∷ pieces) markup guess found number walk chunks is told =
+    let at = at_markup number walk markup (map part_of (Slot p kind ∷ joined_behind [] pieces)) chunks told in
+    guess_told guess markup found at.url (sym (ap (λ u. url_markup u markup) is) ∙ at.opened)
+
 sound_from : (pieces : List Chunk) (number : ℕ) (walk : Walk) (way last : Way) (markup : List ℕ) → Reads way walk.tokenizer walk.url markup →
     Runs way pieces last → MayEnd last → pieces_from number walk (map part_of (joined_behind markup pieces)) ≡ Ok (joined_behind markup pieces)
 sound_from [] number walk way last markup reads runs end =
@@ -202,17 +220,20 @@ sound_from (Markup bytes ∷ pieces) number walk way last markup reads runs end 
 sound_from (Slot p kind ∷ pieces) number walk way last markup reads runs end =
     let past = runs.1 in
     let here = reads_slot way walk.tokenizer walk.url markup past.found reads past.stands in
-    let next : Walk = behind_slot (behind_markup walk markup here.opened) past.found in
+    let slot : PlacedSlot = before past.guess past.found in
+    let next : Walk = behind_slot (behind_markup walk markup here.opened) slot in
     let next_reads : Reads runs.0 next.tokenizer next.url [] =
     subst (λ w. Reads w next.tokenizer next.url []) past.goes
     (record {
-      state = ap (after_slot past.found.place past.found.kind) reads.state;
+      state = ap (after_slot slot.place slot.kind) reads.state;
       kept = inl (record { same = refl; url_same = refl });
     }) in
     let rest = sound_from pieces (number + 1 + 1) next runs.0 last [] next_reads runs.2 end in
-    rw (here.read, here.told, here.stands)
-    (ap (λ told. put (Markup markup) (put (Slot past.found.place past.found.kind) told)) rest
-    ∙ ap (λ q. Ok (Markup markup ∷ Slot q past.found.kind ∷ joined_behind [] pieces)) past.place
+    let guessed : before (next_markup (map part_of (joined_behind [] pieces))) past.found ≡ slot =
+    next_guessed pieces [] past.guess past.found (number + 1 + 1) next (joined_behind [] pieces) refl rest in
+    rw (here.read, here.told, here.stands, guessed)
+    (ap (λ told. put (Markup markup) (put (Slot slot.place slot.kind) told)) rest
+    ∙ ap (λ q. Ok (Markup markup ∷ Slot q slot.kind ∷ joined_behind [] pieces)) past.place
     ∙ ap (λ k. Ok (Markup markup ∷ Slot p k ∷ joined_behind [] pieces)) past.kind_is)
 
 -- each unrolling of sound nodes is a template

@@ -1,15 +1,20 @@
 -- Markup that was let go is not looked at.
-use Rattle.std.proofs.Common.{ℕ, ◌≡◌, ◌+◌, ◌<◌, ◌≤◌, ◌||◌, Bool, true, false, List, [], ◌∷◌, ◌++◌, Option, Some, None, Ok, length, take, nat_lt, arith, refl, ap, ⊎_elim, length-append, ltb-true, lt-ltb}
+use Rattle.std.proofs.Common.{ℕ, ◌≡◌, ◌+◌, ◌<◌, ◌≤◌, ◌||◌, Bool, true, false, List, [], ◌∷◌, ◌++◌, Option, Some, None, Result, Ok, Err, if◌then◌else◌, length, take, nat_lt, arith, refl, ap, ⊎_elim, length-append, ltb-true, lt-ltb}
 use Rattle.std.specs.List.{list_any, position_or_len}
 use Rattle.std.proofs.lemmas.Bool.{cases_Bool}
 use Rattle.std.proofs.lemmas.List.{take-append-le}
+use Rattle.html_urls.specs.Bases.{goes_as, open_behind}
 use Rattle.html_urls.specs.OpenParts.{after_markup}
+use Rattle.html_urls.specs.declared.base.BehindBase.{BehindBase}
+use Rattle.html_urls.specs.declared.base.BehindBase.TheVariants.{Segment}
 use Rattle.html_urls.specs.declared.open_part.OpenPart.{OpenPart}
-use Rattle.html_template.specs.OpenUrls.{url_markup, url_slot, value_length, behind_part, first_slot, plain_text}
+use Rattle.html_template.specs.OpenUrls.{url_markup, url_slot, value_length, behind_part, first_slot, is_slash, plain_text}
 use Rattle.html_template.specs.OpenUrls as urls
 use Rattle.html_template.specs.TemplateFaults.{slot_at}
+use Rattle.html_template.specs.declared.faults.PartFault.{PartFault}
+use Rattle.html_template.specs.declared.faults.PartFault.TheVariants.{AfterLink}
 use Rattle.html_template.specs.declared.open_url.OpenUrl.{OpenUrl}
-use Rattle.html_template.specs.declared.open_url.OpenUrl.TheVariants.{Outside, Within, Whole}
+use Rattle.html_template.specs.declared.open_url.OpenUrl.TheVariants.{Outside, Within, Whole, Front}
 use Rattle.html_template.specs.declared.open_url.PlacedSlot.{PlacedSlot}
 use Rattle.html_tokenizer.specs.declared.reader.Standing.{Standing}
 use Rattle.html_tokenizer.specs.declared.reader.Standing.TheVariants.{Stands, InUrl, InLink, Nowhere, Barred}
@@ -28,7 +33,7 @@ position_more test (b ∷ front) more few =
     rw goes (ap (λ n. 1 + n) (position_more test front more fewer)))
     (cases_Bool (test b))
 
-still_open : (p : SlotPlace) (open_part : OpenPart) (text : Option (List ℕ)) → urls.behind_slot p open_part false text ≡ Ok Outside → ⊥
+pub still_open : (p : SlotPlace) (open_part : OpenPart) (text : Option (List ℕ)) → urls.behind_slot p open_part false text ≡ Ok Outside → ⊥
 still_open p open_part None told = absurd (cc)
 still_open p open_part (Some text) told = within (after_markup open_part text) told
   where
@@ -36,13 +41,41 @@ still_open p open_part (Some text) told = within (after_markup open_part text) t
     within None told = absurd (cc)
     within (Some found) told = absurd (cc)
 
-as_before : (p : SlotPlace) (open_part : OpenPart) (ended same : Bool) (text again : List ℕ) → same ≡ ended → again ≡ text →
-    urls.behind_slot p open_part ended (plain_text ended text) ≡ Ok Outside → urls.behind_slot p open_part same (plain_text same again) ≡ Ok Outside
-as_before p open_part ended same text again is_same is_again told = rw (is_same, is_again) told
+-- nor does one behind a base
+pub base_open : (p : SlotPlace) (behind : BehindBase) (text : Option (List ℕ)) → urls.after_base p behind false text ≡ Ok Outside → ⊥
+base_open p behind None told = absurd (cc)
+base_open p behind (Some text) told =
+    ⊎_elim
+    (λ (goes : goes_as behind text ≡ true). by_slash (is_slash text) (rw goes at told))
+    (λ (stops : goes_as behind text ≡ false). let clash : refusal AfterLink ≡ Ok Outside = rw stops at told in cc)
+    (cases_Bool (goes_as behind text))
+  where
+    refusal : PartFault → Result OpenUrl PartFault
+    refusal why = Err why
 
-ended_within : (p : SlotPlace) (open_part : OpenPart) (front more : List ℕ) → url_markup (Within p open_part) front ≡ Ok Outside →
-    url_markup (Within p open_part) (front ++ more) ≡ Ok Outside
-ended_within p open_part front more told =
+    within : (found : Option OpenPart) → behind_part p false found ≡ Ok Outside → ⊥
+    within None told = absurd (cc)
+    within (Some found) told = absurd (cc)
+
+    by_slash : (slash : Bool) → (if slash then Ok (Front p Segment) else behind_part p false (after_markup (open_behind behind) text)) ≡ Ok Outside → ⊥
+    by_slash true told = absurd (cc)
+    by_slash false told = within (after_markup (open_behind behind) text) told
+
+-- what markup makes of a URL is told by what it adds to it, and whether the value ends in it
+abbrev Made : Type 0
+Made = Bool → Option (List ℕ) → Result OpenUrl PartFault
+
+abbrev made_of : SlotPlace → Made → List ℕ → Result OpenUrl PartFault
+made_of p made markup =
+    made (nat_lt (value_length p markup) (length markup)) (plain_text (nat_lt (value_length p markup) (length markup)) (take (value_length p markup) markup))
+
+as_before : (made : Made) (ended same : Bool) (text again : List ℕ) → same ≡ ended → again ≡ text →
+    made ended (plain_text ended text) ≡ Ok Outside → made same (plain_text same again) ≡ Ok Outside
+as_before made ended same text again is_same is_again told = rw (is_same, is_again) told
+
+ended_in_value : (p : SlotPlace) (made : Made) → ((text : Option (List ℕ)) → made false text ≡ Ok Outside → ⊥) → (front more : List ℕ) →
+    made_of p made front ≡ Ok Outside → made_of p made (front ++ more) ≡ Ok Outside
+ended_in_value p made goes_on front more told =
     ⊎_elim
     (λ (ended : nat_lt (value_length p front) (length front) ≡ true).
     let few : value_length p front < length front = ltb-true (value_length p front) (length front) ended in
@@ -52,10 +85,10 @@ ended_within p open_part front more told =
     rw (same, ended) (lt-ltb (value_length p front) (length (front ++ more)) (omega arith)) in
     let text : take (value_length p (front ++ more)) (front ++ more) ≡ take (value_length p front) front =
     rw same (take-append-le (value_length p front) front more (omega arith)) in
-    as_before p open_part (nat_lt (value_length p front) (length front)) (nat_lt (value_length p (front ++ more)) (length (front ++ more)))
+    as_before made (nat_lt (value_length p front) (length front)) (nat_lt (value_length p (front ++ more)) (length (front ++ more)))
     (take (value_length p front) front) (take (value_length p (front ++ more)) (front ++ more)) still text told)
     (λ (goes : nat_lt (value_length p front) (length front) ≡ false).
-    absurd (still_open p open_part (plain_text false (take (value_length p front) front)) (rw goes at told)))
+    absurd (goes_on (plain_text false (take (value_length p front) front)) (rw goes at told)))
     (cases_Bool (nat_lt (value_length p front) (length front)))
 
 ended_whole : (p : SlotPlace) (front more : List ℕ) → urls.behind_link p front ≡ Ok Outside → urls.behind_link p (front ++ more) ≡ Ok Outside
@@ -64,8 +97,9 @@ ended_whole p (b ∷ front) more told = told
 
 pub ended_more : (url : OpenUrl) (front more : List ℕ) → url_markup url front ≡ Ok Outside → url_markup url (front ++ more) ≡ Ok Outside
 ended_more Outside front more told = refl
-ended_more (Within p open_part) front more told = ended_within p open_part front more told
+ended_more (Within p open_part) front more told = ended_in_value p (urls.behind_slot p open_part) (still_open p open_part) front more told
 ended_more (Whole p) front more told = ended_whole p front more told
+ended_more (Front p behind) front more told = ended_in_value p (urls.after_base p behind) (base_open p behind) front more told
 
 -- a slot that finds where the value of its URL begins finds it behind more markup, too
 has_mark : (test : ℕ → Bool) (markup text : List ℕ) → after_last test markup ≡ Some text → list_any test markup ≡ true

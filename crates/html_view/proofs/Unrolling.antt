@@ -12,6 +12,7 @@ use Rattle.html_template.specs.declared.parts.SlotKind.{SlotKind}
 use Rattle.html_template.specs.declared.parts.SlotKind.TheVariants as kind
 use Rattle.html_tokenizer.specs.declared.slot_place.SlotPlace.{SlotPlace}
 use Rattle.html_tokenizer.specs.declared.slot_place.SlotPlace.TheVariants.{Unquoted}
+use Rattle.html_urls.specs.Bases.{is_base, is_own_base}
 use Rattle.html_urls.specs.Links.{is_link}
 use Rattle.html_urls.specs.OwnPaths.{is_own_path}
 use Rattle.html_urls.specs.Slots.{may_fill}
@@ -58,6 +59,16 @@ text_fits p kind.OwnPath text is =
     (λ (own : is_own_path text ≡ true). own)
     (λ (none : is_own_path text ≡ false). let here : Some fault.NotAnOwnPath ≡ None = rw none at is in absurd (cc))
     (cases_Bool (is_own_path text))
+text_fits p (kind.Base behind) text is =
+    ⊎_elim
+    (λ (base : is_base behind text ≡ true). base)
+    (λ (none : is_base behind text ≡ false). let here : Some fault.NotABase ≡ None = rw none at is in absurd (cc))
+    (cases_Bool (is_base behind text))
+text_fits p (kind.OwnBase behind) text is =
+    ⊎_elim
+    (λ (own : is_own_base behind text ≡ true). own)
+    (λ (none : is_own_base behind text ≡ false). let here : Some fault.NotAnOwnBase ≡ None = rw none at is in absurd (cc))
+    (cases_Bool (is_own_base behind text))
 
 fitting_fits : (slot : Placed) (text found : List ℕ) (first : Option TextFault) → text_fault slot.place slot.kind text ≡ first →
     fitting slot text first ≡ Ok found → MayFill slot.place slot.kind found

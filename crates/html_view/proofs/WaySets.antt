@@ -2,7 +2,8 @@
 use Rattle.std.proofs.Common.{ℕ, zero, suc, ◌≡◌, ◌<◌, ◌≤◌, Result, Ok, Err, IfOk, OnOk, List, [], ◌∷◌, ◌++◌, map, take, get_or, length, arith, refl, sym, ap, ◌∙◌, subst, inl, inr, ⊎_elim}
 use Rattle.std.proofs.lemmas.List.{map-append}
 use Rattle.html_template.specs.declared.open_url.PlacedSlot.{PlacedSlot}
-use Rattle.html_view.specs.Following.{way_of}
+use Rattle.html_template.specs.OpenUrls.{before}
+use Rattle.html_view.specs.Following.{MovedPast, way_of}
 use Rattle.html_view.specs.Nodes.{Placed}
 use Rattle.html_view.specs.Takes.{Among, AreAmong, GoesOn, GoesPast}
 use Rattle.html_view.specs.Ways as spec
@@ -107,23 +108,25 @@ goes_on item moved new bytes next same goes among = record { next = new; goes = 
 pub goes_wider : (way : spec.Way) (bytes : List ℕ) (ways others : List spec.Way) → AreAmong ways others → GoesOn way bytes ways → GoesOn way bytes others
 goes_wider way bytes ways others are goes = record { next = goes.next; goes = goes.goes; among = are goes.next goes.among }
 
-pub goes_past : (item moved new : spec.Way) (found : PlacedSlot) (slot : Placed) (next : List spec.Way) → moved ≡ item →
-    (way_slot moved ≡ Ok found) × (new ≡ past_slot moved found) → found.place ≡ slot.place → found.kind ≡ slot.kind → Among new next → GoesPast item slot next
-goes_past item moved new found slot next same moves place kind among = record {
-  found = found;
-  stands = sym (ap way_slot same) ∙ moves.0;
-  place = place;
-  kind = kind;
-  among = subst (λ w. Among w next) (moves.1 ∙ ap (λ w. past_slot w found) same) among;
+pub goes_past : (guess : List ℕ) (item moved new : spec.Way) (told : PlacedSlot) (slot : Placed) (next : List spec.Way) → moved ≡ item →
+    MovedPast guess moved new told → told.place ≡ slot.place → told.kind ≡ slot.kind → Among new next → GoesPast item slot next
+goes_past guess item moved new told slot next same moves place kind among = record {
+  found = moves.found;
+  stands = sym (ap way_slot same) ∙ moves.stands;
+  guess = guess;
+  place = sym (ap (λ (s : PlacedSlot). s.place) moves.is) ∙ place;
+  kind = sym (ap (λ (s : PlacedSlot). s.kind) moves.is) ∙ kind;
+  among = subst (λ w. Among w next) (moves.past ∙ ap (λ w. past_slot w told) same ∙ ap (past_slot item) moves.is) among;
 }
 
 pub past_wider : (way : spec.Way) (slot : Placed) (ways others : List spec.Way) → AreAmong ways others → GoesPast way slot ways → GoesPast way slot others
 past_wider way slot ways others are past = record {
   found = past.found;
   stands = past.stands;
+  guess = past.guess;
   place = past.place;
   kind = past.kind;
-  among = are (past_slot way past.found) past.among;
+  among = are (past_slot way (before past.guess past.found)) past.among;
 }
 
 -- ---- where there is one way
@@ -141,11 +144,11 @@ only_goes_on first moved others bytes (Ok done) none goes =
     (record { next = way_of moved; goes = goes; among = inl refl })
 only_goes_on first moved others bytes (Err fault) none goes = tt
 
-pub only_goes_past : {A F : Type 0} (first moved : Way A) (others : List (Way A)) (result : Result PlacedSlot F) → others ≡ [] →
-    IfOk result (λ found. way_slot (way_of first) ≡ Ok found) → IfOk result (λ found. way_of moved ≡ past_slot (way_of first) found) →
+pub only_goes_past : {A F : Type 0} (guess : List ℕ) (first moved : Way A) (others : List (Way A)) (result : Result PlacedSlot F) → others ≡ [] →
+    IfOk result (MovedPast guess (way_of first) (way_of moved)) →
     IfOk result (λ found. (slot : Placed) → found.place ≡ slot.place → found.kind ≡ slot.kind → (way : spec.Way) →
     Among way (way_of first ∷ map way_of others) → GoesPast way slot (way_of moved ∷ map way_of others))
-only_goes_past first moved others (Ok found) none stands past = λ slot place kind.
+only_goes_past guess first moved others (Ok told) none moves = λ slot place kind.
     only (λ way. GoesPast way slot (way_of moved ∷ map way_of others)) first others none
-    (record { found = found; stands = stands; place = place; kind = kind; among = inl (sym past) })
-only_goes_past first moved others (Err fault) none stands past = tt
+    (goes_past guess (way_of first) (way_of first) (way_of moved) told slot (way_of moved ∷ map way_of others) refl moves place kind (inl refl))
+only_goes_past guess first moved others (Err fault) none moves = tt

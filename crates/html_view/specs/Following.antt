@@ -1,5 +1,6 @@
 -- The ways that the code holds, and where they go.
-use Rattle.std.specs.Prelude.{◌≡◌, List, ◌∷◌, Result, Ok, Err, map}
+use Rattle.std.specs.Prelude.{◌≡◌, ℕ, List, ◌∷◌, Result, Ok, Err, map}
+use Rattle.html_template.specs.OpenUrls.{before}
 use Rattle.html_template.specs.declared.faults.PartFault.{PartFault}
 use Rattle.html_template.specs.declared.open_url.PlacedSlot.{PlacedSlot}
 use Rattle.html_tokenizer.specs.Tokenizer.Phases.{tokenizer_of}
@@ -23,10 +24,16 @@ abbrev pub Moves : {T : Type 0} → Result spec.Way PartFault → spec.Way → R
 Moves told new (Ok done) = told ≡ Ok new
 Moves told new (Err why) = told ≡ Err why
 
--- and past the slot that is told
-abbrev pub MovesPast : spec.Way → spec.Way → Result PlacedSlot PartFault → Type 0
-MovesPast old new (Ok slot) = (way_slot old ≡ Ok slot) × (new ≡ past_slot old slot)
-MovesPast old new (Err why) = way_slot old ≡ Err why
+-- and past the slot that is told, before this markup
+pub record MovedPast (next : List ℕ) (old new : spec.Way) (slot : PlacedSlot) : Type 0 where
+  pub found : PlacedSlot
+  pub stands : way_slot old ≡ Ok found
+  pub is : slot ≡ before next found
+  pub past : new ≡ past_slot old slot
+
+abbrev pub MovesPast : List ℕ → spec.Way → spec.Way → Result PlacedSlot PartFault → Type 0
+MovesPast next old new (Ok slot) = MovedPast next old new slot
+MovesPast next old new (Err why) = way_slot old ≡ Err why
 
 -- nodes as they are placed are those that were written, and each of the ways leads through them, to one of the next ones
 pub record Follows (asked : Before Asked) (placed : Before Placed) (ways next : List spec.Way) : Type 0 where

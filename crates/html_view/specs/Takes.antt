@@ -1,6 +1,7 @@
 -- The ways through nodes: each way that leads to a node leads through it, to one of the ways behind it, and at a slot all ways give
 -- one place and kind.
 use Rattle.std.specs.Prelude.{◌≡◌, ◌⊎◌, ⊤, ℕ, List, [], ◌∷◌, Ok}
+use Rattle.html_template.specs.OpenUrls.{before}
 use Rattle.html_template.specs.declared.open_url.PlacedSlot.{PlacedSlot}
 use Rattle.html_view.specs.Nodes as node
 use Rattle.html_view.specs.Nodes.{Nodes, Placed}
@@ -21,13 +22,14 @@ pub record GoesOn (way : Way) (bytes : List ℕ) (ways : List Way) : Type 0 wher
   pub goes : way_behind way bytes ≡ Ok next
   pub among : Among next ways
 
--- and behind a slot, which stands as was found
+-- and behind a slot, which stands as was found, where this is guessed to follow it
 pub record GoesPast (way : Way) (slot : Placed) (ways : List Way) : Type 0 where
   pub found : PlacedSlot
   pub stands : way_slot way ≡ Ok found
-  pub place : found.place ≡ slot.place
-  pub kind : found.kind ≡ slot.kind
-  pub among : Among (past_slot way found) ways
+  pub guess : List ℕ
+  pub place : (before guess found).place ≡ slot.place
+  pub kind : (before guess found).kind ≡ slot.kind
+  pub among : Among (past_slot way (before guess found)) ways
 
 -- a body that may be repeated leads back to where it begins
 abbrev pub LeadsBack : Times → List Way → List Way → Type 0

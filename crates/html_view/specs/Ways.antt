@@ -1,17 +1,19 @@
 -- A way: what may have been read where a node stands.
-use Rattle.std.specs.Prelude.{◌≡◌, ℕ, true, false, List, [], ◌++◌, Result, Ok, Err, if◌then◌else◌}
+use Rattle.std.specs.Prelude.{◌≡◌, ℕ, true, false, List, [], ◌++◌, ◌==◌, Option, Some, Result, Ok, Err, if◌then◌else◌, length}
 use Rattle.html_template.specs.OpenUrls.{url_markup}
 use Rattle.html_template.specs.TemplateFaults.{slot_at}
 use Rattle.html_template.specs.Templates.{after_slot}
 use Rattle.html_template.specs.declared.faults.PartFault.{PartFault}
 use Rattle.html_template.specs.declared.faults.PartFault.TheVariants.{Malformed}
 use Rattle.html_template.specs.declared.open_url.OpenUrl.{OpenUrl}
-use Rattle.html_template.specs.declared.open_url.OpenUrl.TheVariants.{Outside}
+use Rattle.html_template.specs.declared.open_url.OpenUrl.TheVariants.{Outside, Whole, Front}
 use Rattle.html_template.specs.declared.open_url.PlacedSlot.{PlacedSlot}
 use Rattle.html_tokenizer.specs.Standing.{is_refused, may_end, standing}
 use Rattle.html_tokenizer.specs.Tokenizer.States.{Tokenizer, data_state}
 use Rattle.html_tokenizer.specs.Tokenizer.Tokenization.{state_after}
 use Rattle.html_tokenizer.specs.UrlValues.{is_url}
+use Rattle.html_urls.specs.Bases.{behind_base}
+use Rattle.html_urls.specs.declared.base.BehindBase.{BehindBase}
 
 -- the tokenizer, the markup since the last slot, and what was open of a URL with slots at that slot.
 -- Outside of URLs the markup so far is let go
@@ -54,6 +56,15 @@ slot_in way url = slot_at way.markup url (standing way.tokenizer)
 abbrev pub way_slot : Way → Result PlacedSlot PartFault
 way_slot way =
     if is_refused way.tokenizer.state then Err Malformed else on_ok (url_markup way.url way.markup) (slot_in way)
+
+-- before markup, where it was open whether the slot before is a base: its first byte tells
+abbrev pub url_as : OpenUrl → Option BehindBase → OpenUrl
+url_as (Whole p) (Some behind) = Front p behind
+url_as url following = url
+
+abbrev pub turned : Way → List ℕ → Way
+turned way bytes =
+    if length way.markup == 0 then record { tokenizer = way.tokenizer; markup = way.markup; url = url_as way.url (behind_base bytes) } else way
 
 abbrev pub past_slot : Way → PlacedSlot → Way
 past_slot way slot = record { tokenizer = after_slot slot.place slot.kind way.tokenizer; markup = []; url = slot.url }

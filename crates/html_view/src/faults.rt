@@ -41,7 +41,7 @@ pub enum ViewFault {
     Tag(Position, TagFault),
     /// This markup or this slot is refused in one of the unrollings, and why.
     Part(Position, PartFault),
-    /// This slot stands in two places, or its text has two meanings, by what stands before it.
+    /// This slot stands in two places, or its text has two meanings, by what stands before it or behind it.
     Ambiguous(Position),
     /// More than eight states of the tokenizer lead here.
     TooManyWays(Position),

@@ -20,12 +20,14 @@ struct FollowedBody<'a, A: Allocator> {
     ways: Ways<A>,
 }
 
-/// Follows these ways through nodes, which begin there. They are then those behind the nodes.
+/// Follows these ways through nodes, which begin there, and behind which this markup is guessed to stand. They
+/// are then those behind the nodes.
 #[cycle(follow)]
 pub(crate) fn follow<'a, A: Allocator + Copy>(
     alloc: A,
     entry: Entry,
     nodes: &Vec<Node<'a, Asked<'a>, A>, A>,
+    next: &[u8],
     ways: &mut Ways<A>,
     heads: &mut Heads<A>,
 ) -> Result<Vec<Node<'a, Placed<'a>, A>, A>, ViewFault>
@@ -34,8 +36,10 @@ pub(crate) fn follow<'a, A: Allocator + Copy>(
 {
     ways.enter(entry, &mut heads.history)?;
     let mut placed = Vec::with_capacity(alloc, nodes.len())?;
+    let mut rest = nodes.as_slice();
     for node in nodes {
-        let followed = follow_node(alloc, node, ways, heads)?;
+        rest = behind_first(rest);
+        let followed = follow_node(alloc, node, first_markup(rest, next), ways, heads)?;
         match placed.push(followed) {
             Ok(()) => {}
             Err(_) => return Err(ViewFault::Memory),
@@ -44,11 +48,53 @@ pub(crate) fn follow<'a, A: Allocator + Copy>(
     Ok(placed)
 }
 
-// Follows ways through a node.
+fn behind_first<'m, 'a, A: Allocator>(
+    nodes: &'m [Node<'a, Asked<'a>, A>],
+) -> &'m [Node<'a, Asked<'a>, A>] {
+    match nodes {
+        [_, others @ ..] => others,
+        [] => nodes,
+    }
+}
+
+// The markup with which nodes are guessed to begin, behind which this is guessed to stand. It tells whether a
+// slot before it, with which a URL begins, is a base. No law rests on it: markup that does not go on so is
+// refused.
+fn first_markup<'m, 'a, A: Allocator>(
+    nodes: &'m [Node<'a, Asked<'a>, A>],
+    next: &'m [u8],
+) -> &'m [u8] {
+    match nodes {
+        [first, ..] => markup_in(first, next),
+        [] => next,
+    }
+}
+
+// The same of a node: that of the body, where it is a section whose body begins with markup.
+fn markup_in<'m, 'a, A: Allocator>(node: &'m Node<'a, Asked<'a>, A>, next: &'m [u8]) -> &'m [u8] {
+    match node {
+        Node::Markup(text, _) => text.as_bytes(),
+        Node::Slot(_) => &next[..0],
+        Node::Section(_, body, _) => match body.as_slice() {
+            [first, ..] => own_markup(first, next),
+            [] => next,
+        },
+    }
+}
+
+fn own_markup<'m, 'a, A: Allocator>(node: &'m Node<'a, Asked<'a>, A>, next: &'m [u8]) -> &'m [u8] {
+    match node {
+        Node::Markup(text, _) => text.as_bytes(),
+        _ => next,
+    }
+}
+
+// Follows ways through a node, behind which this markup is guessed to stand.
 #[cycle(follow)]
 fn follow_node<'a, A: Allocator + Copy>(
     alloc: A,
     node: &Node<'a, Asked<'a>, A>,
+    next: &[u8],
     ways: &mut Ways<A>,
     heads: &mut Heads<A>,
 ) -> Result<Node<'a, Placed<'a>, A>, ViewFault>
@@ -61,7 +107,7 @@ fn follow_node<'a, A: Allocator + Copy>(
             Ok(Node::Markup(*text, *position))
         }
         Node::Slot(slot) => {
-            let found = ways.take_slot(slot.position, &mut heads.history)?;
+            let found = ways.take_slot(next, slot.position, &mut heads.history)?;
             Ok(Node::Slot(Placed {
                 asked: *slot,
                 place: found.place,
@@ -70,8 +116,8 @@ fn follow_node<'a, A: Allocator + Copy>(
         }
         Node::Section(opening, body, otherwise) => {
             let number = heads.open()?;
-            let passes = follow_body(alloc, number, *opening, body, ways, heads)?;
-            let other = follow(alloc, Entry::Other(number), otherwise, ways, heads)?;
+            let passes = follow_body(alloc, number, *opening, body, next, ways, heads)?;
+            let other = follow(alloc, Entry::Other(number), otherwise, next, ways, heads)?;
             // Of two ways that are one, that with fewer sections standing is kept.
             ways.add_all(&passes.ways, opening.position)?;
             let opening = Opening {
@@ -91,6 +137,7 @@ fn follow_body<'a, A: Allocator + Copy>(
     number: usize,
     opening: Opening<'a>,
     body: &Vec<Node<'a, Asked<'a>, A>, A>,
+    next: &[u8],
     ways: &Ways<A>,
     heads: &mut Heads<A>,
 ) -> Result<FollowedBody<'a, A>, ViewFault>
@@ -99,14 +146,22 @@ fn follow_body<'a, A: Allocator + Copy>(
         (placed_nodes f.nodes.items) f.times (ways_of ways.now) (ways_of f.ways)) }
 {
     match opening.times {
-        Times::If => return follow_once(alloc, Times::If, number, body, ways, heads),
-        Times::Whether => return follow_once(alloc, Times::Whether, number, body, ways, heads),
+        Times::If => return follow_once(alloc, Times::If, number, body, next, ways, heads),
+        Times::Whether => return follow_once(
+            alloc,
+            Times::Whether,
+            number,
+            body,
+            next,
+            ways,
+            heads,
+        ),
         Times::Each | Times::Once => {}
     }
     match heads.known(number) {
-        Known::Nothing => follow_new(alloc, opening.position, number, body, ways, heads),
-        Known::Repeated => follow_again(alloc, opening.position, number, body, ways, heads),
-        Known::Once => follow_once(alloc, Times::Once, number, body, ways, heads),
+        Known::Nothing => follow_new(alloc, opening.position, number, body, next, ways, heads),
+        Known::Repeated => follow_again(alloc, opening.position, number, body, next, ways, heads),
+        Known::Once => follow_once(alloc, Times::Once, number, body, next, ways, heads),
     }
 }
 
@@ -117,6 +172,7 @@ fn follow_once<'a, A: Allocator + Copy>(
     times: Times,
     number: usize,
     body: &Vec<Node<'a, Asked<'a>, A>, A>,
+    next: &[u8],
     ways: &Ways<A>,
     heads: &mut Heads<A>,
 ) -> Result<FollowedBody<'a, A>, ViewFault>
@@ -126,7 +182,7 @@ fn follow_once<'a, A: Allocator + Copy>(
         (placed_nodes f.nodes.items) f.times (ways_of ways.now) (ways_of f.ways)) }
 {
     let mut out = ways.copy()?;
-    let nodes = follow(alloc, Entry::Body(number), body, &mut out, heads)?;
+    let nodes = follow(alloc, Entry::Body(number), body, next, &mut out, heads)?;
     Ok(FollowedBody {
         times,
         nodes,
@@ -141,6 +197,7 @@ fn follow_new<'a, A: Allocator + Copy>(
     position: Position,
     number: usize,
     body: &Vec<Node<'a, Asked<'a>, A>, A>,
+    next: &[u8],
     ways: &Ways<A>,
     heads: &mut Heads<A>,
 ) -> Result<FollowedBody<'a, A>, ViewFault>
@@ -149,7 +206,7 @@ fn follow_new<'a, A: Allocator + Copy>(
         (placed_nodes f.nodes.items) f.times (ways_of ways.now) (ways_of f.ways)) }
 {
     let first = heads.next();
-    let once = follow_once(alloc, Times::Once, number, body, ways, heads)?;
+    let once = follow_once(alloc, Times::Once, number, body, next, ways, heads)?;
     if ways.has_all(&once.ways) {
         heads.note_repeated(number, None);
         return Ok(FollowedBody {
@@ -163,7 +220,9 @@ fn follow_new<'a, A: Allocator + Copy>(
     match head.add_all(&once.ways, position) {
         Ok(()) => {
             heads.go_to(first);
-            if let Some(repeated) = follow_rounds(alloc, position, number, body, head, heads)? {
+            if let Some(repeated) = follow_rounds(
+                alloc, position, number, body, next, head, heads,
+            )? {
                 return Ok(repeated);
             }
         }
@@ -182,6 +241,7 @@ fn follow_again<'a, A: Allocator + Copy>(
     position: Position,
     number: usize,
     body: &Vec<Node<'a, Asked<'a>, A>, A>,
+    next: &[u8],
     ways: &Ways<A>,
     heads: &mut Heads<A>,
 ) -> Result<FollowedBody<'a, A>, ViewFault>
@@ -197,7 +257,9 @@ fn follow_again<'a, A: Allocator + Copy>(
     };
     match is_known {
         Ok(()) => {
-            if let Some(repeated) = follow_rounds(alloc, position, number, body, head, heads)? {
+            if let Some(repeated) = follow_rounds(
+                alloc, position, number, body, next, head, heads,
+            )? {
                 return Ok(repeated);
             }
         }
@@ -205,7 +267,7 @@ fn follow_again<'a, A: Allocator + Copy>(
         Err(_) => {}
     }
     heads.go_to(first);
-    let once = follow_once(alloc, Times::Once, number, body, ways, heads)?;
+    let once = follow_once(alloc, Times::Once, number, body, next, ways, heads)?;
     heads.note_once(number);
     Ok(once)
 }
@@ -218,6 +280,7 @@ fn follow_rounds<'a, A: Allocator + Copy>(
     position: Position,
     number: usize,
     body: &Vec<Node<'a, Asked<'a>, A>, A>,
+    next: &[u8],
     ways: Ways<A>,
     heads: &mut Heads<A>,
 ) -> Result<Option<FollowedBody<'a, A>>, ViewFault>
@@ -229,7 +292,7 @@ fn follow_rounds<'a, A: Allocator + Copy>(
     let mut head = ways;
     for _round in 0..MOST_WAYS {
         heads.go_to(first);
-        let round = match follow_once(alloc, Times::Once, number, body, &head, heads) {
+        let round = match follow_once(alloc, Times::Once, number, body, next, &head, heads) {
             Ok(round) => round,
             Err(ViewFault::Memory) => return Err(ViewFault::Memory),
             Err(_) => return Ok(None),

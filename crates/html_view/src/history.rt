@@ -1,4 +1,5 @@
 //! Which sections stand on a way, and which do not.
+use crate::faults::Position;
 use std::alloc::{AllocError, Allocator};
 
 /// Where nodes begin.
@@ -29,6 +30,7 @@ pub(crate) struct History<A: Allocator> {
     alloc: A,
     steps: Vec<Step, A>,
     refused: usize,
+    slot: Position,
 }
 
 impl<A: Allocator + Copy> History<A> {
@@ -38,6 +40,7 @@ impl<A: Allocator + Copy> History<A> {
             alloc,
             steps: Vec::new(alloc),
             refused: 0,
+            slot: Position { text: 0, byte: 0 },
         }
     }
 
@@ -59,9 +62,15 @@ impl<A: Allocator + Copy> History<A> {
         }
     }
 
-    /// The way with this last step is refused.
-    pub(crate) fn refuse(&mut self, last: usize) {
+    /// The way with this last step and this last slot is refused.
+    pub(crate) fn refuse(&mut self, last: usize, slot: Position) {
         self.refused = last;
+        self.slot = slot;
+    }
+
+    /// The last slot of the way that was refused.
+    pub(crate) fn slot_of_refused(&self) -> Position {
+        self.slot
     }
 
     /// The steps of the way that was refused, from its last one to its first one.

@@ -131,18 +131,21 @@ pub(crate) fn refused<'a, A: Allocator + Copy>(
 ) -> Refused<A>
     ensures { Shows (asked_nodes nodes.now.items node.End) result.standing.items result.fault }
 {
-    let position = match fault {
-        ViewFault::Part(position, _) => position,
-        ViewFault::Unfinished => Position { text: 0, byte: 0 },
+    match fault {
+        ViewFault::Part(_, _) | ViewFault::Unfinished => {}
         ViewFault::Tag(_, _) => return without(alloc, fault),
         ViewFault::Ambiguous(_) => return without(alloc, fault),
         ViewFault::TooManyWays(_) => return without(alloc, fault),
         ViewFault::Memory => return without(alloc, fault),
-    };
+    }
     match retraced(alloc, nodes, heads) {
         Ok(Some(refused)) => refused,
-        // There is always one.
-        Ok(None) => without(alloc, ViewFault::Ambiguous(position)),
+        // There is one, but where the markup behind a slot with which a URL begins was guessed, and another
+        // stands behind it here.
+        Ok(None) => {
+            let slot = heads.history.slot_of_refused();
+            without(alloc, ViewFault::Ambiguous(slot))
+        }
         Err(_) => without(alloc, ViewFault::Memory),
     }
 }
@@ -193,11 +196,12 @@ fn retrace<'n, 'a, A: Allocator + Copy>(
             continue;
         };
         match node {
-            Node::Markup(text, position) => match way.take_markup(text.as_bytes())? {
+            Node::Markup(text, position) => match way.turn_to_markup(text.as_bytes())? {
                 Ok(()) => trace.add(rest, None)?,
                 Err(why) => return Ok(Some(trace.refused(*position, why))),
             },
-            Node::Slot(slot) => match way.take_slot()? {
+            // Whether it is a base is told by the markup that follows it here.
+            Node::Slot(slot) => match way.take_slot(b"")? {
                 Ok(_) => trace.add(rest, None)?,
                 Err(why) => return Ok(Some(trace.refused(slot.position, why))),
             },

@@ -69,7 +69,7 @@ impl<'a, A: Allocator + Copy> View<'a, A> {
             ≡ asked_nodes nodes.now.items node.End) }
     {
         let mut ways = Ways::first(alloc);
-        let nodes = follow(alloc, Entry::Page, nodes, &mut ways, heads)?;
+        let nodes = follow(alloc, Entry::Page, nodes, b"", &mut ways, heads)?;
         if !ways.may_end(&mut heads.history)? {
             return Err(ViewFault::Unfinished);
         }

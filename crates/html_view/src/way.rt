@@ -1,10 +1,13 @@
 //! A way: what may have been read where a node stands.
 ghost use Rattle.std.specs.Prelude.{◌≡◌, IfOk, IsTrue};
 ghost use Rattle.html_view.specs.Following.{Moves, MovesPast, way_of};
-ghost use Rattle.html_view.specs.Ways.{EndsWithin, MayEnd, first_way, way_behind};
+ghost use Rattle.html_urls.specs.Bases.{behind_base};
+ghost use Rattle.html_view.specs.Ways.{EndsWithin, MayEnd, first_way, turned, url_as, way_behind};
 
-use html_template::{OpenUrl, PartFault, PlacedSlot, placed, url_markup};
+use crate::faults::Position;
+use html_template::{OpenUrl, PartFault, PlacedSlot, before, placed, url_markup};
 use html_tokenizer::Reader;
+use html_urls::behind_base;
 use std::alloc::{AllocError, Allocator};
 
 /// The tokenizer, in a URL the markup since the last slot, and what was open of a URL at that slot.
@@ -16,6 +19,8 @@ pub(crate) struct Way<A: Allocator> {
     url: OpenUrl,
     /// The number of its last step.
     pub(crate) last: usize,
+    /// Where its last slot stands.
+    pub(crate) slot: Position,
 }
 
 fn is_same_url(first: OpenUrl, second: OpenUrl) -> bool
@@ -27,7 +32,23 @@ fn is_same_url(first: OpenUrl, second: OpenUrl) -> bool
             place == other && part == another
         }
         (OpenUrl::Whole(place), OpenUrl::Whole(other)) => place == other,
+        (OpenUrl::Front(place, behind), OpenUrl::Front(other, another)) => {
+            place == other && behind == another
+        }
         _ => false,
+    }
+}
+
+// A slot that is a whole URL is a base before markup that goes on with it.
+fn url_as(url: OpenUrl, next: &[u8]) -> OpenUrl
+    ensures { result ≡ url_as url (behind_base next.now) }
+{
+    let OpenUrl::Whole(place) = url else {
+        return url;
+    };
+    match behind_base(next) {
+        Some(behind) => OpenUrl::Front(place, behind),
+        None => url,
     }
 }
 
@@ -42,6 +63,7 @@ impl<A: Allocator + Copy> Way<A> {
             markup: Vec::new(alloc),
             url: OpenUrl::Outside,
             last: 0,
+            slot: Position { text: 0, byte: 0 },
         }
     }
 
@@ -58,6 +80,7 @@ impl<A: Allocator + Copy> Way<A> {
             markup,
             url: self.url,
             last: self.last,
+            slot: self.slot,
         })
     }
 
@@ -103,9 +126,33 @@ impl<A: Allocator + Copy> Way<A> {
         }
     }
 
-    /// Reads a slot.
-    pub(crate) fn take_slot(&mut self) -> Result<Result<PlacedSlot, PartFault>, AllocError>
-        ensures { IfOk result (MovesPast (way_of self.old) (way_of self.new)) }
+    // Whether the slot before is a base is told by this markup, with which a URL goes on that it begins.
+    fn turn(&mut self, bytes: &[u8])
+        ensures { way_of self.new ≡ turned (way_of self.old) bytes.now }
+    {
+        if self.markup.is_empty() {
+            self.url = url_as(self.url, bytes);
+        }
+    }
+
+    /// Reads markup, where it was open whether the slot before is a base.
+    pub(crate) fn turn_to_markup(
+        &mut self,
+        bytes: &[u8],
+    ) -> Result<Result<(), PartFault>, AllocError>
+        ensures { IfOk result (Moves (way_behind (turned (way_of self.old) bytes.now) bytes.now)
+            (way_of self.new)) }
+    {
+        self.turn(bytes);
+        self.take_markup(bytes)
+    }
+
+    /// Reads a slot before this markup.
+    pub(crate) fn take_slot(
+        &mut self,
+        next: &[u8],
+    ) -> Result<Result<PlacedSlot, PartFault>, AllocError>
+        ensures { IfOk result (MovesPast next.now (way_of self.old) (way_of self.new)) }
     {
         if self.reader.is_refused() {
             return Ok(Err(PartFault::Malformed));
@@ -116,7 +163,8 @@ impl<A: Allocator + Copy> Way<A> {
         };
         let standing = self.reader.slot();
         match placed(self.alloc, &self.markup, url, standing)? {
-            Ok(slot) => {
+            Ok(found) => {
+                let slot = before(next, found);
                 self.markup.clear();
                 self.url = slot.url;
                 Ok(Ok(slot))

@@ -1,10 +1,10 @@
 //! The ways that lead to a node.
 ghost use Rattle.std.specs.Prelude.{◌≡◌, ◌∷◌, [], IfOk, IsTrue, Ok, OnOk, map};
-ghost use Rattle.html_view.specs.Following.{ways_of, way_of};
+ghost use Rattle.html_view.specs.Following.{MovedPast, ways_of, way_of};
 ghost use Rattle.html_view.specs.Nodes.{Placed};
 ghost use Rattle.html_view.specs.Takes.{Among, AreAmong, GoesOn, GoesPast};
 ghost use Rattle.html_view.specs.Ways as spec;
-ghost use Rattle.html_view.specs.Ways.{MayEnd, first_way, past_slot, way_behind, way_slot};
+ghost use Rattle.html_view.specs.Ways.{MayEnd, first_way, way_behind};
 
 use crate::faults::{Position, ViewFault};
 use crate::history::{Entry, History};
@@ -27,7 +27,7 @@ pub(crate) struct Ways<A: Allocator> {
 #[derive(Drop)]
 struct Past<A: Allocator> {
     slot: PlacedSlot,
-    next: Ways<A>,
+    ways: Ways<A>,
 }
 
 impl<A: Allocator + Copy> Ways<A> {
@@ -187,9 +187,10 @@ impl<A: Allocator + Copy> Ways<A> {
         Ok(next)
     }
 
-    /// Reads a slot on each of the ways, and tells where it stands on all of them.
+    /// Reads a slot on each of the ways, and tells where it stands on all of them, if this markup follows it.
     pub(crate) fn take_slot(
         &mut self,
+        next: &[u8],
         position: Position,
         history: &mut History<A>,
     ) -> Result<PlacedSlot, ViewFault>
@@ -198,35 +199,36 @@ impl<A: Allocator + Copy> Ways<A> {
             → GoesPast way slot (ways_of self.new)) }
     {
         if self.is_one() {
-            return move_past(&mut self.first, position, history);
+            return move_past(&mut self.first, next, position, history);
         }
-        let past = self.behind_slot(position, history)?;
-        *self = past.next;
+        let past = self.behind_slot(next, position, history)?;
+        *self = past.ways;
         Ok(past.slot)
     }
 
     // The ways behind a slot, and where it stands on all of them.
     fn behind_slot(
         &self,
+        next: &[u8],
         position: Position,
         history: &mut History<A>,
     ) -> Result<Past<A>, ViewFault>
         ensures { IfOk result (λ past. (slot : Placed) → past.slot.place ≡ slot.place
             → past.slot.kind ≡ slot.kind → (way : spec.Way) → Among way (ways_of self.now)
-            → GoesPast way slot (ways_of past.next)) }
+            → GoesPast way slot (ways_of past.ways)) }
     {
         let mut first = self.first.copy()?;
-        let slot = move_past(&mut first, position, history)?;
-        let mut next = Ways::only(self.alloc, first);
+        let slot = move_past(&mut first, next, position, history)?;
+        let mut ways = Ways::only(self.alloc, first);
         for way in &self.others {
             let mut moved = way.copy()?;
-            let other = move_past(&mut moved, position, history)?;
+            let other = move_past(&mut moved, next, position, history)?;
             if !is_same_slot(slot, other) {
                 return Err(ViewFault::Ambiguous(position));
             }
-            next.add(moved, position)?;
+            ways.add(moved, position)?;
         }
-        Ok(Past { slot, next })
+        Ok(Past { slot, ways })
     }
 
     /// Whether a page may end on each of them.
@@ -235,12 +237,12 @@ impl<A: Allocator + Copy> Ways<A> {
             → MayEnd way) }
     {
         if !self.first.may_end()? {
-            history.refuse(self.first.last);
+            history.refuse(self.first.last, self.first.slot);
             return Ok(false);
         }
         for way in &self.others {
             if !way.may_end()? {
-                history.refuse(way.last);
+                history.refuse(way.last, way.slot);
                 return Ok(false);
             }
         }
@@ -299,25 +301,26 @@ fn move_on<A: Allocator + Copy>(
     match way.take_markup(bytes)? {
         Ok(()) => Ok(()),
         Err(why) => {
-            history.refuse(way.last);
+            history.refuse(way.last, way.slot);
             Err(ViewFault::Part(position, why))
         }
     }
 }
 
-// Reads a slot on a way. A fault is that of this way.
+// Reads a slot before this markup on a way. A fault is that of this way.
 fn move_past<A: Allocator + Copy>(
     way: &mut Way<A>,
+    next: &[u8],
     position: Position,
     history: &mut History<A>,
 ) -> Result<PlacedSlot, ViewFault>
-    ensures stands { IfOk result (λ slot. way_slot (way_of way.old) ≡ Ok slot) }
-    ensures past { IfOk result (λ slot. way_of way.new ≡ past_slot (way_of way.old) slot) }
+    ensures { IfOk result (MovedPast next.now (way_of way.old) (way_of way.new)) }
 {
-    match way.take_slot()? {
+    way.slot = position;
+    match way.take_slot(next)? {
         Ok(slot) => Ok(slot),
         Err(why) => {
-            history.refuse(way.last);
+            history.refuse(way.last, way.slot);
             Err(ViewFault::Part(position, why))
         }
     }
@@ -340,6 +343,8 @@ fn is_same_kind(first: SlotKind, second: SlotKind) -> bool
             slot.place == other.place && slot.begins_segment == other.begins_segment
         }
         (SlotKind::Link, SlotKind::Link) | (SlotKind::OwnPath, SlotKind::OwnPath) => true,
+        (SlotKind::Base(behind), SlotKind::Base(other)) => behind == other,
+        (SlotKind::OwnBase(behind), SlotKind::OwnBase(other)) => behind == other,
         _ => false,
     }
 }

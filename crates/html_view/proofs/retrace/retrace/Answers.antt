@@ -7,7 +7,7 @@ use Rattle.html_view.specs.Kept.{asked_nodes, asked_of}
 use Rattle.html_view.specs.Nodes as node
 use Rattle.html_view.specs.Nodes.{Asked, Nodes}
 use Rattle.html_view.specs.Reached.{RefusedWith, Shows}
-use Rattle.html_view.specs.Ways.{EndsWithin, Way, way_behind}
+use Rattle.html_view.specs.Ways.{EndsWithin, Way, turned, way_behind}
 use Rattle.html_view.specs.declared.faults.Position.{Position}
 use Rattle.html_view.specs.declared.faults.Refused.{Refused}
 use Rattle.html_view.specs.declared.faults.ViewFault.TheVariants.{Unfinished}
@@ -15,7 +15,7 @@ use Rattle.html_view.specs.declared.retrace.Trace.{Trace}
 use Rattle.html_view.specs.declared.way.Way as code
 use Rattle.html_view.proofs.Retraced.{Traced, begins_section, empty_of, frame_markup, frame_slot, no_front, shown_end, shown_markup, shown_slot, traced_end, traced_first, traced_led, traced_markup, traced_popped, traced_slot}
 use Rattle.html_view.proofs.retrace.retrace.Goals as goal
-use Rattle.html_view.proofs.retrace.retrace.Goals.{in-Markup+in_ok-take_markup-in-Markup+in-Ok+in_ok-add-in-Ok, in-Slot+in_ok-take_slot-in-Slot+in-Ok-2+in_ok-add-in-Ok-2, in-Section+in-Some-pass+in_ok-stand-in-Some-pass, in-Section+in-None+in_ok-leave_out-in-None}
+use Rattle.html_view.proofs.retrace.retrace.Goals.{in-Markup+in_ok-turn_to_markup-in-Markup+in-Ok+in_ok-add-in-Ok, in-Slot+in_ok-take_slot-in-Slot+in-Ok-2+in_ok-add-in-Ok-2, in-Section+in-Some-pass+in_ok-stand-in-Some-pass, in-Section+in-None+in_ok-leave_out-in-None}
 
 -- the same, by where they come from
 same_trace : {A : Type 0} (nodes : Nodes Asked) (way old_way : code.Way A) (trace old : Trace A) → way ≡ old_way → trace ≡ old →
@@ -74,8 +74,8 @@ returns-in-Err g c =
     c.in-Some.frame _ c.in-Some.ensures.items
     (frame_markup c.in-Some.frame c.node-item.result c.in-Markup.text c.in-Markup.position c.in-len1-up.len_at_least c.node-item.is c.in-Markup.is)
     c.loop-step.invariant in
-    let told : way_behind (way_of c.loop-step.way) c.in-Markup.text.now ≡ Err c.in-Err.why =
-    ap (way_behind (way_of c.loop-step.way)) (sym c.as_bytes.ensures.value) ∙ rw c.in-Err.is at c.in_ok-take_markup-in-Markup.ensures in
+    let told : way_behind (turned (way_of c.loop-step.way) c.in-Markup.text.now) c.in-Markup.text.now ≡ Err c.in-Err.why =
+    ap (λ b. way_behind (turned (way_of c.loop-step.way) b) b) (sym c.as_bytes.ensures.value) ∙ rw c.in-Err.is at c.in_ok-turn_to_markup-in-Markup.ensures in
     subst (λ f. Shows nodes c.refused.result.standing.items f) (sym c.refused.ensures.fault)
     (subst (λ (s : Vec Position _). RefusedWith nodes s.items c.in-Markup.position c.in-Err.why) (sym c.refused.ensures.standing)
     (shown_markup nodes (way_of c.loop-step.way) c.loop-step.trace.standing.items c.in-Markup.text.now _ (work_of c.pop.new.self.items) c.in-Markup.position
@@ -112,16 +112,16 @@ loop-step-preserved g c =
     let nodes : Nodes Asked = asked_nodes c.args.nodes.now node.End in
     let way : Way = way_of c.loop-step.way in
     elim c.match-node.branch [
-      | in-Markup+in_ok-take_markup-in-Markup+in-Ok+in_ok-add-in-Ok w ↦
+      | in-Markup+in_ok-turn_to_markup-in-Markup+in-Ok+in_ok-add-in-Ok w ↦
           let traced = traced_popped nodes way c.loop-step.trace.standing.items c.loop-step.trace.work.items c.pop.new.self.items c.in-Some.frame _
           c.in-Some.ensures.items
           (frame_markup c.in-Some.frame c.node-item.result w.in-Markup.text w.in-Markup.position c.in-len1-up.len_at_least c.node-item.is w.in-Markup.is)
           c.loop-step.invariant in
-          let told : way_behind way w.in-Markup.text.now ≡ Ok (way_of w.take_markup.new.self) =
-          ap (way_behind way) (sym w.as_bytes.ensures.value) ∙ rw w.in-Ok.is at w.in_ok-take_markup-in-Markup.ensures in
+          let told : way_behind (turned way w.in-Markup.text.now) w.in-Markup.text.now ≡ Ok (way_of w.turn_to_markup.new.self) =
+          ap (λ b. way_behind (turned way b) b) (sym w.as_bytes.ensures.value) ∙ rw w.in-Ok.is at w.in_ok-turn_to_markup-in-Markup.ensures in
           same_trace nodes _ _ _ _ w.way'-is w.trace-is
-          (added nodes (way_of w.take_markup.new.self) w.add-in-Ok.new.self _ _ w.in_ok-add-in-Ok.ensures.standing w.in_ok-add-in-Ok.ensures.work
-          (traced_markup nodes way (way_of w.take_markup.new.self) c.loop-step.trace.standing.items w.in-Markup.text.now _ (work_of c.pop.new.self.items)
+          (added nodes (way_of w.turn_to_markup.new.self) w.add-in-Ok.new.self _ _ w.in_ok-add-in-Ok.ensures.standing w.in_ok-add-in-Ok.ensures.work
+          (traced_markup nodes way (way_of w.turn_to_markup.new.self) c.loop-step.trace.standing.items w.in-Markup.text.now _ (work_of c.pop.new.self.items)
           traced told))
       | in-Slot+in_ok-take_slot-in-Slot+in-Ok-2+in_ok-add-in-Ok-2 w ↦
           let traced = traced_popped nodes way c.loop-step.trace.standing.items c.loop-step.trace.work.items c.pop.new.self.items c.in-Some.frame _

@@ -7,4 +7,4 @@ use Rattle.html_view.proofs.ways.Ways.behind_slot.Given as goal
 abbrev pub invariant-loop-way : goal.invariant-loop-way
 invariant-loop-way g l =
     (slot : Placed) → IsFound l.slot slot
-    → AllTaken (λ way. GoesPast way slot (ways_of l.next)) l.self.others.items l.way-index × GoesPast (way_of l.self.first) slot (ways_of l.next)
+    → AllTaken (λ way. GoesPast way slot (ways_of l.ways)) l.self.others.items l.way-index × GoesPast (way_of l.self.first) slot (ways_of l.ways)
