@@ -1,13 +1,15 @@
 -- Where a slot stands in what was read, and where a page may end.
 use Rattle.std.specs.Prelude.{◌≡◌, ⊤, Bool, true, false, ◌&&◌, ◌==◌, if◌then◌else◌}
 use Rattle.html_tokenizer.specs.declared.reader.Standing.{Standing}
-use Rattle.html_tokenizer.specs.declared.reader.Standing.TheVariants.{Stands, InUrl, InLink, Nowhere, Barred}
+use Rattle.html_tokenizer.specs.declared.reader.Standing.TheVariants.{Stands, InUrl, InLink, InScript, Nowhere, Barred}
 use Rattle.html_tokenizer.specs.declared.slot_place.SlotPlace.{SlotPlace}
 use Rattle.html_tokenizer.specs.declared.slot_place.SlotPlace.TheVariants.{Text, DoubleQuoted, SingleQuoted, Unquoted, ScriptSingle, ScriptDouble, StyleSingle, StyleDouble}
 use Rattle.html_tokenizer.specs.declared.states.Code.{Code}
+use Rattle.html_tokenizer.specs.declared.states.Code.TheVariants.{Plain}
 use Rattle.html_tokenizer.specs.declared.elements.Content.{Content}
 use Rattle.html_tokenizer.specs.declared.elements.OpenElement.{OpenElement}
 use Rattle.html_tokenizer.specs.declared.elements.OpenElement.TheVariants as element
+use Rattle.html_tokenizer.specs.Tokenizer.Code.{is_script}
 use Rattle.html_tokenizer.specs.Tokenizer.Code.Escapes.{is_opaque}
 use Rattle.html_tokenizer.specs.Tokenizer.States as state
 use Rattle.html_tokenizer.specs.Tokenizer.States.{State, Attribute, Tokenizer, at_value, refused}
@@ -25,9 +27,18 @@ abbrev pub before_value : Attribute → Standing
 before_value state.Ordinary = Stands Unquoted
 before_value other = Barred
 
--- a slot in code is nowhere, and where the rest takes none, in a second language
-abbrev pub in_code : Code → Standing
-in_code kind = if is_opaque kind then Barred else Nowhere
+abbrev pub is_ordinary : Attribute → Bool
+is_ordinary state.Ordinary = true
+is_ordinary other = false
+
+-- in the code of a script, between words, strings and comments, a string literal is a token of its own
+abbrev pub takes_literal : Code → Content → Attribute → Bool
+takes_literal Plain content attribute = is_script content.element && is_ordinary attribute
+takes_literal other content attribute = false
+
+-- a slot in other code is nowhere, and where the rest takes none, in a second language
+abbrev pub in_code : Code → Content → Attribute → Standing
+in_code kind content attribute = if is_opaque kind then Barred else (if takes_literal kind content attribute then InScript else Nowhere)
 
 -- the text of a `noscript` takes none: where scripts run no reference is read in it
 abbrev pub in_content : OpenElement → Standing → Standing
@@ -38,7 +49,7 @@ in_content other standing = standing
 abbrev pub standing_in : State → Content → Attribute → Standing
 standing_in (state.In p) content attribute = in_content content.element (unless_forbidden attribute p)
 standing_in state.BeforeValue content attribute = before_value attribute
-standing_in (state.InCode kind) content attribute = in_code kind
+standing_in (state.InCode kind) content attribute = in_code kind content attribute
 standing_in other content attribute = Nowhere
 
 abbrev pub standing : Tokenizer → Standing
@@ -70,6 +81,7 @@ abbrev pub AfterStanding : Standing → Tokenizer → Tokenizer → Type 0
 AfterStanding (Stands p) old new = new ≡ state_after_slot p old
 AfterStanding (InUrl p) old new = new ≡ state_after_slot p old
 AfterStanding (InLink p) old new = new ≡ state_after_slot p old
+AfterStanding InScript old new = new ≡ old
 AfterStanding other old new = ⊤
 
 abbrev pub is_refused : State → Bool
@@ -79,10 +91,6 @@ is_refused other = false
 -- text and elements, outside of templates
 abbrev pub is_outside : Content → Bool
 is_outside content = is_normal content.element && content.templates == 0
-
-abbrev pub is_ordinary : Attribute → Bool
-is_ordinary state.Ordinary = true
-is_ordinary other = false
 
 -- a page may end here
 abbrev pub may_end_in : State → Content → Attribute → Bool

@@ -16,6 +16,7 @@ ghost use Rattle.html_tokenizer.specs.declared.states.Kind.TheVariants as kind;
 ghost use Rattle.html_tokenizer.specs.declared.states.Phase.TheVariants as phase;
 
 use crate::code::escapes::is_opaque;
+use crate::code::is_script;
 use crate::code::strings::script_escape_byte;
 use crate::consume::{byte_in, name_byte, text_or_value_byte};
 use crate::elements::{Content, OpenElement};
@@ -35,6 +36,8 @@ pub enum Standing {
     InUrl(SlotPlace),
     /// The same in a URL that its element only shows or follows.
     InLink(SlotPlace),
+    /// In the code of a script, where a string literal would be a token of its own.
+    InScript,
     /// Where a text would be read in a second language.
     Barred,
     /// Where no text may stand.
@@ -447,11 +450,15 @@ impl<A: Allocator> Reader<A> {
             (Phase::BeforeValue, Kind::Ordinary) => Standing::Stands(SlotPlace::Unquoted),
             (Phase::In(_) | Phase::BeforeValue, _) => Standing::Barred,
             (Phase::InCode(code), _) if is_opaque(code) => Standing::Barred,
+            (Phase::InCode(Code::Plain), Kind::Ordinary) if is_script(self.content.element) => {
+                Standing::InScript
+            }
             _ => Standing::Nowhere,
         }
     }
 
-    /// Where a slot stands that comes now; the tokenizer goes on after it, if it is a place.
+    /// Where a slot stands that comes now; the tokenizer goes on after it, if it is a place. In the code of a
+    /// script it stays where it is, as behind a string literal.
     ///
     /// After `<p>` it is `Standing::Stands(SlotPlace::Text)`, and after `<p` it is `Standing::Nowhere`.
     pub fn slot(&mut self) -> Standing
@@ -463,7 +470,7 @@ impl<A: Allocator> Reader<A> {
             Standing::Stands(place) | Standing::InUrl(place) | Standing::InLink(place) => {
                 self.phase = Phase::In(place);
             }
-            Standing::Barred | Standing::Nowhere => {}
+            Standing::InScript | Standing::Barred | Standing::Nowhere => {}
         }
         standing
     }

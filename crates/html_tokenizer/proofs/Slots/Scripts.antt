@@ -1,6 +1,6 @@
 -- What the encoder of a script's strings writes stays in the string, and is read as the text.
 use Rattle.std.proofs.Common.{ℕ, ◌≡◌, ◌≢◌, ◌<◌, ◌≤◌, ◌+◌, ◌/◌, ◌%◌, true, false, List, [], ◌∷◌, ◌++◌, ◌==◌, ◌-◌, ◌⊎◌, inl, inr, IsUtf8, flat_map, map, chars, codes, encode_utf8, encode_utf8_all, refl, subst, ◌∙◌, ⊎_elim, arith, ne_eqb}
-use Rattle.std.proofs.lemmas.Bool.{cases_Bool, cases_eq, cases_lt, lt-leb}
+use Rattle.std.proofs.lemmas.Bool.{cases_Bool, cases_eq, cases_lt, false≢true, lt-leb}
 use Rattle.std.proofs.lemmas.Bool.Decides.{nat_tests}
 use Rattle.std.proofs.lemmas.List.{map-append}
 use Rattle.std.proofs.lemmas.Str.{encodes-chars}
@@ -13,10 +13,14 @@ use Rattle.hesc_grammars.proofs.HexEscapes.{is_digit-hex_digit, digits_value-two
 use Rattle.html_tokenizer.specs.declared.slot_place.SlotPlace.{SlotPlace}
 use Rattle.html_tokenizer.specs.declared.slot_place.SlotPlace.TheVariants as place
 use Rattle.html_tokenizer.specs.declared.elements.Content.{Content}
-use Rattle.html_tokenizer.specs.Tokenizer.Actions.{Action, read_byte}
+use Rattle.html_tokenizer.specs.declared.elements.OpenElement.{OpenElement}
+use Rattle.html_tokenizer.specs.declared.elements.OpenElement.TheVariants as element
+use Rattle.html_tokenizer.specs.declared.states.Code.TheVariants.{Plain}
+use Rattle.html_tokenizer.specs.Tokenizer.Actions.{Action, StringEnd, StringStart, read_byte}
+use Rattle.html_tokenizer.specs.Tokenizer.Code.{is_script}
 use Rattle.html_tokenizer.specs.Tokenizer.Code.Comments.{ends_line}
 use Rattle.html_tokenizer.specs.Tokenizer.Code.Strings.{script_escape_byte}
-use Rattle.html_tokenizer.specs.Tokenizer.States.{In, Within, Ordinary, at}
+use Rattle.html_tokenizer.specs.Tokenizer.States.{In, InCode, Within, Ordinary, at}
 use Rattle.html_tokenizer.specs.Tokenizer.Tokenization.{consume}
 use Rattle.html_tokenizer.specs.Tokenizer.Transitions.{goes}
 use Rattle.html_tokenizer.proofs.Passing.{Passes, passes_none, passes_both, passes_byte, passes_one}
@@ -146,3 +150,21 @@ script_double_reads content = record {
   within = λ word b. refl;
   escapes = λ c kept. grind (arith, nat_tests);
 }
+
+-- ---- a string literal in the code of a script
+
+literal_begins : (element : OpenElement) (templates : ℕ) → is_script element ≡ true →
+    consume (at (InCode Plain) (record { element = element; templates = templates })) double_quote
+    ≡ goes (In place.ScriptDouble) (record { element = element; templates = templates }) (StringStart ∷ [])
+unfolding consume
+literal_begins element.Script templates is = refl
+literal_begins other templates is = absurd (false≢true is)
+
+-- what the encoder writes between two `"` is the literal of the text, behind which the code goes on as before it
+pub literal_passes : (content : Content) (text : List ℕ) → is_script content.element ≡ true → IsUtf8 text →
+    Passes (at (InCode Plain) content) (double_quote ∷ (string_encoding Script quotes.Double text ++ double_quote ∷ []))
+    (StringStart ∷ (map (read_byte place.ScriptDouble) text ++ StringEnd ∷ [])) (at (InCode Plain) content)
+literal_passes content text is utf8 =
+    let reads = script_double_reads content in
+    passes_byte (literal_begins content.element content.templates is)
+    (passes_both (script_stays reads text utf8) (passes_one (StringEnd ∷ []) (reads.string.bytes double_quote)))

@@ -5,10 +5,10 @@ use Rattle.html_tokenizer.specs.declared.elements.Content.{Content}
 use Rattle.html_tokenizer.specs.declared.elements.OpenElement.{OpenElement}
 use Rattle.html_tokenizer.specs.declared.elements.OpenElement.TheVariants.{NoScript}
 use Rattle.html_tokenizer.specs.declared.reader.Standing.{Standing}
-use Rattle.html_tokenizer.specs.declared.reader.Standing.TheVariants.{InUrl, InLink, Nowhere, Barred}
+use Rattle.html_tokenizer.specs.declared.reader.Standing.TheVariants.{InUrl, InLink, InScript, Nowhere, Barred}
 use Rattle.html_tokenizer.specs.declared.slot_place.SlotPlace.{SlotPlace}
 use Rattle.html_tokenizer.specs.declared.slot_place.SlotPlace.TheVariants.{Unquoted}
-use Rattle.html_tokenizer.specs.Standing.{before_value, in_content, is_same, standing, standing_in, unless_forbidden}
+use Rattle.html_tokenizer.specs.Standing.{before_value, in_content, is_same, standing, standing_in, takes_literal, unless_forbidden}
 use Rattle.html_tokenizer.specs.Tokenizer.Code.Escapes.{is_opaque}
 use Rattle.html_tokenizer.specs.Tokenizer.States.{Attribute, BeforeValue, In, InCode, Link, Ordinary, State, Tokenizer, Url, Within, at_value}
 use Rattle.html_tokenizer.specs.Tokenizer.Tokenization.{state_after}
@@ -47,9 +47,10 @@ before_none : (p : SlotPlace) (attribute : Attribute) → in_url p (before_value
 before_none p Ordinary = refl
 before_none p other = refl
 
-in_code_none : (p : SlotPlace) (opaque : Bool) → in_url p (if opaque then Barred else Nowhere) ≡ false
-in_code_none p true = refl
-in_code_none p false = refl
+in_code_none : (p : SlotPlace) (opaque literal : Bool) → in_url p (if opaque then Barred else (if literal then InScript else Nowhere)) ≡ false
+in_code_none p true literal = refl
+in_code_none p false true = refl
+in_code_none p false false = refl
 
 stands_in : (p : SlotPlace) (s : State) (content : Content) (attribute : Attribute) → in_url p (standing_in s content attribute) ≡ true →
     AtUrl p (at_value s content attribute)
@@ -57,7 +58,7 @@ stands_in p (In q) content attribute is =
     let found = forbids_none p q attribute (within_content p content.element (unless_forbidden attribute q) is) in
     record { url = found.url; at = inside_at p (In q) found.same }
 stands_in p BeforeValue content attribute is = absurd (true≢false (sym is ∙ before_none p attribute))
-stands_in p (InCode kind) content attribute is = absurd (true≢false (sym is ∙ in_code_none p (is_opaque kind)))
+stands_in p (InCode kind) content attribute is = absurd (true≢false (sym is ∙ in_code_none p (is_opaque kind) (takes_literal kind content attribute)))
 stands_in p other content attribute is = absurd (false≢true is)
 
 pub stands_in_url : (p : SlotPlace) (u : Tokenizer) → in_url p (standing u) ≡ true → AtUrl p u
