@@ -26,6 +26,7 @@ takes_any p kind.Link text none = never none
 takes_any p kind.OwnPath text none = never none
 takes_any p (kind.Base behind) text none = never none
 takes_any p (kind.OwnBase behind) text none = never none
+takes_any p kind.Literal text none = refl
 
 -- neither this slot nor one behind it is checked
 record AreFree (here others : Bool) : Type 0 where

@@ -56,6 +56,7 @@ none_fits p (kind.OwnBase behind) text is = elim (cases_Bool (is_own_base behind
   | inl own ↦ own
   | inr not ↦ absurd (let clash = rw not at is in cc)
 ]
+none_fits p kind.Literal text is = tt
 
 fits_none : (p : SlotPlace) (kind : SlotKind) (text : List ℕ) → MayFill p kind text → text_fault p kind text ≡ None
 fits_none place.Unquoted kind.Text [] may = absurd (may refl)
@@ -66,6 +67,7 @@ fits_none p kind.Link text may = rw may refl
 fits_none p kind.OwnPath text may = rw may refl
 fits_none p (kind.Base behind) text may = rw may refl
 fits_none p (kind.OwnBase behind) text may = rw may refl
+fits_none p kind.Literal text may = refl
 
 pub fits : (p : SlotPlace) (kind : SlotKind) (text : List ℕ) → (text_fault p kind text ≡ None) ↔ MayFill p kind text
 fits p kind text = (none_fits p kind text, fits_none p kind text)

@@ -28,11 +28,13 @@ slot_first rest piece slot texts more text some first is texts_are =
     ap (λ l. page (map chunk_of l) texts) (first_of rest piece some first ∙ ap (λ p. p ∷ drop 1 rest) is)
     ∙ ap (λ t. page (chunk_of (stored.Slot slot) ∷ map chunk_of (drop 1 rest)) t) texts_are
 
--- a text that is no part of a URL is written by the encoder of its place
-pub written_encoded : (p : SlotPlace) (k : SlotKind) (text : List ℕ) → ((slot : UrlSlot) → k ≡ kind.UrlPart slot → ⊥) → written p k text ≡ encoded (encoder_for p) text
-written_encoded p kind.Text text other = refl
-written_encoded p kind.Link text other = refl
-written_encoded p kind.OwnPath text other = refl
-written_encoded p (kind.Base behind) text other = refl
-written_encoded p (kind.OwnBase behind) text other = refl
-written_encoded p (kind.UrlPart slot) text other = absurd (other slot refl)
+-- a text that is no part of a URL, and no string literal, is written by the encoder of its place
+pub written_encoded : (p : SlotPlace) (k : SlotKind) (text : List ℕ) → ((slot : UrlSlot) → k ≡ kind.UrlPart slot → ⊥) → (k ≡ kind.Literal → ⊥) →
+    written p k text ≡ encoded (encoder_for p) text
+written_encoded p kind.Text text other no_literal = refl
+written_encoded p kind.Link text other no_literal = refl
+written_encoded p kind.OwnPath text other no_literal = refl
+written_encoded p (kind.Base behind) text other no_literal = refl
+written_encoded p (kind.OwnBase behind) text other no_literal = refl
+written_encoded p kind.Literal text other no_literal = absurd (no_literal refl)
+written_encoded p (kind.UrlPart slot) text other no_literal = absurd (other slot refl)

@@ -5,6 +5,7 @@ use Rattle.html_template.specs.declared.open_url.OpenUrl.TheVariants.{Outside, W
 use Rattle.html_template.specs.declared.open_url.PlacedSlot.{PlacedSlot}
 use Rattle.html_template.specs.TemplateFaults.{Told, Walk, at_beginning, behind_markup, behind_slot, is_template, is_told, next_markup, pieces_from, placed, slot_at, template_of, told_chunks}
 use Rattle.html_template.specs.OpenUrls.{before, begun, url_markup}
+use Rattle.html_template.specs.Slots.{past_slot}
 use Rattle.html_template.specs.Templates.{Chunk, Given, GivenMarkup, GivenSlot, Markup, Slot, after_slot}
 use Rattle.html_tokenizer.specs.Standing.{is_refused, standing}
 use Rattle.html_tokenizer.specs.declared.slot_place.SlotPlace.{SlotPlace}
@@ -15,7 +16,7 @@ use Rattle.html_tokenizer.specs.Tokenizer.States.{data_state}
 use Rattle.html_tokenizer.proofs.UrlValues.Slots.Tame.{IsTame, data_state_is_tame, tame_after}
 use Rattle.html_template.proofs.MayEnd.{ends_in_data}
 use Rattle.html_template.proofs.PageUrls.OpenPlaces.{OpenStands, markup_stands, none_open, slot_stands}
-use Rattle.html_template.proofs.PageUrls.SlotSteps.{past_slot, tame_behind}
+use Rattle.html_template.proofs.PageUrls.SlotSteps.{tame_behind}
 use Rattle.html_template.proofs.Pieces.{at_end, at_markup, at_slot}
 use Rattle.html_template.proofs.Walks.{before_suits}
 
@@ -69,8 +70,8 @@ begins_where : (number : ℕ) (walk : Walk) (parts : List Given) (chunks : List 
     template_of parts ≡ Ok chunks → pieces_from number walk parts ≡ Ok chunks
 begins_where number walk parts chunks ended closed told = rw (ended, closed) (begins_anew number walk.markup parts chunks told)
 
-told_behind_slot : (walk : Walk) (slot : PlacedSlot) → after_slot slot.place slot.kind walk.tokenizer ≡ past_slot walk.tokenizer slot.place →
-    IsTame (past_slot walk.tokenizer slot.place) → OpenStands slot.url (past_slot walk.tokenizer slot.place) →
+told_behind_slot : (walk : Walk) (slot : PlacedSlot) → after_slot slot.place slot.kind walk.tokenizer ≡ past_slot slot.place slot.kind walk.tokenizer →
+    IsTame (past_slot slot.place slot.kind walk.tokenizer) → OpenStands slot.url (past_slot slot.place slot.kind walk.tokenizer) →
     IsTame (behind_slot walk slot).tokenizer × OpenStands (behind_slot walk slot).url (behind_slot walk slot).tokenizer
 told_behind_slot walk slot goes tame stands = (subst IsTame (sym goes) tame, subst (OpenStands slot.url) (sym goes) stands)
 
@@ -123,7 +124,7 @@ joined_from number walk (GivenSlot ∷ first) second one two told tame stands ne
     let here = at_slot number walk first one told in
     let slot : PlacedSlot = before (next_markup first) here.found in
     let suited = (before_suits (next_markup first) walk.markup walk.url (standing walk.tokenizer) here.found here.placed).suited in
-    let goes : after_slot slot.place slot.kind walk.tokenizer ≡ past_slot walk.tokenizer slot.place = rw suited refl in
+    let goes : after_slot slot.place slot.kind walk.tokenizer ≡ past_slot slot.place slot.kind walk.tokenizer = rw suited refl in
     let behind = told_behind_slot walk slot goes (tame_behind (next_markup first) walk.markup walk.url walk.tokenizer here.found tame here.placed)
     (slot_stands (next_markup first) walk.markup walk.url walk.tokenizer (standing walk.tokenizer) here.found refl here.placed) in
     let ends : first ≡ [] → (before [] here.found).url ≡ Outside = λ none. last_told (number + 1) walk here.found first here.rest none here.told behind.0 behind.1 in

@@ -2,12 +2,14 @@
 use Rattle.std.proofs.Common.{ℕ, ◌≡◌, false, List, [], ◌∷◌, ◌++◌, map, IsUtf8, refl, sym, ap, ◌∙◌}
 use Rattle.std.specs.List.{AllByRecursion}
 use Rattle.std.proofs.lemmas.List.Elements.{filter-append}
+use Rattle.html_template.specs.declared.parts.SlotKind.{SlotKind}
+use Rattle.html_template.specs.declared.parts.SlotKind.TheVariants as kind
 use Rattle.html_tokenizer.specs.declared.slot_place.SlotPlace.{SlotPlace}
 use Rattle.html_tokenizer.specs.declared.slot_place.SlotPlace.TheVariants.{Text, DoubleQuoted, SingleQuoted, Unquoted, ScriptSingle, ScriptDouble, StyleSingle, StyleDouble}
-use Rattle.html_tokenizer.specs.Tokenizer.Actions.{Action, read_byte}
+use Rattle.html_tokenizer.specs.Tokenizer.Actions.{Action, StringEnd, StringStart, read_byte}
 use Rattle.html_tokenizer.specs.Tokenizer.States.{Tokenizer, data_state}
 use Rattle.html_template.specs.Structure.{is_structure, structure, IsReadAs}
-use Rattle.html_template.specs.Templates.{Chunk, Markup, Slot, Fill, after_slot, handed, page, actions_all, state_after_all}
+use Rattle.html_template.specs.Templates.{Chunk, Markup, Slot, Fill, after_slot, handed, page, actions_all, slot_actions, state_after_all}
 use Rattle.html_tokenizer.specs.Tokenizer.Tokenization.{state_after, actions_of}
 use Rattle.html_tokenizer.proofs.Passing.{actions_of-append, state_after-append}
 use Rattle.html_template.proofs.TemplateLaw.{pieces_pass}
@@ -29,6 +31,11 @@ structure-text : (p : SlotPlace) (text : List ℕ) → structure (map (read_byte
 structure-text p [] = refl
 structure-text p (b ∷ text) = rw (no_structure p b) (structure-text p text)
 
+structure-slot : (kind : SlotKind) (read : List Action) → structure read ≡ [] → structure (slot_actions kind read) ≡ structure (slot_actions kind [])
+structure-slot kind.Literal read none =
+    ap (λ x. StringStart ∷ x) (structure-append read (StringEnd ∷ []) ∙ ap (λ x. x ++ structure (StringEnd ∷ [])) none)
+structure-slot other read none = none
+
 -- the structure of a template with any texts is that with none
 structure_alone : (chunks : List Chunk) (t : Tokenizer) (texts : List (List ℕ)) →
     structure (actions_all t chunks texts) ≡ structure (actions_all t chunks [])
@@ -39,9 +46,11 @@ structure_alone (Markup bytes ∷ chunks) t texts =
     ∙ sym (structure-append (actions_of t bytes) (actions_all (state_after t bytes) chunks []))
 structure_alone (Slot p kind ∷ chunks) t [] = refl
 structure_alone (Slot p kind ∷ chunks) t (text ∷ texts) =
-    structure-append (map (read_byte p) (handed p kind text)) (actions_all (after_slot p kind t) chunks texts)
-    ∙ ap (λ x. x ++ structure (actions_all (after_slot p kind t) chunks texts)) (structure-text p (handed p kind text))
-    ∙ structure_alone chunks (after_slot p kind t) texts
+    let read : List Action = map (read_byte p) (handed p kind text) in
+    structure-append (slot_actions kind read) (actions_all (after_slot p kind t) chunks texts)
+    ∙ ap (λ x. x ++ structure (actions_all (after_slot p kind t) chunks texts)) (structure-slot kind read (structure-text p (handed p kind text)))
+    ∙ ap (λ x. structure (slot_actions kind []) ++ x) (structure_alone chunks (after_slot p kind t) texts)
+    ∙ sym (structure-append (slot_actions kind []) (actions_all (after_slot p kind t) chunks []))
 
 pub structure_of_page : (chunks : List Chunk) (texts : List (List ℕ)) → state_after_all data_state chunks ≡ data_state →
     Fill chunks texts → AllByRecursion IsUtf8 texts →

@@ -1,34 +1,36 @@
 -- The law of templates: piece by piece.
 use Rattle.std.proofs.Common.{ℕ, ◌≡◌, Bool, true, false, if◌then◌else◌, List, [], ◌∷◌, IsUtf8, map, refl, sym, ap, ◌∙◌, ⊎_elim}
 use Rattle.std.specs.List.{AllByRecursion}
-use Rattle.std.proofs.lemmas.Bool.{and_parts, cases_Bool}
+use Rattle.std.proofs.lemmas.Bool.{and_parts, cases_Bool, true≢false}
 use Rattle.html_escape.specs.Encoders.{encoded}
 use Rattle.hesc_places.specs.Places.ReadBack.{read_back}
 use Rattle.html_tokenizer.specs.declared.slot_place.SlotPlace.{SlotPlace}
 use Rattle.html_tokenizer.specs.declared.slot_place.SlotPlace.TheVariants as place
 use Rattle.html_tokenizer.specs.declared.states.Code.{Code}
+use Rattle.html_tokenizer.specs.declared.states.Code.TheVariants.{Plain}
 use Rattle.html_tokenizer.specs.declared.elements.Content.{Content}
 use Rattle.html_tokenizer.specs.declared.elements.OpenElement.{OpenElement}
 use Rattle.html_tokenizer.specs.declared.elements.OpenElement.TheVariants.{NoScript}
 use Rattle.html_tokenizer.specs.Tokenizer.Actions.{read_byte}
+use Rattle.html_tokenizer.specs.Tokenizer.Code.{is_script}
 use Rattle.html_tokenizer.specs.Tokenizer.Code.Escapes.{is_opaque}
 use Rattle.html_tokenizer.specs.Tokenizer.States as state
 use Rattle.html_tokenizer.specs.Tokenizer.States.{State, Attribute, Ordinary, Url, Tokenizer, In, BeforeValue, Refused, InCode, at, at_value, refused, data_state}
 use Rattle.html_tokenizer.specs.declared.reader.Standing.{Standing}
-use Rattle.html_tokenizer.specs.declared.reader.Standing.TheVariants.{Barred, InLink, InUrl, Nowhere, Stands}
-use Rattle.html_tokenizer.specs.Standing.{in_code, in_content, is_same, unless_forbidden, standing_in, standing}
+use Rattle.html_tokenizer.specs.declared.reader.Standing.TheVariants.{Barred, InLink, InScript, InUrl, Nowhere, Stands}
+use Rattle.html_tokenizer.specs.Standing.{in_code, in_content, is_same, takes_literal, unless_forbidden, standing_in, standing}
 use Rattle.html_tokenizer.specs.UrlValues.{is_url}
 use Rattle.html_template.specs.declared.parts.SlotKind.{SlotKind}
-use Rattle.html_template.specs.declared.parts.SlotKind.TheVariants.{Text, UrlPart, Link, OwnPath, Base, OwnBase}
+use Rattle.html_template.specs.declared.parts.SlotKind.TheVariants.{Text, UrlPart, Link, OwnPath, Base, OwnBase, Literal}
 use Rattle.html_template.specs.declared.parts.SlotKind.TheVariants as kind
-use Rattle.html_template.specs.Slots.{FitsPlace, base_kind, is_quoted, suits, whole_kind}
+use Rattle.html_template.specs.Slots.{FitsPlace, base_kind, is_quoted, suits, whole_kind, past_slot, slot_actions}
 use Rattle.html_template.specs.Templates.{Chunk, Markup, Slot, after_slot, encoder_for, handed, state_after_all, page, actions_all, MayFill, Fill, written}
 use Rattle.html_tokenizer.specs.Tokenizer.Tokenization.{state_after}
 use Rattle.html_tokenizer.proofs.Slots.Html.{Remains, text_stays, double_stays, double_stays_in, single_stays, single_stays_in, unquoted_stays, first_stays}
 use Rattle.html_tokenizer.proofs.UrlValues.Attributes.{byte_settled, reference_settled}
 use Rattle.html_tokenizer.proofs.UrlValues.Slots.Components.{component_stays, is_component_byte}
 use Rattle.html_tokenizer.proofs.Passing.{Passes, passes_itself, passes_both, stays_refused}
-use Rattle.html_tokenizer.proofs.Slots.Scripts.{script_stays, script_single_reads, script_double_reads}
+use Rattle.html_tokenizer.proofs.Slots.Scripts.{literal_passes, script_stays, script_single_reads, script_double_reads}
 use Rattle.url.proofs.InputLemmas.{list_all_from_All}
 use Rattle.html_urls.proofs.Components.{component_bytes}
 use Rattle.html_urls.specs.Components.{component}
@@ -40,22 +42,37 @@ use Rattle.html_tokenizer.proofs.Slots.Styles.{style_stays, style_single_reads, 
 no : false ≡ true → ⊥
 no h = cc
 
-no_place : (kind : SlotKind) (p : SlotPlace) (b : Bool) → suits kind p (if b then Barred else Nowhere) ≡ false
-no_place Text p true = refl
-no_place Text p false = refl
-no_place (UrlPart slot) p true = refl
-no_place (UrlPart slot) p false = refl
-no_place Link p true = refl
-no_place Link p false = refl
-no_place OwnPath p true = refl
-no_place OwnPath p false = refl
-no_place (Base behind) p true = refl
-no_place (Base behind) p false = refl
-no_place (OwnBase behind) p true = refl
-no_place (OwnBase behind) p false = refl
+-- in code stands a string literal alone
+abbrev is_literal : SlotKind → Bool
+is_literal Literal = true
+is_literal other = false
 
-no_code : (kind : SlotKind) (p : SlotPlace) (code : Code) → suits kind p (in_code code) ≡ false
-no_code kind p code = no_place kind p (is_opaque code)
+no_place : (kind : SlotKind) (p : SlotPlace) (opaque literal : Bool) → is_literal kind ≡ false →
+    suits kind p (if opaque then Barred else (if literal then InScript else Nowhere)) ≡ false
+no_place Literal p opaque literal no_literal = absurd (true≢false no_literal)
+no_place Text p true literal no_literal = refl
+no_place Text p false true no_literal = refl
+no_place Text p false false no_literal = refl
+no_place (UrlPart slot) p true literal no_literal = refl
+no_place (UrlPart slot) p false true no_literal = refl
+no_place (UrlPart slot) p false false no_literal = refl
+no_place Link p true literal no_literal = refl
+no_place Link p false true no_literal = refl
+no_place Link p false false no_literal = refl
+no_place OwnPath p true literal no_literal = refl
+no_place OwnPath p false true no_literal = refl
+no_place OwnPath p false false no_literal = refl
+no_place (Base behind) p true literal no_literal = refl
+no_place (Base behind) p false true no_literal = refl
+no_place (Base behind) p false false no_literal = refl
+no_place (OwnBase behind) p true literal no_literal = refl
+no_place (OwnBase behind) p false true no_literal = refl
+no_place (OwnBase behind) p false false no_literal = refl
+
+no_code : (kind : SlotKind) (p : SlotPlace) (code : Code) (content : Content) (attribute : Attribute) → is_literal kind ≡ false →
+    suits kind p (in_code code content attribute) ≡ true → ⊥
+no_code kind p code content attribute no_literal may =
+    no (sym (no_place kind p (is_opaque code) (takes_literal code content attribute) no_literal) ∙ may)
 
 in_any : (kind : SlotKind) (p : SlotPlace) (element : OpenElement) (standing : Standing) →
     suits kind p (in_content element standing) ≡ true → suits kind p standing ≡ true
@@ -65,6 +82,7 @@ in_any Link p NoScript standing may = absurd (no may)
 in_any OwnPath p NoScript standing may = absurd (no may)
 in_any (Base behind) p NoScript standing may = absurd (no may)
 in_any (OwnBase behind) p NoScript standing may = absurd (no may)
+in_any Literal p NoScript standing may = absurd (no may)
 in_any kind p other standing may = may
 
 -- ---- a slot for a text
@@ -76,7 +94,7 @@ slot_ordinary p (In q) content Ordinary may = refl
 slot_ordinary p (In q) content other may = absurd (no (in_any Text p content.element (unless_forbidden other q) may))
 slot_ordinary p BeforeValue content Ordinary may = refl
 slot_ordinary p BeforeValue content other may = absurd (no may)
-slot_ordinary p (InCode code) content attribute may = absurd (no (sym (no_code Text p code) ∙ may))
+slot_ordinary p (InCode code) content attribute may = absurd (no_code Text p code content attribute refl may)
 slot_ordinary p elsewhere content attribute may = absurd (no may)
 
 -- where a slot stands, in any content
@@ -101,7 +119,7 @@ ordinary_passes place.ScriptSingle (In place.ScriptSingle) content text may full
 ordinary_passes place.ScriptDouble (In place.ScriptDouble) content text may full utf8 = script_stays (script_double_reads content) text utf8
 ordinary_passes place.StyleSingle (In place.StyleSingle) content text may full utf8 = style_stays (style_single_reads content) text utf8
 ordinary_passes place.StyleDouble (In place.StyleDouble) content text may full utf8 = style_stays (style_double_reads content) text utf8
-ordinary_passes p (InCode code) content text may full utf8 = absurd (no (sym (no_code Text p code) ∙ may))
+ordinary_passes p (InCode code) content text may full utf8 = absurd (no_code Text p code content Ordinary refl may)
 ordinary_passes other elsewhere content text may full utf8 = absurd (no may)
 
 text_passes : (p : SlotPlace) (state : State) (content : Content) (attribute : Attribute) (text : List ℕ) →
@@ -127,7 +145,7 @@ part_in_url slot p (In q) content state.Link may =
 part_in_url slot p (In q) content other may = absurd (no (in_any (UrlPart slot) p content.element (unless_forbidden other q) may))
 part_in_url slot p BeforeValue content Ordinary may = absurd (no may)
 part_in_url slot p BeforeValue content other may = absurd (no may)
-part_in_url slot p (InCode code) content attribute may = absurd (no (sym (no_code (UrlPart slot) p code) ∙ may))
+part_in_url slot p (InCode code) content attribute may = absurd (no_code (UrlPart slot) p code content attribute refl may)
 part_in_url slot p elsewhere content attribute may = absurd (no may)
 
 -- and in quotes
@@ -144,7 +162,7 @@ link_in_url p (In q) content state.Link may =
 link_in_url p (In q) content other may = absurd (no (in_any kind.Link p content.element (unless_forbidden other q) may))
 link_in_url p BeforeValue content Ordinary may = absurd (no may)
 link_in_url p BeforeValue content other may = absurd (no may)
-link_in_url p (InCode code) content attribute may = absurd (no (sym (no_code kind.Link p code) ∙ may))
+link_in_url p (InCode code) content attribute may = absurd (no_code kind.Link p code content attribute refl may)
 link_in_url p elsewhere content attribute may = absurd (no may)
 
 own_in_url : (p : SlotPlace) (state : State) (content : Content) (attribute : Attribute) →
@@ -155,7 +173,7 @@ own_in_url p (In q) content Url may =
 own_in_url p (In q) content other may = absurd (no (in_any OwnPath p content.element (unless_forbidden other q) may))
 own_in_url p BeforeValue content Ordinary may = absurd (no may)
 own_in_url p BeforeValue content other may = absurd (no may)
-own_in_url p (InCode code) content attribute may = absurd (no (sym (no_code OwnPath p code) ∙ may))
+own_in_url p (InCode code) content attribute may = absurd (no_code OwnPath p code content attribute refl may)
 own_in_url p elsewhere content attribute may = absurd (no may)
 
 pub whole_in_url : (is_followed : Bool) (p : SlotPlace) (state : State) (content : Content) (attribute : Attribute) →
@@ -182,11 +200,50 @@ quoted_passes place.SingleQuoted content attribute text quoted url =
     single_stays_in (url_remains_so attribute url) content text
 quoted_passes other content attribute text quoted url = absurd (no quoted)
 
+-- ---- a slot for a string literal
+
+-- it stands in the code of a script, between words
+pub record IsInScript (p : SlotPlace) (state : State) (content : Content) (attribute : Attribute) : Type 0 where
+  pub place_is : p ≡ place.ScriptDouble
+  pub state_is : state ≡ InCode Plain
+  pub script : is_script content.element ≡ true
+  pub attribute_is : attribute ≡ Ordinary
+
+in_plain_code : (p : SlotPlace) (content : Content) → suits Literal p (in_code Plain content Ordinary) ≡ true → IsInScript p (InCode Plain) content Ordinary
+in_plain_code p content may =
+    ⊎_elim
+    (λ (script : is_script content.element ≡ true).
+    record { place_is = same_place p place.ScriptDouble (rw script at may); state_is = refl; script = script; attribute_is = refl })
+    (λ (other : is_script content.element ≡ false). absurd (no (rw other at may)))
+    (cases_Bool (is_script content.element))
+
+no_literal : (p : SlotPlace) (opaque : Bool) → suits Literal p (if opaque then Barred else Nowhere) ≡ true → ⊥
+no_literal p true may = no may
+no_literal p false may = no may
+
+no_literal_in_value : (p q : SlotPlace) (attribute : Attribute) → suits Literal p (unless_forbidden attribute q) ≡ true → ⊥
+no_literal_in_value p q Ordinary may = no may
+no_literal_in_value p q Url may = no may
+no_literal_in_value p q state.Link may = no may
+no_literal_in_value p q other may = no may
+
+pub literal_in_script : (p : SlotPlace) (state : State) (content : Content) (attribute : Attribute) →
+    suits Literal p (standing_in state content attribute) ≡ true → IsInScript p state content attribute
+literal_in_script p (In q) content attribute may =
+    absurd (no_literal_in_value p q attribute (in_any Literal p content.element (unless_forbidden attribute q) may))
+literal_in_script p BeforeValue content Ordinary may = absurd (no may)
+literal_in_script p BeforeValue content other may = absurd (no may)
+literal_in_script p (InCode Plain) content Ordinary may = in_plain_code p content may
+literal_in_script p (InCode Plain) content other may = absurd (no may)
+literal_in_script p (InCode code) content attribute may = absurd (no_literal p (is_opaque code) may)
+literal_in_script p elsewhere content attribute may = absurd (no may)
+
 -- ---- a slot of any kind
 
 pub slot_passes : (p : SlotPlace) (kind : SlotKind) (state : State) (content : Content) (attribute : Attribute) (text : List ℕ) →
     suits kind p (standing_in state content attribute) ≡ true → MayFill p kind text → IsUtf8 text →
-    Passes (at_value state content attribute) (written p kind text) (map (read_byte p) (handed p kind text)) (at_value (In p) content attribute)
+    Passes (at_value state content attribute) (written p kind text) (slot_actions kind (map (read_byte p) (handed p kind text)))
+    (past_slot p kind (at_value state content attribute))
 slot_passes p Text state content attribute text may full utf8 = text_passes p state content attribute text may full utf8
 slot_passes p (UrlPart slot) state content attribute text may full utf8 =
     let here = part_in_url slot p state content attribute may in
@@ -205,6 +262,9 @@ slot_passes p (Base behind) state content attribute text may full utf8 =
 slot_passes p (OwnBase behind) state content attribute text may full utf8 =
     let here = base_in_url false behind p state content attribute may in
     rw here.state_is (quoted_passes p content attribute text here.quoted here.attribute_is)
+slot_passes p Literal state content attribute text may full utf8 =
+    let here = literal_in_script p state content attribute may in
+    rw (here.place_is, here.state_is, here.attribute_is) (literal_passes content text here.script utf8)
 
 all_refused : (chunks : List Chunk) → state_after_all refused chunks ≡ refused
 all_refused [] = refl
@@ -215,6 +275,7 @@ all_refused (Slot p Link ∷ chunks) = all_refused chunks
 all_refused (Slot p OwnPath ∷ chunks) = all_refused chunks
 all_refused (Slot p (Base behind) ∷ chunks) = all_refused chunks
 all_refused (Slot p (OwnBase behind) ∷ chunks) = all_refused chunks
+all_refused (Slot p Literal ∷ chunks) = all_refused chunks
 
 apart : refused ≡ data_state → ⊥
 apart is = let states : Refused ≡ In place.Text = ap (λ (t : Tokenizer). t.state) is in cc
@@ -236,6 +297,6 @@ pieces_pass (Markup bytes ∷ chunks) t texts ends fill utf8 =
 pieces_pass (Slot p kind ∷ chunks) t [] ends fill utf8 = absurd fill
 pieces_pass (Slot p kind ∷ chunks) t (text ∷ texts) ends fill utf8 =
     let may = slot_suits p kind t chunks ends in
-    let here : after_slot p kind t ≡ at_value (In p) t.content t.attribute = rw may refl in
+    let here : after_slot p kind t ≡ past_slot p kind t = rw may refl in
     passes_both (slot_passes p kind t.state t.content t.attribute text may fill.0 utf8.0)
-    (rw here (pieces_pass chunks (at_value (In p) t.content t.attribute) texts (rw here at ends) fill.1 utf8.1))
+    (rw here (pieces_pass chunks (past_slot p kind t) texts (rw here at ends) fill.1 utf8.1))

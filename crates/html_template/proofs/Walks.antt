@@ -5,13 +5,13 @@ use Rattle.html_template.specs.declared.open_url.OpenUrl.{OpenUrl}
 use Rattle.html_template.specs.declared.open_url.OpenUrl.TheVariants.{Outside, Within, Whole, Front}
 use Rattle.html_template.specs.declared.open_url.PlacedSlot.{PlacedSlot}
 use Rattle.html_template.specs.OpenUrls.{at_open, before, begun, behind_front, behind_text, first_slot, in_part, plain_text, url_slot, whole_slot}
-use Rattle.html_template.specs.Slots.{after_slot, base_kind, suits}
+use Rattle.html_template.specs.Slots.{after_slot, base_kind, past_slot, suits}
 use Rattle.html_template.specs.TemplateFaults.{Walk, next_markup, pieces_from, put_slot, slot_at}
 use Rattle.html_template.specs.declared.parts.SlotKind.{SlotKind}
 use Rattle.html_template.specs.declared.parts.SlotKind.TheVariants as kind
 use Rattle.html_template.specs.Templates.{Given, GivenSlot}
 use Rattle.html_tokenizer.specs.declared.reader.Standing.{Standing}
-use Rattle.html_tokenizer.specs.declared.reader.Standing.TheVariants.{Stands, InUrl, InLink, Nowhere, Barred}
+use Rattle.html_tokenizer.specs.declared.reader.Standing.TheVariants.{Stands, InUrl, InLink, InScript, Nowhere, Barred}
 use Rattle.html_tokenizer.specs.declared.slot_place.SlotPlace.{SlotPlace}
 use Rattle.html_tokenizer.specs.declared.slot_place.SlotPlace.TheVariants as place
 use Rattle.html_tokenizer.specs.Standing.{AfterStanding, is_same, standing, state_after_slot, stands}
@@ -104,29 +104,35 @@ url_suits is_followed p markup (Within q part) slot told = open_suits is_followe
 url_suits is_followed p markup (Whole q) slot told = absurd (cc)
 url_suits is_followed p markup (Front q behind) slot told = base_suits is_followed p behind slot told
 
--- a slot that is told suits where it stands
+abbrev pub in_script : Standing → Bool
+in_script InScript = true
+in_script other = false
+
+-- a slot that is told suits where it stands, which is its place, or in the code of a script
 pub record IsSuited (s : Standing) (slot : PlacedSlot) : Type 0 where
   pub suited : suits slot.kind slot.place s ≡ true
-  pub stood : stands slot.place s ≡ true
+  pub stood : in_script s ≡ false → stands slot.place s ≡ true
 
 in_url_suited : (p : SlotPlace) (slot : PlacedSlot) → IsInUrl false p slot → IsSuited (InUrl p) slot
 in_url_suited p slot is = record {
   suited = ap (λ q. suits slot.kind q (InUrl p)) is.place ∙ is.suited;
-  stood = ap (λ q. is_same q p) is.place ∙ same_itself p;
+  stood = λ outside. ap (λ q. is_same q p) is.place ∙ same_itself p;
 }
 
 in_link_suited : (p : SlotPlace) (slot : PlacedSlot) → IsInUrl true p slot → IsSuited (InLink p) slot
 in_link_suited p slot is = record {
   suited = ap (λ q. suits slot.kind q (InLink p)) is.place ∙ is.suited;
-  stood = ap (λ q. is_same q p) is.place ∙ same_itself p;
+  stood = λ outside. ap (λ q. is_same q p) is.place ∙ same_itself p;
 }
 
 pub slot_suits : (markup : List ℕ) (url : OpenUrl) (s : Standing) (slot : PlacedSlot) →
     slot_at markup url s ≡ Ok slot → IsSuited s slot
 slot_suits markup url (Stands p) slot told =
-    subst (IsSuited (Stands p)) (ok_slot told) (record { suited = same_itself p; stood = same_itself p })
+    subst (IsSuited (Stands p)) (ok_slot told) (record { suited = same_itself p; stood = λ outside. same_itself p })
 slot_suits markup url (InUrl p) slot told = in_url_suited p slot (url_suits false p markup url slot told)
 slot_suits markup url (InLink p) slot told = in_link_suited p slot (url_suits true p markup url slot told)
+slot_suits markup url InScript slot told =
+    subst (IsSuited InScript) (ok_slot told) (record { suited = refl; stood = λ outside. absurd (cc) })
 slot_suits markup url Barred slot told = absurd (cc)
 slot_suits markup url Nowhere slot told = absurd (cc)
 
@@ -137,15 +143,18 @@ base_stands behind (kind.UrlPart slot) p s = refl
 base_stands behind kind.Link p (Stands q) = refl
 base_stands behind kind.Link p (InUrl q) = refl
 base_stands behind kind.Link p (InLink q) = refl
+base_stands behind kind.Link p InScript = refl
 base_stands behind kind.Link p Barred = refl
 base_stands behind kind.Link p Nowhere = refl
 base_stands behind kind.OwnPath p (Stands q) = refl
 base_stands behind kind.OwnPath p (InUrl q) = refl
 base_stands behind kind.OwnPath p (InLink q) = refl
+base_stands behind kind.OwnPath p InScript = refl
 base_stands behind kind.OwnPath p Barred = refl
 base_stands behind kind.OwnPath p Nowhere = refl
 base_stands behind (kind.Base other) p s = refl
 base_stands behind (kind.OwnBase other) p s = refl
+base_stands behind kind.Literal p s = refl
 
 begun_suits : (s : Standing) (slot : PlacedSlot) (url : OpenUrl) (following : Option BehindBase) → IsSuited s slot → IsSuited s (begun slot url following)
 begun_suits s slot (Whole p) (Some behind) is =
@@ -174,20 +183,36 @@ placed_at : (s : Standing) (p : SlotPlace) (old new : Tokenizer) → stands p s 
 placed_at (Stands q) p old new stood after = after ∙ ap (λ p. state_after_slot p old) (sym (same_place p q stood))
 placed_at (InUrl q) p old new stood after = after ∙ ap (λ p. state_after_slot p old) (sym (same_place p q stood))
 placed_at (InLink q) p old new stood after = after ∙ ap (λ p. state_after_slot p old) (sym (same_place p q stood))
+placed_at InScript p old new stood after = absurd (cc)
 placed_at Barred p old new stood after = absurd (cc)
 placed_at Nowhere p old new stood after = absurd (cc)
+
+-- a slot that stands in its place is no string literal
+past_in_place : (kind : SlotKind) (p : SlotPlace) (s : Standing) (t : Tokenizer) → suits kind p s ≡ true → stands p s ≡ true →
+    past_slot p kind t ≡ at_value (In p) t.content t.attribute
+past_in_place kind.Text p s t suited stood = refl
+past_in_place (kind.UrlPart slot) p s t suited stood = refl
+past_in_place kind.Link p s t suited stood = refl
+past_in_place kind.OwnPath p s t suited stood = refl
+past_in_place (kind.Base behind) p s t suited stood = refl
+past_in_place (kind.OwnBase behind) p s t suited stood = refl
+past_in_place kind.Literal p InScript t suited stood = absurd (cc)
+past_in_place kind.Literal p other t suited stood = absurd (cc)
 
 -- the tokenizer goes on behind it as the definition says
 pub same_after_slot : (next markup : List ℕ) (url : OpenUrl) (s : Standing) (slot : PlacedSlot) (old new : Tokenizer) →
     slot_at markup url s ≡ Ok slot → s ≡ standing old → AfterStanding s old new → new ≡ after_slot (before next slot).place (before next slot).kind old
+same_after_slot next markup url InScript slot old new told same after =
+    subst (λ (x : PlacedSlot). new ≡ after_slot (before next x).place (before next x).kind old) (ok_slot told) (after ∙ rw (sym same) refl)
 same_after_slot next markup url s slot old new told same after =
     let here : PlacedSlot = before next slot in
     let is = before_suits next markup url s slot told in
     let suited : suits here.kind here.place (standing old) ≡ true = ap (suits here.kind here.place) (sym same) ∙ is.suited in
-    let stood : stands here.place (standing old) ≡ true = ap (stands here.place) (sym same) ∙ is.stood in
-    let by_kind : after_slot here.place here.kind old ≡ at_value (In here.place) old.content old.attribute = rw suited refl in
+    let stood : stands here.place (standing old) ≡ true = ap (stands here.place) (sym same) ∙ is.stood refl in
+    let by_kind : after_slot here.place here.kind old ≡ at_value (In here.place) old.content old.attribute =
+        rw suited (past_in_place here.kind here.place (standing old) old suited stood) in
     let by_place : state_after_slot here.place old ≡ at_value (In here.place) old.content old.attribute = rw stood refl in
-    placed_at s here.place old new is.stood after ∙ by_place ∙ sym by_kind
+    placed_at s here.place old new (is.stood refl) after ∙ by_place ∙ sym by_kind
 
 -- so the pieces behind it are told
 pub taken_slot : (number : ℕ) (walk : Walk) (markup : List ℕ) (s : Standing) (slot : PlacedSlot) (new : Tokenizer) (next : List ℕ) (parts : List Given) →

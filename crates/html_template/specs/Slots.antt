@@ -1,12 +1,14 @@
 -- A slot: how a text is written in it and what the tokenizer reads there, and which texts may fill it.
-use Rattle.std.specs.Prelude.{◌≡◌, ◌≢◌, ⊤, ℕ, Bool, true, false, ◌&&◌, if◌then◌else◌, List, length}
+use Rattle.std.specs.Prelude.{◌≡◌, ◌≢◌, ⊤, ℕ, Bool, true, false, ◌&&◌, if◌then◌else◌, List, [], ◌∷◌, ◌++◌, length}
+use Rattle.hesc_specs.specs.Text.Ascii.{double_quote}
 use Rattle.html_escape.specs.Encoders.{encoded}
 use Rattle.hesc_places.specs.Places.ReadBack.{read_back}
 use Rattle.html_tokenizer.specs.declared.reader.Standing.{Standing}
-use Rattle.html_tokenizer.specs.declared.reader.Standing.TheVariants.{Stands, InUrl, InLink}
+use Rattle.html_tokenizer.specs.declared.reader.Standing.TheVariants.{Stands, InUrl, InLink, InScript}
 use Rattle.html_tokenizer.specs.declared.slot_place.SlotPlace.{SlotPlace}
-use Rattle.html_tokenizer.specs.declared.slot_place.SlotPlace.TheVariants.{DoubleQuoted, SingleQuoted, Unquoted}
+use Rattle.html_tokenizer.specs.declared.slot_place.SlotPlace.TheVariants.{DoubleQuoted, SingleQuoted, Unquoted, ScriptDouble}
 use Rattle.html_tokenizer.specs.Standing.{is_same, standing}
+use Rattle.html_tokenizer.specs.Tokenizer.Actions.{Action, StringEnd, StringStart}
 use Rattle.html_tokenizer.specs.Tokenizer.States.{In, Tokenizer, at_value, refused}
 use Rattle.html_urls.specs.Bases.{is_base, is_own_base}
 use Rattle.html_urls.specs.Components.{component}
@@ -16,11 +18,17 @@ use Rattle.html_urls.specs.Slots as urls
 use Rattle.html_urls.specs.declared.base.BehindBase.{BehindBase}
 use Rattle.html_template.specs.Encoders.{encoder_for}
 use Rattle.html_template.specs.declared.parts.SlotKind.{SlotKind}
-use Rattle.html_template.specs.declared.parts.SlotKind.TheVariants.{Text, UrlPart, Link, OwnPath, Base, OwnBase}
+use Rattle.html_template.specs.declared.parts.SlotKind.TheVariants.{Text, UrlPart, Link, OwnPath, Base, OwnBase, Literal}
 
--- a part of a URL is written as a component, which needs no encoding in any value; else the encoder of its place writes the text
+-- between two `"`
+abbrev pub in_quotes : List ℕ → List ℕ
+in_quotes bytes = double_quote ∷ (bytes ++ double_quote ∷ [])
+
+-- a part of a URL is written as a component, which needs no encoding in any value; else the encoder of its place writes the text, of a string
+-- literal between its quote marks
 abbrev pub written : SlotPlace → SlotKind → List ℕ → List ℕ
 written p (UrlPart slot) text = component text
+written p Literal text = in_quotes (encoded (encoder_for p) text)
 written p other text = encoded (encoder_for p) text
 
 -- what the tokenizer is handed of the text
@@ -55,6 +63,7 @@ MayBegin other text = ⊥
 abbrev pub MayFill : SlotPlace → SlotKind → List ℕ → Type 0
 MayFill p Text text = FitsPlace p text
 MayFill p (UrlPart slot) text = urls.may_fill slot text ≡ true
+MayFill p Literal text = ⊤
 MayFill p begins text = MayBegin begins text
 
 -- the value of an attribute in quotes
@@ -72,8 +81,19 @@ suits Link p (InLink q) = is_quoted p && is_same p q
 suits OwnPath p (InUrl q) = is_quoted p && is_same p q
 suits (Base behind) p (InLink q) = is_quoted p && is_same p q
 suits (OwnBase behind) p (InUrl q) = is_quoted p && is_same p q
+suits Literal p InScript = is_same p ScriptDouble
 suits kind p other = false
+
+-- behind a slot the tokenizer is in its place, and behind a string literal where it was
+abbrev pub past_slot : SlotPlace → SlotKind → Tokenizer → Tokenizer
+past_slot p Literal t = t
+past_slot p other t = at_value (In p) t.content t.attribute
 
 -- the tokenizer after a slot, by the template alone
 abbrev pub after_slot : SlotPlace → SlotKind → Tokenizer → Tokenizer
-after_slot p kind t = if suits kind p (standing t) then at_value (In p) t.content t.attribute else refused
+after_slot p kind t = if suits kind p (standing t) then past_slot p kind t else refused
+
+-- what is done at a slot whose text is read so: a string literal begins before it and ends behind it
+abbrev pub slot_actions : SlotKind → List Action → List Action
+slot_actions Literal read = StringStart ∷ (read ++ StringEnd ∷ [])
+slot_actions other read = read

@@ -2,7 +2,7 @@
 use Rattle.std.specs.Prelude.{⊤, ℕ, List, [], ◌∷◌, ◌++◌, map}
 use Rattle.std.specs.Borrow.{Bor}
 pub use Rattle.html_template.specs.Encoders.{encoder_for}
-pub use Rattle.html_template.specs.Slots.{MayFill, after_slot, handed, written}
+pub use Rattle.html_template.specs.Slots.{MayFill, after_slot, handed, slot_actions, written}
 use Rattle.html_template.specs.declared.stored.Stored.{Stored}
 use Rattle.html_template.specs.declared.stored.Stored.TheVariants as stored
 use Rattle.html_template.specs.declared.parts.Part.{Part}
@@ -35,9 +35,9 @@ page (Slot p kind ∷ chunks) (text ∷ texts) = written p kind text ++ page chu
 abbrev pub actions_all : Tokenizer → List Chunk → List (List ℕ) → List Action
 actions_all t [] texts = []
 actions_all t (Markup bytes ∷ chunks) texts = actions_of t bytes ++ actions_all (state_after t bytes) chunks texts
-actions_all t (Slot p kind ∷ chunks) [] = actions_all (after_slot p kind t) chunks []
+actions_all t (Slot p kind ∷ chunks) [] = slot_actions kind [] ++ actions_all (after_slot p kind t) chunks []
 actions_all t (Slot p kind ∷ chunks) (text ∷ texts) =
-    map (read_byte p) (handed p kind text) ++ actions_all (after_slot p kind t) chunks texts
+    slot_actions kind (map (read_byte p) (handed p kind text)) ++ actions_all (after_slot p kind t) chunks texts
 
 -- there is a text for each slot and no more, and each may fill it
 abbrev pub Fill : List Chunk → List (List ℕ) → Type 0

@@ -3,6 +3,7 @@ ghost use Rattle.std.specs.Prelude.{◌≡◌, [], ◌<◌, ◌≤◌, ◌+◌, 
 ghost use Rattle.hesc_specs.specs.Text.Beginning.{TookBeginning};
 ghost use Rattle.hesc_specs.specs.Text.Escaped.{escaped};
 ghost use Rattle.hesc_engine.specs.Forms.{WritesText};
+ghost use Rattle.html_template.specs.Slots.{in_quotes};
 ghost use Rattle.html_template.specs.Templates.{chunk_of, page, written};
 
 use crate::fill::total_length;
@@ -103,6 +104,7 @@ fn text_length(slot: &StoredSlot, text: &str) -> Option<usize>
 {
     match slot.kind {
         SlotKind::UrlPart(_) => component_length(text),
+        SlotKind::Literal => total(&Escape(slot.class), text)?.checked_add(2),
         SlotKind::Text
         | SlotKind::Link
         | SlotKind::OwnPath
@@ -178,11 +180,30 @@ pub fn put_text<S: Sink>(slot: &StoredSlot, text: &str, sink: &mut S) -> Result<
     ensures same_reference { S.reference sink.new ≡ S.reference sink.old }
     ensures same_before { S.before sink.new ≡ S.before sink.old }
 {
-    if let SlotKind::UrlPart(_) = slot.kind {
-        put_component(text, sink)
-    } else {
-        put_escaped(slot.class, text, sink)
+    match slot.kind {
+        SlotKind::UrlPart(_) => put_component(text, sink),
+        SlotKind::Literal => put_literal(slot.class, text, sink),
+        _ => put_escaped(slot.class, text, sink),
     }
+}
+
+// Puts what the encoder of the class makes of a text, between two `"`.
+fn put_literal<S: Sink>(class: Class, text: &str, sink: &mut S) -> Result<(), S::Fault>
+    ensures ok_taken { OnOk result (S.taken sink.new
+        ≡ S.taken sink.old ++ in_quotes (escaped class text.now)) }
+    ensures ok_failures { OnOk result (S.failures sink.new ≡ S.failures sink.old) }
+    ensures err_taken { OnErr result
+        (TookBeginning (S.taken sink.old) (S.taken sink.new) (in_quotes (escaped class text.now))) }
+    ensures fits { length (in_quotes (escaped class text.now)) ≤ S.room sink.old → IsOk result }
+    ensures room { OnOk result
+        (S.room sink.old ≤ S.room sink.new + length (in_quotes (escaped class text.now))) }
+    ensures same_reference { S.reference sink.new ≡ S.reference sink.old }
+    ensures same_before { S.before sink.new ≡ S.before sink.old }
+{
+    sink.put("\"")?;
+    put_escaped(class, text, sink)?;
+    sink.put("\"")?;
+    Ok(())
 }
 
 // Puts what the encoder of the class makes of a text. Most texts stay as they are.

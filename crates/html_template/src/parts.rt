@@ -28,4 +28,6 @@ pub enum SlotKind {
     /// The same of a URL that the page runs, frames, sends to or goes on with. It has to be an own base, which
     /// is one of the page's own host.
     OwnBase(BehindBase),
+    /// A value in the code of a script, which is written as a string literal.
+    Literal,
 }

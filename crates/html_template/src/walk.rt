@@ -14,7 +14,7 @@ ghost use Rattle.html_tokenizer.specs.Standing.{may_end};
 use crate::faults::{PartFault, TemplateFault};
 use crate::open_url::{OpenUrl, PlacedSlot, before, url_markup, url_slot};
 use crate::parts::SlotKind;
-use html_tokenizer::{Reader, Standing};
+use html_tokenizer::{Reader, SlotPlace, Standing};
 use std::alloc::{AllocError, Allocator};
 
 /// The tokenizer, the last part, if it is markup, and what is open of a URL that holds a slot.
@@ -43,6 +43,11 @@ pub fn placed<A: Allocator>(
         })),
         Standing::InUrl(place) => url_slot(alloc, place, false, markup, url),
         Standing::InLink(place) => url_slot(alloc, place, true, markup, url),
+        Standing::InScript => Ok(Ok(PlacedSlot {
+            place: SlotPlace::ScriptDouble,
+            kind: SlotKind::Literal,
+            url: OpenUrl::Outside,
+        })),
         Standing::Barred => Ok(Err(PartFault::Forbidden)),
         Standing::Nowhere => Ok(Err(PartFault::NoPlace)),
     }

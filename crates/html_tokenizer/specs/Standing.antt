@@ -33,7 +33,7 @@ is_ordinary other = false
 
 -- in the code of a script, between words, strings and comments, a string literal is a token of its own
 abbrev pub takes_literal : Code → Content → Attribute → Bool
-takes_literal Plain content attribute = is_script content.element && is_ordinary attribute
+takes_literal Plain content attribute = is_ordinary attribute && is_script content.element
 takes_literal other content attribute = false
 
 -- a slot in other code is nowhere, and where the rest takes none, in a second language

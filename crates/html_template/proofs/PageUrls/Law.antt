@@ -7,6 +7,7 @@ use Rattle.html_template.specs.declared.open_url.PlacedSlot.{PlacedSlot}
 use Rattle.html_template.specs.FilledUrls.{AreFilled, HasUrls, HasUrlsOf, piece_urls, url_texts}
 use Rattle.html_template.specs.OpenUrls.{before}
 use Rattle.html_template.specs.PageUrls.{LeadsAsAny}
+use Rattle.html_template.specs.Slots.{past_slot}
 use Rattle.html_template.specs.TemplateFaults.{Walk, at_beginning, behind_markup, behind_slot, next_markup, pieces_from, template_of}
 use Rattle.html_template.specs.Templates.{Chunk, Fill, Given, GivenMarkup, GivenSlot, after_slot, part_of}
 use Rattle.html_tokenizer.specs.Standing.{may_end, standing}
@@ -18,7 +19,7 @@ use Rattle.html_template.proofs.PageUrls.FilledAlike.{filled_alike}
 use Rattle.html_template.proofs.PageUrls.MarkupSteps.{markup_goes}
 use Rattle.html_template.proofs.PageUrls.OpenEnds.{no_end}
 use Rattle.html_template.proofs.PageUrls.Opening.{Goes, no_url_open}
-use Rattle.html_template.proofs.PageUrls.SlotSteps.{past_slot, slot_goes, tame_behind}
+use Rattle.html_template.proofs.PageUrls.SlotSteps.{slot_goes, tame_behind}
 use Rattle.html_template.proofs.Walks.{before_suits}
 
 end_goes : (url : OpenUrl) (t : Tokenizer) (markup : List ℕ) → IsTame t → may_end t ≡ true → Goes url t markup []
@@ -41,7 +42,7 @@ all_goes number walk (GivenSlot ∷ parts) chunks told tame =
     let here = at_slot number walk parts chunks told in
     let slot : PlacedSlot = before (next_markup parts) here.found in
     let suited = (before_suits (next_markup parts) walk.markup walk.url (standing walk.tokenizer) here.found here.placed).suited in
-    let next : Tokenizer = past_slot walk.tokenizer slot.place in
+    let next : Tokenizer = past_slot slot.place slot.kind walk.tokenizer in
     let goes_to : after_slot slot.place slot.kind walk.tokenizer ≡ next = rw suited refl in
     let next_tame = tame_behind (next_markup parts) walk.markup walk.url walk.tokenizer here.found tame here.placed in
     subst (Goes walk.url walk.tokenizer walk.markup) (sym here.whole)

@@ -7,7 +7,7 @@ use Rattle.html_template.specs.OpenUrls.{url_slot}
 use Rattle.html_template.specs.TemplateFaults.{slot_at}
 use Rattle.html_tokenizer.specs.declared.elements.Content.{Content}
 use Rattle.html_tokenizer.specs.declared.reader.Standing.{Standing}
-use Rattle.html_tokenizer.specs.declared.reader.Standing.TheVariants.{Stands, InUrl, InLink, Nowhere, Barred}
+use Rattle.html_tokenizer.specs.declared.reader.Standing.TheVariants.{Stands, InUrl, InLink, InScript, Nowhere, Barred}
 use Rattle.html_tokenizer.specs.declared.slot_place.SlotPlace.{SlotPlace}
 use Rattle.html_tokenizer.specs.declared.slot_place.SlotPlace.TheVariants as place
 use Rattle.html_tokenizer.specs.Standing.{may_end, may_end_in, standing}
@@ -15,12 +15,15 @@ use Rattle.html_tokenizer.specs.Tokenizer.States.{Attribute, In, Tokenizer}
 use Rattle.html_tokenizer.proofs.UrlValues.Places.{is_value_place}
 use Rattle.html_tokenizer.proofs.UrlValues.Slots.Tame.{IsTame}
 use Rattle.html_template.proofs.PageUrls.Opening.{StandsAt, value_place}
-use Rattle.html_template.proofs.PageUrls.TextSlots.{text_stands_apart}
+use Rattle.html_template.proofs.PageUrls.TextSlots.{literal_stands_apart, text_stands_apart}
 use Rattle.html_template.proofs.Walks.{same_itself}
 
 -- no text
 pub no_text_stands : (p q : SlotPlace) (t : Tokenizer) → standing t ≡ Stands q → StandsAt p t → ⊥
 no_text_stands p q t is stands = true≢false (sym stands.attribute_is ∙ (text_stands_apart q t (rw is (same_itself q))).no_url)
+
+pub no_literal_stands : (p : SlotPlace) (t : Tokenizer) → standing t ≡ InScript → StandsAt p t → ⊥
+no_literal_stands p t is stands = true≢false (sym stands.attribute_is ∙ (literal_stands_apart place.ScriptDouble t (rw is refl)).no_url)
 
 -- no slot
 none_behind : (q : SlotPlace) (is_followed : Bool) (markup : List ℕ) (p : SlotPlace) (slot : PlacedSlot) →
@@ -32,6 +35,7 @@ pub no_slot_behind : (markup : List ℕ) (p : SlotPlace) (t : Tokenizer) (slot :
 no_slot_behind markup p t slot (Stands q) is stands told = no_text_stands p q t is stands
 no_slot_behind markup p t slot (InUrl q) is stands told = none_behind q false markup p slot told
 no_slot_behind markup p t slot (InLink q) is stands told = none_behind q true markup p slot told
+no_slot_behind markup p t slot InScript is stands told = no_literal_stands p t is stands
 no_slot_behind markup p t slot Nowhere is stands told = cc
 no_slot_behind markup p t slot Barred is stands told = cc
 

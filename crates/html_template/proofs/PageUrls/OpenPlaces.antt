@@ -10,11 +10,11 @@ use Rattle.html_template.specs.declared.open_url.PlacedSlot.{PlacedSlot}
 use Rattle.html_template.specs.declared.parts.SlotKind.{SlotKind}
 use Rattle.html_template.specs.declared.parts.SlotKind.TheVariants as kind
 use Rattle.html_template.specs.OpenUrls.{before, begun, behind_front, url_markup, url_slot, value_length}
-use Rattle.html_template.specs.Slots.{suits}
+use Rattle.html_template.specs.Slots.{base_kind, past_slot, suits}
 use Rattle.html_template.specs.TemplateFaults.{slot_at}
 use Rattle.html_tokenizer.specs.declared.elements.Content.{Content}
 use Rattle.html_tokenizer.specs.declared.reader.Standing.{Standing}
-use Rattle.html_tokenizer.specs.declared.reader.Standing.TheVariants.{Stands, InUrl, InLink, Nowhere, Barred}
+use Rattle.html_tokenizer.specs.declared.reader.Standing.TheVariants.{Stands, InUrl, InLink, InScript, Nowhere, Barred}
 use Rattle.html_tokenizer.specs.declared.slot_place.SlotPlace.{SlotPlace}
 use Rattle.html_tokenizer.specs.Standing.{is_refused, may_end, standing}
 use Rattle.html_tokenizer.specs.Tokenizer.States.{Attribute, In, Tokenizer, at_value}
@@ -32,9 +32,8 @@ use Rattle.html_template.proofs.PageUrls.LaterMarkup.{InPartOf, SlashAlone, as_t
 use Rattle.html_template.proofs.PageUrls.OpenEnds.{no_end}
 use Rattle.html_template.proofs.PageUrls.Opening.{StandsAt, value_place}
 use Rattle.html_template.proofs.PageUrls.Placed.{InPart, IsFirst, first_told, part_told, past_markup, whole}
-use Rattle.html_template.proofs.PageUrls.SlotSteps.{past_slot}
 use Rattle.html_template.proofs.TemplateLaw.{base_in_url, part_in_url, whole_in_url}
-use Rattle.html_template.proofs.Walks.{ok_slot, slot_suits}
+use Rattle.html_template.proofs.Walks.{in_script, ok_slot, slot_suits}
 use Rattle.html_template.proofs.PageUrls.Splitting.{IsCut, IsWhole, whole_or_cut}
 
 abbrev pub OpenStands : OpenUrl → Tokenizer → Type 0
@@ -132,13 +131,14 @@ markup_stands (Front p behind) t bytes opened tame unrefused told stands =
 
 -- a slot in a URL leaves that URL open
 abbrev OpensUrl : PlacedSlot → Type 0
-OpensUrl slot = (t : Tokenizer) → is_url t.attribute ≡ true → OpenStands slot.url (past_slot t slot.place)
+OpensUrl slot = (t : Tokenizer) → is_url t.attribute ≡ true → OpenStands slot.url (past_slot slot.place slot.kind t)
 
 part_opens : (p : SlotPlace) (part : OpenPart) (slot : PlacedSlot) → InPart p part slot → OpensUrl slot
 part_opens p part slot placed = subst OpensUrl placed.is (λ t url. record { state_is = refl; attribute_is = url })
 
 first_opens : (p : SlotPlace) (markup : List ℕ) (slot : PlacedSlot) → IsFirst p markup slot → OpensUrl slot
-first_opens p markup slot (whole is_followed last is) = subst OpensUrl is (λ t url. record { state_is = refl; attribute_is = url })
+first_opens p markup slot (whole true last is) = subst OpensUrl is (λ t url. record { state_is = refl; attribute_is = url })
+first_opens p markup slot (whole false last is) = subst OpensUrl is (λ t url. record { state_is = refl; attribute_is = url })
 first_opens p markup slot (past_markup raw last front) = part_opens p front.part slot front.placed
 
 base_opens : (p : SlotPlace) (behind : BehindBase) (slot : PlacedSlot) → behind_front p behind ≡ Ok slot → OpensUrl slot
@@ -154,35 +154,53 @@ url_opens p is_followed markup (Whole q) slot told = absurd (cc)
 url_opens p is_followed markup (Front q behind) slot told = base_opens p behind slot told
 
 -- it stands in the value of an attribute that holds one
-holds_url : (found : SlotKind) (p : SlotPlace) (t : Tokenizer) → suits found p (standing t) ≡ true → suits kind.Text p (standing t) ≡ false → is_url t.attribute ≡ true
-holds_url kind.Text p t suited no_text = absurd (true≢false (sym suited ∙ no_text))
-holds_url (kind.UrlPart slot) p t suited no_text = (part_in_url slot p t.state t.content t.attribute suited).attribute_is
-holds_url kind.Link p t suited no_text = (whole_in_url true p t.state t.content t.attribute suited).attribute_is
-holds_url kind.OwnPath p t suited no_text = (whole_in_url false p t.state t.content t.attribute suited).attribute_is
-holds_url (kind.Base behind) p t suited no_text = (base_in_url true behind p t.state t.content t.attribute suited).attribute_is
-holds_url (kind.OwnBase behind) p t suited no_text = (base_in_url false behind p t.state t.content t.attribute suited).attribute_is
+only_in_script : (p : SlotPlace) (s : Standing) → suits kind.Literal p s ≡ true → in_script s ≡ true
+only_in_script p InScript suited = refl
+only_in_script p other suited = absurd (cc)
+
+holds_url : (found : SlotKind) (p : SlotPlace) (t : Tokenizer) → suits found p (standing t) ≡ true → suits kind.Text p (standing t) ≡ false →
+    in_script (standing t) ≡ false → is_url t.attribute ≡ true
+holds_url kind.Text p t suited no_text no_script = absurd (true≢false (sym suited ∙ no_text))
+holds_url (kind.UrlPart slot) p t suited no_text no_script = (part_in_url slot p t.state t.content t.attribute suited).attribute_is
+holds_url kind.Link p t suited no_text no_script = (whole_in_url true p t.state t.content t.attribute suited).attribute_is
+holds_url kind.OwnPath p t suited no_text no_script = (whole_in_url false p t.state t.content t.attribute suited).attribute_is
+holds_url (kind.Base behind) p t suited no_text no_script = (base_in_url true behind p t.state t.content t.attribute suited).attribute_is
+holds_url (kind.OwnBase behind) p t suited no_text no_script = (base_in_url false behind p t.state t.content t.attribute suited).attribute_is
+holds_url kind.Literal p t suited no_text no_script = absurd (true≢false (sym (only_in_script p (standing t) suited) ∙ no_script))
 
 placed_stands : (markup : List ℕ) (url : OpenUrl) (t : Tokenizer) (s : Standing) (slot : PlacedSlot) → standing t ≡ s →
-    slot_at markup url s ≡ Ok slot → OpenStands slot.url (past_slot t slot.place)
-placed_stands markup url t (Stands p) slot is told = subst (λ (x : PlacedSlot). OpenStands x.url (past_slot t x.place)) (ok_slot told) tt
+    slot_at markup url s ≡ Ok slot → OpenStands slot.url (past_slot slot.place slot.kind t)
+placed_stands markup url t (Stands p) slot is told = subst (λ (x : PlacedSlot). OpenStands x.url (past_slot x.place x.kind t)) (ok_slot told) tt
 placed_stands markup url t (InUrl p) slot is told =
     url_opens p false markup url slot told t
-    (holds_url slot.kind slot.place t (rw is (slot_suits markup url (InUrl p) slot told).suited) (rw is refl))
+    (holds_url slot.kind slot.place t (rw is (slot_suits markup url (InUrl p) slot told).suited) (rw is refl) (rw is refl))
 placed_stands markup url t (InLink p) slot is told =
     url_opens p true markup url slot told t
-    (holds_url slot.kind slot.place t (rw is (slot_suits markup url (InLink p) slot told).suited) (rw is refl))
+    (holds_url slot.kind slot.place t (rw is (slot_suits markup url (InLink p) slot told).suited) (rw is refl) (rw is refl))
+placed_stands markup url t InScript slot is told = subst (λ (x : PlacedSlot). OpenStands x.url (past_slot x.place x.kind t)) (ok_slot told) tt
 placed_stands markup url t Barred slot is told = absurd (cc)
 placed_stands markup url t Nowhere slot is told = absurd (cc)
 
+past_base : (behind : BehindBase) (kind : SlotKind) (p : SlotPlace) (t : Tokenizer) → past_slot p kind t ≡ past_slot p (base_kind behind kind) t
+past_base behind kind.Text p t = refl
+past_base behind (kind.UrlPart slot) p t = refl
+past_base behind kind.Link p t = refl
+past_base behind kind.OwnPath p t = refl
+past_base behind (kind.Base other) p t = refl
+past_base behind (kind.OwnBase other) p t = refl
+past_base behind kind.Literal p t = refl
+
 -- also where it is a base
 begun_stands : (t : Tokenizer) (slot : PlacedSlot) (url : OpenUrl) (following : Option BehindBase) → slot.url ≡ url →
-    OpenStands slot.url (past_slot t slot.place) → OpenStands (begun slot url following).url (past_slot t (begun slot url following).place)
-begun_stands t slot (Whole p) (Some behind) is stands = subst (λ (u : OpenUrl). OpenStands u (past_slot t slot.place)) is stands
+    OpenStands slot.url (past_slot slot.place slot.kind t) → OpenStands (begun slot url following).url (past_slot (begun slot url following).place (begun slot url following).kind t)
+begun_stands t slot (Whole p) (Some behind) is stands =
+    subst (λ (x : Tokenizer). OpenStands (Front p behind) x) (past_base behind slot.kind slot.place t)
+    (subst (λ (u : OpenUrl). OpenStands u (past_slot slot.place slot.kind t)) is stands)
 begun_stands t slot (Whole p) None is stands = stands
 begun_stands t slot Outside following is stands = stands
 begun_stands t slot (Within p part) following is stands = stands
 begun_stands t slot (Front p behind) following is stands = stands
 
 pub slot_stands : (next markup : List ℕ) (url : OpenUrl) (t : Tokenizer) (s : Standing) (slot : PlacedSlot) → standing t ≡ s →
-    slot_at markup url s ≡ Ok slot → OpenStands (before next slot).url (past_slot t (before next slot).place)
+    slot_at markup url s ≡ Ok slot → OpenStands (before next slot).url (past_slot (before next slot).place (before next slot).kind t)
 slot_stands next markup url t s slot is told = begun_stands t slot slot.url (behind_base next) refl (placed_stands markup url t s slot is told)

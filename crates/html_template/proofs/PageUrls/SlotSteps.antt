@@ -6,12 +6,13 @@ use Rattle.html_template.specs.declared.open_url.PlacedSlot.{PlacedSlot}
 use Rattle.html_template.specs.declared.parts.SlotKind.{SlotKind}
 use Rattle.html_template.specs.declared.parts.SlotKind.TheVariants as kind
 use Rattle.html_template.specs.OpenUrls.{before, begun, behind_front, url_slot}
-use Rattle.html_template.specs.Slots.{suits}
+use Rattle.html_template.specs.Slots.{past_slot, suits}
 use Rattle.html_template.specs.TemplateFaults.{slot_at}
 use Rattle.html_template.specs.Templates.{Chunk, Slot}
 use Rattle.html_tokenizer.specs.declared.reader.Standing.{Standing}
-use Rattle.html_tokenizer.specs.declared.reader.Standing.TheVariants.{Stands, InUrl, InLink, Nowhere, Barred}
+use Rattle.html_tokenizer.specs.declared.reader.Standing.TheVariants.{Stands, InUrl, InLink, InScript, Nowhere, Barred}
 use Rattle.html_tokenizer.specs.declared.slot_place.SlotPlace.{SlotPlace}
+use Rattle.html_tokenizer.specs.declared.slot_place.SlotPlace.TheVariants as place
 use Rattle.html_tokenizer.specs.Standing.{standing}
 use Rattle.html_tokenizer.specs.Tokenizer.States.{In, Tokenizer, at_value}
 use Rattle.html_tokenizer.proofs.UrlValues.Slots.AtSlots.{in_url, no_url_tame, open_at_slot}
@@ -22,29 +23,27 @@ use Rattle.html_urls.specs.declared.base.BehindBase.TheVariants.{Slash, Tail, Se
 use Rattle.html_urls.specs.declared.open_part.OpenPart.{OpenPart}
 use Rattle.html_urls.specs.declared.open_part.OpenPart.TheVariants.{NewSegment}
 use Rattle.html_template.proofs.PageUrls.Filled.{GoesBehind, GoesOn, HasLater}
-use Rattle.html_template.proofs.PageUrls.OpenEnds.{no_slot_behind, no_text_stands}
+use Rattle.html_template.proofs.PageUrls.OpenEnds.{no_literal_stands, no_slot_behind, no_text_stands}
 use Rattle.html_template.proofs.PageUrls.Opening.{FromMarkup, Goes, StandsAt, value_place}
 use Rattle.html_template.proofs.PageUrls.Placed.{IsFirst, first_told, part_told, past_markup, quoted_slot, whole}
-use Rattle.html_template.proofs.PageUrls.TextSlots.{text_goes, text_stands_apart}
+use Rattle.html_template.proofs.PageUrls.TextSlots.{literal_goes, text_goes, text_stands_apart}
 use Rattle.html_template.proofs.PageUrls.UrlSlots.{base_goes, first_goes, later_goes, quoted_place, slot_behind, whole_goes}
 use Rattle.html_template.proofs.TemplateLaw.{base_in_url, part_in_url, whole_in_url}
 use Rattle.html_template.proofs.Walks.{before_suits, ok_slot, same_itself}
 
-abbrev pub past_slot : Tokenizer → SlotPlace → Tokenizer
-past_slot t p = at_value (In p) t.content t.attribute
-
 -- ---- a URL is open behind it only where one is open before it
 
-tame_of_kind : (kind : SlotKind) (p : SlotPlace) (t : Tokenizer) → IsTame t → suits kind p (standing t) ≡ true → IsTame (past_slot t p)
-tame_of_kind kind.Text p t tame suited = no_url_tame (past_slot t p) (text_stands_apart p t suited).no_url
+tame_of_kind : (kind : SlotKind) (p : SlotPlace) (t : Tokenizer) → IsTame t → suits kind p (standing t) ≡ true → IsTame (past_slot p kind t)
+tame_of_kind kind.Text p t tame suited = no_url_tame (past_slot p kind.Text t) (text_stands_apart p t suited).no_url
 tame_of_kind (kind.UrlPart slot) p t tame suited = λ is. value_place p t tame (part_in_url slot p t.state t.content t.attribute suited)
 tame_of_kind kind.Link p t tame suited = λ is. quoted_place p t tame (whole_in_url true p t.state t.content t.attribute suited)
 tame_of_kind kind.OwnPath p t tame suited = λ is. quoted_place p t tame (whole_in_url false p t.state t.content t.attribute suited)
 tame_of_kind (kind.Base behind) p t tame suited = λ is. quoted_place p t tame (base_in_url true behind p t.state t.content t.attribute suited)
 tame_of_kind (kind.OwnBase behind) p t tame suited = λ is. quoted_place p t tame (base_in_url false behind p t.state t.content t.attribute suited)
+tame_of_kind kind.Literal p t tame suited = tame
 
 pub tame_behind : (next markup : List ℕ) (url : OpenUrl) (t : Tokenizer) (slot : PlacedSlot) → IsTame t →
-    slot_at markup url (standing t) ≡ Ok slot → IsTame (past_slot t (before next slot).place)
+    slot_at markup url (standing t) ≡ Ok slot → IsTame (past_slot (before next slot).place (before next slot).kind t)
 tame_behind next markup url t slot tame told =
     tame_of_kind (before next slot).kind (before next slot).place t tame (before_suits next markup url (standing t) slot told).suited
 
@@ -54,7 +53,7 @@ module _ (t : Tokenizer) (chunks : List Chunk) (tame : IsTame t) where
   -- the pieces from the slot on, if it suits where it stands
   abbrev FromSlot : (List Chunk → Type 0) → PlacedSlot → Type 0
   FromSlot Found slot =
-      suits slot.kind slot.place (standing t) ≡ true → Goes slot.url (past_slot t slot.place) [] chunks → Found (Slot slot.place slot.kind ∷ chunks)
+      suits slot.kind slot.place (standing t) ≡ true → Goes slot.url (past_slot slot.place slot.kind t) [] chunks → Found (Slot slot.place slot.kind ∷ chunks)
 
   -- with what follows it
   abbrev FromBegun : (List Chunk → Type 0) → Option BehindBase → PlacedSlot → Type 0
@@ -62,11 +61,16 @@ module _ (t : Tokenizer) (chunks : List Chunk) (tame : IsTame t) where
 
   quoted_first : (following : Option BehindBase) (is_followed : Bool) (p : SlotPlace) (value : List ℕ) → value ≡ [] →
       FromBegun (HasLater t value) following (quoted_slot p is_followed)
-  quoted_first None is_followed p value none = λ suited goes.
-      whole_goes is_followed t p chunks tame suited value none (goes (record { state_is = refl; attribute_is = (whole_in_url is_followed p t.state t.content t.attribute suited).attribute_is }))
-  quoted_first (Some behind) is_followed p value none = λ suited goes.
-      base_goes is_followed behind t p chunks tame suited value none
-      (goes (record { state_is = refl; attribute_is = (base_in_url is_followed behind p t.state t.content t.attribute suited).attribute_is }))
+  quoted_first None true p value none = λ suited goes.
+      whole_goes true t p chunks tame suited value none (goes (record { state_is = refl; attribute_is = (whole_in_url true p t.state t.content t.attribute suited).attribute_is }))
+  quoted_first None false p value none = λ suited goes.
+      whole_goes false t p chunks tame suited value none (goes (record { state_is = refl; attribute_is = (whole_in_url false p t.state t.content t.attribute suited).attribute_is }))
+  quoted_first (Some behind) true p value none = λ suited goes.
+      base_goes true behind t p chunks tame suited value none
+      (goes (record { state_is = refl; attribute_is = (base_in_url true behind p t.state t.content t.attribute suited).attribute_is }))
+  quoted_first (Some behind) false p value none = λ suited goes.
+      base_goes false behind t p chunks tame suited value none
+      (goes (record { state_is = refl; attribute_is = (base_in_url false behind p t.state t.content t.attribute suited).attribute_is }))
 
   first_slot : (following : Option BehindBase) (p : SlotPlace) (markup value : List ℕ) (slot : PlacedSlot) → in_url p (standing t) ≡ true → FromMarkup t markup value →
       IsFirst p markup slot → FromBegun (HasLater t value) following slot
@@ -94,6 +98,8 @@ module _ (t : Tokenizer) (chunks : List Chunk) (tame : IsTame t) where
       subst (FromBegun (HasLater t value) following) (ok_slot told) (λ suited goes. text_goes p t value chunks suited goes)
   from_markup following markup value slot (InUrl p) is from told = url_from_markup following p false markup value slot (rw is (same_itself p)) from told
   from_markup following markup value slot (InLink p) is from told = url_from_markup following p true markup value slot (rw is (same_itself p)) from told
+  from_markup following markup value slot InScript is from told =
+      subst (FromBegun (HasLater t value) following) (ok_slot told) (λ suited goes. literal_goes place.ScriptDouble t value chunks suited goes)
   from_markup following markup value slot Nowhere is from told = absurd (cc)
   from_markup following markup value slot Barred is from told = absurd (cc)
 
@@ -111,6 +117,7 @@ module _ (t : Tokenizer) (chunks : List Chunk) (tame : IsTame t) where
   within following q open_part markup slot (Stands p) is stands told = absurd (no_text_stands q p t is stands)
   within following q open_part markup slot (InUrl p) is stands told = url_within following p q false open_part markup slot told
   within following q open_part markup slot (InLink p) is stands told = url_within following p q true open_part markup slot told
+  within following q open_part markup slot InScript is stands told = absurd (no_literal_stands q t is stands)
   within following q open_part markup slot Nowhere is stands told = absurd (cc)
   within following q open_part markup slot Barred is stands told = absurd (cc)
 
@@ -131,13 +138,14 @@ module _ (t : Tokenizer) (chunks : List Chunk) (tame : IsTame t) where
   behind_a_base following q behind markup slot (Stands p) is stands told = absurd (no_text_stands q p t is stands)
   behind_a_base following q behind markup slot (InUrl p) is stands told = url_behind following p behind slot told
   behind_a_base following q behind markup slot (InLink p) is stands told = url_behind following p behind slot told
+  behind_a_base following q behind markup slot InScript is stands told = absurd (no_literal_stands q t is stands)
   behind_a_base following q behind markup slot Nowhere is stands told = absurd (cc)
   behind_a_base following q behind markup slot Barred is stands told = absurd (cc)
 
 -- ---- where anything is open
 
 pub slot_goes : (next markup : List ℕ) (url : OpenUrl) (t : Tokenizer) (slot : PlacedSlot) (chunks : List Chunk) → IsTame t →
-    slot_at markup url (standing t) ≡ Ok slot → Goes (before next slot).url (past_slot t (before next slot).place) [] chunks →
+    slot_at markup url (standing t) ≡ Ok slot → Goes (before next slot).url (past_slot (before next slot).place (before next slot).kind t) [] chunks →
     Goes url t markup (Slot (before next slot).place (before next slot).kind ∷ chunks)
 slot_goes next markup Outside t slot chunks tame told goes = λ value from.
     from_markup t chunks tame (behind_base next) markup value slot (standing t) refl from told (before_suits next markup Outside (standing t) slot told).suited goes

@@ -1,26 +1,29 @@
--- A slot for a text, which stands in no URL.
+-- A slot for a text or a string literal, which stands in no URL.
 use Rattle.std.proofs.Common.{ℕ, ◌≡◌, true, false, List, [], ◌∷◌, refl, ap, ◌∙◌}
 use Rattle.std.specs.List.{AllByRecursion}
 use Rattle.std.specs.Str.{IsUtf8}
 use Rattle.std.proofs.lemmas.Bool.{false≢true}
 use Rattle.html_template.specs.declared.open_url.OpenUrl.TheVariants.{Outside}
+use Rattle.html_template.specs.declared.parts.SlotKind.{SlotKind}
 use Rattle.html_template.specs.declared.parts.SlotKind.TheVariants as kind
-use Rattle.html_template.specs.FilledUrls.{url_texts}
-use Rattle.html_template.specs.PageUrls.{first_texts}
-use Rattle.html_template.specs.Slots.{handed, suits, written}
+use Rattle.html_template.specs.FilledUrls.{OpenValue, Value, open_at_slot, url_text, url_texts}
+use Rattle.html_template.specs.PageUrls.{first_text, first_texts}
+use Rattle.html_template.specs.Slots.{MayFill, handed, past_slot, suits, written}
 use Rattle.html_template.specs.Templates.{Chunk, Fill, Slot, page}
 use Rattle.html_tokenizer.specs.declared.elements.Content.{Content}
 use Rattle.html_tokenizer.specs.declared.slot_place.SlotPlace.{SlotPlace}
 use Rattle.html_tokenizer.specs.Standing.{standing, standing_in}
-use Rattle.html_tokenizer.specs.Tokenizer.States.{AfterName, Attribute, In, Name, State, Tokenizer, at_value}
+use Rattle.html_tokenizer.specs.Tokenizer.States.{AfterName, Attribute, Name, State, Tokenizer}
+use Rattle.html_tokenizer.specs.Tokenizer.Tokenization.{state_after}
 use Rattle.html_tokenizer.specs.UrlValues.{is_url, open_url, urls_from}
 use Rattle.html_tokenizer.proofs.UrlValues.Appending.{urls_from-anew}
+use Rattle.html_tokenizer.proofs.UrlValues.Apart.Bytes.{StaysApart}
 use Rattle.html_tokenizer.proofs.UrlValues.Apart.OneByte.{IsApart}
-use Rattle.html_tokenizer.proofs.UrlValues.Apart.Texts.{text_apart}
+use Rattle.html_tokenizer.proofs.UrlValues.Apart.Texts.{literal_apart, text_apart}
 use Rattle.html_tokenizer.proofs.UrlValues.Names.{is_named}
 use Rattle.html_template.proofs.PageUrls.Filled.{HasLater, IsFilled}
 use Rattle.html_template.proofs.PageUrls.Opening.{Goes, behind_bytes, no_url_open}
-use Rattle.html_template.proofs.TemplateLaw.{slot_ordinary, slot_passes}
+use Rattle.html_template.proofs.TemplateLaw.{literal_in_script, slot_ordinary, slot_passes}
 
 unnamed : (p : SlotPlace) (s : State) (content : Content) (attribute : Attribute) → suits kind.Text p (standing_in s content attribute) ≡ true →
     is_named s ≡ false
@@ -34,28 +37,61 @@ text_stands_apart p t suited = record {
   unnamed = unnamed p t.state t.content t.attribute suited;
 }
 
-module _ (p : SlotPlace) (t : Tokenizer) (value : List ℕ) (chunks : List Chunk) (suited : suits kind.Text p (standing t) ≡ true) where
-  abbrev next : Tokenizer
-  next = at_value (In p) t.content t.attribute
+pub literal_stands_apart : (p : SlotPlace) (t : Tokenizer) → suits kind.Literal p (standing t) ≡ true → IsApart t
+literal_stands_apart p t suited =
+    let is = literal_in_script p t.state t.content t.attribute suited in
+    record { no_url = ap is_url is.attribute_is; unnamed = ap is_named is.state_is }
 
-  text_filled : (later : HasLater next [] chunks) (texts : List (List ℕ)) → Fill (Slot p kind.Text ∷ chunks) texts → AllByRecursion IsUtf8 texts →
-      IsFilled (urls_from t value (page (Slot p kind.Text ∷ chunks) texts)) (first_texts (Slot p kind.Text ∷ chunks) texts) later.urls (url_texts (Slot p kind.Text ∷ chunks) texts)
-  text_filled later [] full utf8 = absurd full
-  text_filled later (text ∷ texts) full utf8 =
-      let apart = text_stands_apart p t suited in
-      let bytes : List ℕ = written p kind.Text text in
-      let passes = slot_passes p kind.Text t.state t.content t.attribute text suited full.0 utf8.0 in
-      let stays = text_apart p t next bytes (handed p kind.Text text) apart passes in
+-- the text of such a slot is in no URL
+record IsApartKind (found : SlotKind) : Type 0 where
+  first : (text : List ℕ) → first_text found text ≡ []
+  none : (text : List ℕ) → url_text found text ≡ []
+  opens : (held : OpenValue) → open_at_slot held found ≡ Value []
+
+text_kind : IsApartKind kind.Text
+text_kind = record { first = λ text. refl; none = λ text. refl; opens = λ held. refl }
+
+literal_kind : IsApartKind kind.Literal
+literal_kind = record { first = λ text. refl; none = λ text. refl; opens = λ held. refl }
+
+module _ {found : SlotKind} (apart_kind : IsApartKind found) (p : SlotPlace) (t next : Tokenizer) (value : List ℕ) (chunks : List Chunk)
+    (suited : suits found p (standing t) ≡ true) (goes_to : past_slot p found t ≡ next) (no_url : is_url next.attribute ≡ false)
+    (passes : (text : List ℕ) → MayFill p found text → IsUtf8 text → StaysApart t (written p found text) next × (state_after t (written p found text) ≡ next)) where
+  filled_apart : (later : HasLater next [] chunks) (texts : List (List ℕ)) → Fill (Slot p found ∷ chunks) texts → AllByRecursion IsUtf8 texts →
+      IsFilled (urls_from t value (page (Slot p found ∷ chunks) texts)) (first_texts (Slot p found ∷ chunks) texts) later.urls (url_texts (Slot p found ∷ chunks) texts)
+  filled_apart later [] full utf8 = absurd full
+  filled_apart later (text ∷ texts) full utf8 =
+      let bytes : List ℕ = written p found text in
+      let here = passes text full.0 utf8.0 in
       let filled = later.filled texts full.1 utf8.1 in
-      record {
-        same = behind_bytes t value bytes (page chunks texts) (stays.none_ends value) passes.after refl
-            ∙ urls_from-anew next (open_url t value bytes) [] (page chunks texts) apart.no_url
+      rw (apart_kind.first text, apart_kind.none text) (record {
+        same = behind_bytes t value bytes (page chunks texts) (here.0.none_ends value) here.1 refl
+            ∙ urls_from-anew next (open_url t value bytes) [] (page chunks texts) no_url
             ∙ filled.same;
         full = filled.full;
         whole_same = filled.whole_same;
-      }
+      })
 
-  pub text_goes : Goes Outside next [] chunks → HasLater t value (Slot p kind.Text ∷ chunks)
-  text_goes goes =
-      let later = goes [] (no_url_open next [] (text_stands_apart p t suited).no_url) in
-      record { urls = later.urls; told = rw suited later.told; filled = text_filled later }
+  goes_apart : Goes Outside next [] chunks → HasLater t value (Slot p found ∷ chunks)
+  goes_apart goes =
+      let later = goes [] (no_url_open next [] no_url) in
+      record { urls = later.urls; told = rw (suited, goes_to, apart_kind.opens (Value value)) later.told; filled = filled_apart later }
+
+pub text_goes : (p : SlotPlace) (t : Tokenizer) (value : List ℕ) (chunks : List Chunk) → suits kind.Text p (standing t) ≡ true →
+    Goes Outside (past_slot p kind.Text t) [] chunks → HasLater t value (Slot p kind.Text ∷ chunks)
+text_goes p t value chunks suited =
+    let next : Tokenizer = past_slot p kind.Text t in
+    let apart = text_stands_apart p t suited in
+    goes_apart text_kind p t next value chunks suited refl apart.no_url
+    (λ text full utf8.
+    let passes = slot_passes p kind.Text t.state t.content t.attribute text suited full utf8 in
+    (text_apart p t next (written p kind.Text text) (handed p kind.Text text) apart passes, passes.after))
+
+pub literal_goes : (p : SlotPlace) (t : Tokenizer) (value : List ℕ) (chunks : List Chunk) → suits kind.Literal p (standing t) ≡ true →
+    Goes Outside t [] chunks → HasLater t value (Slot p kind.Literal ∷ chunks)
+literal_goes p t value chunks suited =
+    let apart = literal_stands_apart p t suited in
+    goes_apart literal_kind p t t value chunks suited refl apart.no_url
+    (λ text full utf8.
+    let passes = slot_passes p kind.Literal t.state t.content t.attribute text suited full utf8 in
+    (literal_apart p t t (written p kind.Literal text) (handed p kind.Literal text) apart passes, passes.after))

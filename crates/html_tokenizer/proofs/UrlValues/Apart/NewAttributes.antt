@@ -5,7 +5,7 @@ use Rattle.std.proofs.lemmas.Bool.{false≢true, or_parts}
 use Rattle.std.proofs.lemmas.List.Folds.{list_any-append}
 use Rattle.html_tokenizer.specs.declared.slot_place.SlotPlace.{SlotPlace}
 use Rattle.html_tokenizer.specs.declared.slot_place.SlotPlace.TheVariants.{Text, DoubleQuoted, SingleQuoted, Unquoted, ScriptSingle, ScriptDouble, StyleSingle, StyleDouble}
-use Rattle.html_tokenizer.specs.Tokenizer.Actions.{Action, NewAttribute, ValueByte, read_byte}
+use Rattle.html_tokenizer.specs.Tokenizer.Actions.{Action, NewAttribute, StringEnd, StringStart, ValueByte, read_byte}
 use Rattle.html_tokenizer.specs.UrlValues.{value_bytes}
 use Rattle.html_tokenizer.proofs.UrlValues.Places.{is_value_place}
 use Rattle.html_tokenizer.proofs.UrlValues.Staying.{value_bytes-map}
@@ -41,6 +41,10 @@ byte_begins_none StyleDouble b = refl
 pub text_begins_none : (p : SlotPlace) (text : List ℕ) → BeginsNone (map (read_byte p) text)
 text_begins_none p [] = refl
 text_begins_none p (b ∷ text) = rw (byte_begins_none p b) (text_begins_none p text)
+
+-- and of a string literal
+pub literal_begins_none : (p : SlotPlace) (text : List ℕ) → BeginsNone (StringStart ∷ (map (read_byte p) text ++ StringEnd ∷ []))
+literal_begins_none p text = rw (list_any-append is_new (map (read_byte p) text) (StringEnd ∷ []), text_begins_none p text) refl
 
 pub text_in_value : (p : SlotPlace) (text : List ℕ) → is_value_place p ≡ true → value_bytes (map (read_byte p) text) ≡ text
 text_in_value DoubleQuoted text place = value_bytes-map text

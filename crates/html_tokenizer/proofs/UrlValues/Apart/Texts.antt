@@ -1,13 +1,13 @@
 -- Bytes that are read as a text alone.
-use Rattle.std.proofs.Common.{ℕ, ◌≡◌, true, List, map, ap, ◌∙◌, subst, sym}
+use Rattle.std.proofs.Common.{ℕ, ◌≡◌, true, List, [], ◌∷◌, ◌++◌, map, ap, ◌∙◌, subst, sym}
 use Rattle.html_tokenizer.specs.declared.slot_place.SlotPlace.{SlotPlace}
-use Rattle.html_tokenizer.specs.Tokenizer.Actions.{read_byte}
+use Rattle.html_tokenizer.specs.Tokenizer.Actions.{StringEnd, StringStart, read_byte}
 use Rattle.html_tokenizer.specs.Tokenizer.States.{Tokenizer}
 use Rattle.html_tokenizer.specs.Tokenizer.Tokenization.{actions_of, state_after}
 use Rattle.html_tokenizer.specs.UrlValues.{is_url, value_bytes}
 use Rattle.html_tokenizer.proofs.Passing.{Passes}
 use Rattle.html_tokenizer.proofs.UrlValues.Apart.Bytes.{KeepsUrl, StaysApart, keeps_url, stays_apart}
-use Rattle.html_tokenizer.proofs.UrlValues.Apart.NewAttributes.{BeginsNone, text_begins_none, text_in_value}
+use Rattle.html_tokenizer.proofs.UrlValues.Apart.NewAttributes.{BeginsNone, literal_begins_none, text_begins_none, text_in_value}
 use Rattle.html_tokenizer.proofs.UrlValues.Apart.OneByte.{IsApart}
 use Rattle.html_tokenizer.proofs.UrlValues.Places.{is_value_place}
 use Rattle.html_tokenizer.proofs.UrlValues.Slots.Tame.{IsTame}
@@ -20,6 +20,13 @@ pub text_apart : (p : SlotPlace) (t u : Tokenizer) (bytes text : List ℕ) → I
     StaysApart t bytes u
 text_apart p t u bytes text apart passes =
     subst (λ (x : Tokenizer). StaysApart t bytes x) passes.after (stays_apart t bytes apart (none_in_text p t u bytes text passes))
+
+-- so is a string literal
+pub literal_apart : (p : SlotPlace) (t u : Tokenizer) (bytes text : List ℕ) → IsApart t →
+    Passes t bytes (StringStart ∷ (map (read_byte p) text ++ StringEnd ∷ [])) u → StaysApart t bytes u
+literal_apart p t u bytes text apart passes =
+    subst (λ (x : Tokenizer). StaysApart t bytes x) passes.after
+    (stays_apart t bytes apart (subst BeginsNone (sym passes.actions) (literal_begins_none p text)))
 
 -- in a URL that is open before and after them
 pub text_in_url : (p : SlotPlace) (t u : Tokenizer) (bytes text : List ℕ) → is_value_place p ≡ true → IsTame t → is_url t.attribute ≡ true →
