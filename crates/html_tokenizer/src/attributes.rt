@@ -2,7 +2,7 @@
 pub(crate) mod encodings;
 
 ghost use Rattle.std.specs.Prelude.{◌≡◌, ℕ, IsTrue, List, [], true};
-ghost use Rattle.html_tokenizer.specs.Tokenizer.Attributes.{attribute_of, content_after, content_after_pragma, fixed, followed, holds_language, holds_url, holds_urls, is_javascript, is_script_tag, is_switch, names_script_type, raw_value, reference_read, value_but_of, value_byte_read, value_of};
+ghost use Rattle.html_tokenizer.specs.Tokenizer.Attributes.{attribute_of, content_after, content_after_pragma, fixed, followed, holds_language, holds_url, holds_urls, is_cache_header, is_javascript, is_script_tag, is_switch, names_script_type, raw_value, reference_read, value_but_of, value_byte_read, value_of};
 ghost use Rattle.html_tokenizer.specs.Tokenizer.Elements.{is_meta};
 ghost use Rattle.html_tokenizer.specs.Tokenizer.Phases.{attribute_in, moved, word_after};
 ghost use Rattle.html_tokenizer.specs.Tokenizer.States.{Ordinary};
@@ -206,17 +206,30 @@ pub(crate) fn content_after(content: Content, kind: Kind, word: &[u8]) -> Option
     }
 }
 
+fn is_cache_header(name: &[u8]) -> bool
+    ensures { result ≡ is_cache_header name.now }
+{
+    name == b"cache-control".as_slice()
+        || name == b"expires".as_slice()
+        || name == b"last-modified".as_slice()
+        || name == b"pragma".as_slice()
+}
+
 fn content_after_pragma(content: Content, name: &[u8]) -> Option<Content>
     ensures { result ≡ content_after_pragma content.element content name.now }
 {
     match content.element {
-        OpenElement::MetaContent if name == b"x-ua-compatible".as_slice() => {
-            Some(with_element(content, OpenElement::MetaPragma))
+        OpenElement::MetaContent => {
+            if name == b"x-ua-compatible".as_slice() || is_cache_header(name) {
+                Some(with_element(content, OpenElement::MetaPragma))
+            } else {
+                None
+            }
         }
-        OpenElement::MetaContent => None,
         _ if name == b"content-type".as_slice() => {
             Some(with_element(content, OpenElement::MetaType))
         }
+        _ if is_cache_header(name) => Some(with_element(content, OpenElement::MetaContent)),
         _ => Some(content),
     }
 }

@@ -38,7 +38,7 @@ pub enum OpenElement {
     Frame,
     /// The tag of a `meta`.
     Meta,
-    /// The same after a `content`.
+    /// The same after a `content`, or after an `http-equiv` that user agents ignore.
     MetaContent,
     /// The same after an `http-equiv`.
     MetaPragma,

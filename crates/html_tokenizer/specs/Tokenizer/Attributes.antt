@@ -128,12 +128,21 @@ value_in other content name = plain_value content name
 abbrev pub value_of : Content → List ℕ → Tokenizer
 value_of content name = value_in content.element content name
 
+-- headers of caches, which are no pragma directives: no user agent takes them from a `meta`
+abbrev pub is_cache_header : List ℕ → Bool
+is_cache_header name =
+    bytes_eq name (codes "cache-control") || bytes_eq name (codes "expires") || bytes_eq name (codes "last-modified") ||
+    bytes_eq name (codes "pragma")
+
 -- after the value of an `http-equiv`: 4.2.5.3 Pragma directives. Behind a `content`, in which a slot may have stood,
--- only the one that user agents are required to ignore
+-- only those that user agents ignore, or are required to; behind one that they ignore a slot may stand in the `content`
 abbrev pub content_after_pragma : OpenElement → Content → List ℕ → Option Content
 content_after_pragma MetaContent content name =
-    if bytes_eq name (codes "x-ua-compatible") then Some (with_element content MetaPragma) else None
-content_after_pragma other content name = Some (if bytes_eq name (codes "content-type") then with_element content MetaType else content)
+    if bytes_eq name (codes "x-ua-compatible") || is_cache_header name then Some (with_element content MetaPragma) else None
+content_after_pragma other content name =
+    if bytes_eq name (codes "content-type") then Some (with_element content MetaType)
+    else (if is_cache_header name then Some (with_element content MetaContent)
+    else Some content)
 
 -- after the value of an attribute, if the profile has it
 abbrev pub content_after : Content → Attribute → Option Content
