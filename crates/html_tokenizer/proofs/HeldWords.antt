@@ -1,7 +1,7 @@
 -- Where nothing is held of an attribute: in a reference or an escape, and where its bytes do not tell what it means.
 use Rattle.std.proofs.Common.{ℕ, ◌≡◌, List, refl}
 use Rattle.html_tokenizer.specs.declared.states.Kind.{Kind}
-use Rattle.html_tokenizer.specs.declared.states.Kind.TheVariants.{Ordinary, Forbidden, Link, Url, FixedUrl, ScriptType, Encoding, Pragma, PageType, Unread, Raw}
+use Rattle.html_tokenizer.specs.declared.states.Kind.TheVariants.{Ordinary, Forbidden, Link, Url, FixedUrl, ScriptType, Encoding, Pragma, PageType, Relation, Unread, Raw}
 use Rattle.html_tokenizer.specs.declared.states.Phase.{Phase}
 use Rattle.html_tokenizer.specs.declared.states.Phase.TheVariants as phase
 use Rattle.html_tokenizer.specs.Tokenizer.Attributes.{reference_read}
@@ -20,6 +20,7 @@ reference_read_held ScriptType before word = refl
 reference_read_held Encoding before word = refl
 reference_read_held Pragma before word = refl
 reference_read_held PageType before word = refl
+reference_read_held Relation before word = refl
 reference_read_held Unread before word = refl
 reference_read_held Raw before word = refl
 

@@ -55,6 +55,7 @@ short_content content name normal other short =
       parts.1,
       no (codes "ins") (omega arith),
       no (codes "del") (omega arith),
+      no (codes "link") (omega arith),
       no (codes "xmp") (omega arith),
       no (codes "plaintext") (omega arith),
       no (codes "noembed") (omega arith),

@@ -2,7 +2,7 @@
 pub(crate) mod encodings;
 
 ghost use Rattle.std.specs.Prelude.{◌≡◌, ℕ, IsTrue, List, [], true};
-ghost use Rattle.html_tokenizer.specs.Tokenizer.Attributes.{attribute_of, content_after, content_after_pragma, fixed, followed, holds_language, holds_url, holds_urls, is_cache_header, is_javascript, is_script_tag, is_switch, names_script_type, raw_value, reference_read, value_but_of, value_byte_read, value_of};
+ghost use Rattle.html_tokenizer.specs.Tokenizer.Attributes.{attribute_of, content_after, content_after_pragma, fixed, followed, holds_language, holds_url, holds_urls, is_cache_header, is_javascript, is_script_tag, is_shown_relation, is_switch, names_script_type, raw_value, reference_read, value_but_of, value_byte_read, value_of};
 ghost use Rattle.html_tokenizer.specs.Tokenizer.Elements.{is_meta};
 ghost use Rattle.html_tokenizer.specs.Tokenizer.Phases.{attribute_in, moved, word_after};
 ghost use Rattle.html_tokenizer.specs.Tokenizer.States.{Ordinary};
@@ -161,6 +161,22 @@ fn meta_value(content: Content, name: &[u8]) -> Move
     in_value(Phase::BeforeValue, content, kind, Word::New)
 }
 
+fn is_shown_relation(relation: &[u8]) -> bool
+    ensures { result ≡ is_shown_relation relation.now }
+{
+    relation == b"alternate".as_slice()
+        || relation == b"author".as_slice()
+        || relation == b"canonical".as_slice()
+        || relation == b"help".as_slice()
+        || relation == b"icon".as_slice()
+        || relation == b"shortcut icon".as_slice()
+        || relation == b"apple-touch-icon".as_slice()
+        || relation == b"license".as_slice()
+        || relation == b"next".as_slice()
+        || relation == b"prev".as_slice()
+        || relation == b"search".as_slice()
+}
+
 // After the `=` of an attribute in a `noscript`.
 fn raw_value(content: Content, name: &[u8]) -> Move
     ensures { moved result name.now ≡ raw_value content name.now }
@@ -183,6 +199,9 @@ pub(crate) fn value_of(content: Content, name: &[u8]) -> Move
         OpenElement::LinkTag => {
             let kind = followed(attribute_of(name));
             in_value(Phase::BeforeValue, content, kind, Word::New)
+        }
+        OpenElement::ResourceTag if name == b"rel".as_slice() => {
+            in_value(Phase::BeforeValue, content, Kind::Relation, Word::New)
         }
         OpenElement::EmbedTag
         | OpenElement::SvgEmbedTag
@@ -242,6 +261,10 @@ fn content_after_word(content: Content, kind: Kind, word: &[u8]) -> Option<Conte
         Kind::Pragma => content_after_pragma(content, word),
         Kind::Encoding if !is_utf_8(word) => None,
         Kind::PageType if !names_no_other(word) => None,
+        Kind::Relation if is_shown_relation(word) => {
+            Some(with_element(content, OpenElement::LinkTag))
+        }
+        Kind::Relation => Some(with_element(content, OpenElement::Normal)),
         Kind::Unread => None,
         _ => Some(content),
     }
@@ -253,9 +276,11 @@ pub(crate) fn value_byte_read(kind: Kind, word: &[u8], byte: u8) -> (Kind, Word)
         ≡ value_byte_read (attribute_in kind word.now) byte }
 {
     match kind {
-        Kind::ScriptType | Kind::Encoding | Kind::Pragma | Kind::PageType => {
-            (kind, Word::Add(byte.to_ascii_lowercase()))
-        }
+        Kind::ScriptType
+        | Kind::Encoding
+        | Kind::Pragma
+        | Kind::PageType
+        | Kind::Relation => (kind, Word::Add(byte.to_ascii_lowercase())),
         Kind::Raw if byte == b'<' => (Kind::Unread, Word::New),
         _ => (kind, Word::New),
     }

@@ -46,6 +46,8 @@ pub enum OpenElement {
     MetaType,
     /// The tag of an element that only shows or follows its URLs, as `a` and `img`.
     LinkTag,
+    /// The tag of a `link`, before its `rel`.
+    ResourceTag,
     /// The tag of an `embed` or an `object`.
     EmbedTag,
     /// The same in an `svg`.
@@ -141,6 +143,8 @@ fn in_normal(name: &[u8]) -> Option<OpenElement>
         Some(OpenElement::EmbedTag)
     } else if follows_urls(name) {
         Some(OpenElement::LinkTag)
+    } else if name == b"link".as_slice() {
+        Some(OpenElement::ResourceTag)
     } else if is_left_out(name) {
         None
     } else {
@@ -237,6 +241,7 @@ fn inside_element(element: OpenElement) -> OpenElement
         | OpenElement::MetaPragma
         | OpenElement::MetaType
         | OpenElement::LinkTag
+        | OpenElement::ResourceTag
         | OpenElement::EmbedTag => OpenElement::Normal,
         OpenElement::DataBlock => OpenElement::Script,
         OpenElement::SvgTag | OpenElement::SvgEmbedTag => OpenElement::Svg,

@@ -426,7 +426,8 @@ impl<A: Allocator> Reader<A> {
         match self.kind {
             Kind::Link | Kind::Url | Kind::FixedUrl => true,
             Kind::Ordinary | Kind::Forbidden | Kind::Unread | Kind::Raw => false,
-            Kind::ScriptType | Kind::Encoding | Kind::Pragma | Kind::PageType => false,
+            Kind::ScriptType | Kind::Encoding | Kind::Pragma => false,
+            Kind::PageType | Kind::Relation => false,
         }
     }
 

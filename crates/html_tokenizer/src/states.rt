@@ -148,6 +148,7 @@ pub(crate) enum Kind {
     Encoding,
     Pragma,
     PageType,
+    Relation,
     Unread,
     Raw,
 }

@@ -6,9 +6,9 @@ use Rattle.hesc_specs.specs.Text.Ascii.{less_than}
 use Rattle.hesc_specs.specs.Text.Words.{begins}
 use Rattle.html_tokenizer.specs.declared.elements.Content.{Content}
 use Rattle.html_tokenizer.specs.declared.elements.OpenElement.{OpenElement}
-use Rattle.html_tokenizer.specs.declared.elements.OpenElement.TheVariants.{Script, DataBlock, Meta, MetaContent, MetaPragma, MetaType, LinkTag, EmbedTag, SvgEmbedTag, MathEmbedTag, SelectEmbedTag, NoScript, NoScriptStyle, NoScriptFrame}
+use Rattle.html_tokenizer.specs.declared.elements.OpenElement.TheVariants.{Normal, ResourceTag, Script, DataBlock, Meta, MetaContent, MetaPragma, MetaType, LinkTag, EmbedTag, SvgEmbedTag, MathEmbedTag, SelectEmbedTag, NoScript, NoScriptStyle, NoScriptFrame}
 use Rattle.html_tokenizer.specs.Tokenizer.Attributes.Encodings.{is_utf_8, names_no_other}
-use Rattle.html_tokenizer.specs.Tokenizer.States.{Tokenizer, Attribute, Ordinary, Forbidden, Link, Url, FixedUrl, ScriptType, Encoding, Pragma, PageType, Unread, Raw, BeforeValue, at_value, refused}
+use Rattle.html_tokenizer.specs.Tokenizer.States.{Tokenizer, Attribute, Ordinary, Forbidden, Link, Url, FixedUrl, ScriptType, Encoding, Pragma, PageType, Relation, Unread, Raw, BeforeValue, at_value, refused}
 use Rattle.html_tokenizer.specs.Tokenizer.Elements.{with_element}
 
 -- event handlers, styles and pages
@@ -62,6 +62,14 @@ is_javascript type =
     bytes_eq type [] || bytes_eq type (codes "module") ||
     bytes_eq type (codes "text/javascript") || bytes_eq type (codes "application/javascript")
 
+-- 4.6.7 Link types: the `rel` of a `link` whose URL is only shown, or followed by the reader
+abbrev pub is_shown_relation : List ℕ → Bool
+is_shown_relation relation =
+    bytes_eq relation (codes "alternate") || bytes_eq relation (codes "author") || bytes_eq relation (codes "canonical") ||
+    bytes_eq relation (codes "help") || bytes_eq relation (codes "icon") || bytes_eq relation (codes "shortcut icon") ||
+    bytes_eq relation (codes "apple-touch-icon") || bytes_eq relation (codes "license") || bytes_eq relation (codes "next") ||
+    bytes_eq relation (codes "prev") || bytes_eq relation (codes "search")
+
 -- the attributes of a `meta` by which a page names its encoding, or has a header of its own: 4.2.5 The meta element
 abbrev pub is_charset : List ℕ → Bool
 is_charset name = bytes_eq name (codes "charset")
@@ -102,7 +110,7 @@ raw_value content name = if is_charset name || is_http_equiv name then refused e
 
 -- after the `=` of an attribute: a script is a data block unless its one type is JavaScript's, and with a `for` other
 -- than `window` it is passed over (4.12.1); a `meta` has one `http-equiv`; of the `type` `text/html` an `embed` or an
--- `object` runs its resource as a page (4.8.6, 4.8.7)
+-- `object` runs its resource as a page (4.8.6, 4.8.7); the first `rel` of a `link` says what it is to the page (4.2.4)
 abbrev pub value_in : OpenElement → Content → List ℕ → Tokenizer
 value_in Script content name =
     if bytes_eq name (codes "type") then at_value BeforeValue (with_element content DataBlock) (ScriptType [])
@@ -120,6 +128,8 @@ value_in SvgEmbedTag content name = value_but_of (codes "type") content name
 value_in MathEmbedTag content name = value_but_of (codes "type") content name
 value_in SelectEmbedTag content name = value_but_of (codes "type") content name
 value_in LinkTag content name = at_value BeforeValue content (followed (attribute_of name))
+value_in ResourceTag content name =
+    if bytes_eq name (codes "rel") then at_value BeforeValue content (Relation []) else plain_value content name
 value_in NoScript content name = raw_value content name
 value_in NoScriptStyle content name = raw_value content name
 value_in NoScriptFrame content name = raw_value content name
@@ -150,6 +160,7 @@ content_after content (ScriptType type) = Some (if is_javascript type then with_
 content_after content (Encoding label) = if is_utf_8 label then Some content else None
 content_after content (Pragma name) = content_after_pragma content.element content name
 content_after content (PageType value) = if names_no_other value then Some content else None
+content_after content (Relation relation) = Some (with_element content (if is_shown_relation relation then LinkTag else Normal))
 content_after content Unread = None
 content_after content other = Some content
 
@@ -164,6 +175,7 @@ value_byte_read (ScriptType type) b = ScriptType (type ++ to_ascii_lowercase b �
 value_byte_read (Encoding label) b = Encoding (label ++ to_ascii_lowercase b ∷ [])
 value_byte_read (Pragma name) b = Pragma (name ++ to_ascii_lowercase b ∷ [])
 value_byte_read (PageType value) b = PageType (value ++ to_ascii_lowercase b ∷ [])
+value_byte_read (Relation relation) b = Relation (relation ++ to_ascii_lowercase b ∷ [])
 value_byte_read Unread b = Unread
 value_byte_read Raw b = if b == less_than then Unread else Raw
 

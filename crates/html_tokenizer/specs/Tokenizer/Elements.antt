@@ -6,7 +6,7 @@ use Rattle.html_tokenizer.specs.declared.slot_place.SlotPlace.TheVariants as pla
 use Rattle.html_tokenizer.specs.declared.states.Code.TheVariants.{Front, Plain, Opaque}
 use Rattle.html_tokenizer.specs.declared.elements.Content.{Content}
 use Rattle.html_tokenizer.specs.declared.elements.OpenElement.{OpenElement}
-use Rattle.html_tokenizer.specs.declared.elements.OpenElement.TheVariants.{Normal, Title, Textarea, Script, DataBlock, Style, Frame, Meta, MetaContent, MetaPragma, MetaType, LinkTag, EmbedTag, SvgEmbedTag, MathEmbedTag, SelectEmbedTag, SvgTag, Svg, SvgTitle, SvgStyle, MathTag, Math, MathMi, MathMo, MathMn, MathMs, MathMtext, Select, NoScript, NoScriptStyle, NoScriptFrame}
+use Rattle.html_tokenizer.specs.declared.elements.OpenElement.TheVariants.{Normal, Title, Textarea, Script, DataBlock, Style, Frame, Meta, MetaContent, MetaPragma, MetaType, LinkTag, ResourceTag, EmbedTag, SvgEmbedTag, MathEmbedTag, SelectEmbedTag, SvgTag, Svg, SvgTitle, SvgStyle, MathTag, Math, MathMi, MathMo, MathMn, MathMs, MathMtext, Select, NoScript, NoScriptStyle, NoScriptFrame}
 use Rattle.html_tokenizer.specs.Tokenizer.Elements.Restricted.{is_left_out, runs_by_type, in_svg, in_math, in_select, in_noscript}
 use Rattle.html_tokenizer.specs.Tokenizer.States as state
 use Rattle.html_tokenizer.specs.Tokenizer.States.{State}
@@ -37,8 +37,9 @@ in_normal name =
     else (if bytes_eq name (codes "iframe") then Some Frame
     else (if runs_by_type name then Some EmbedTag
     else (if follows_urls name then Some LinkTag
+    else (if bytes_eq name (codes "link") then Some ResourceTag
     else (if is_left_out name then None
-    else Some Normal))))))))))))
+    else Some Normal)))))))))))))
 
 abbrev pub element_of : OpenElement → List ℕ → Option OpenElement
 element_of Svg name = in_svg name
@@ -86,6 +87,7 @@ inside_element MetaPragma = Normal
 inside_element MetaType = Normal
 inside_element DataBlock = Script
 inside_element LinkTag = Normal
+inside_element ResourceTag = Normal
 inside_element EmbedTag = Normal
 inside_element SvgEmbedTag = Svg
 inside_element MathEmbedTag = Math

@@ -66,6 +66,7 @@ attribute_in kind.ScriptType word = state.ScriptType word
 attribute_in kind.Encoding word = state.Encoding word
 attribute_in kind.Pragma word = state.Pragma word
 attribute_in kind.PageType word = state.PageType word
+attribute_in kind.Relation word = state.Relation word
 attribute_in kind.Unread word = state.Unread
 attribute_in kind.Raw word = state.Raw
 

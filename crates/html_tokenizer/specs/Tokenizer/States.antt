@@ -92,6 +92,8 @@ pub data Attribute : Type 0 where
   Encoding : List ℕ → Attribute
   Pragma : List ℕ → Attribute
   PageType : List ℕ → Attribute
+  -- the `rel` of a `link`, and its bytes so far
+  Relation : List ℕ → Attribute
   -- one of these three, with a reference in it, or the next, with a `<` in it
   Unread : Attribute
   -- in a `noscript`, whose bytes are raw text where scripts run

@@ -104,6 +104,6 @@ pub(crate) fn holds_word(phase: Phase, kind: Kind) -> bool
             | Phase::DoctypeKeyword
     ) || matches!(
         kind,
-        Kind::ScriptType | Kind::Encoding | Kind::Pragma | Kind::PageType
+        Kind::ScriptType | Kind::Encoding | Kind::Pragma | Kind::PageType | Kind::Relation
     )
 }

@@ -4,7 +4,7 @@ use Rattle.std.proofs.lemmas.Bool.{cases_Bool, eqb-true, true≢false}
 use Rattle.hesc_specs.specs.Text.Ascii.{equals_sign, slash}
 use Rattle.html_tokenizer.specs.declared.elements.Content.{Content}
 use Rattle.html_tokenizer.specs.declared.elements.OpenElement.{OpenElement}
-use Rattle.html_tokenizer.specs.declared.elements.OpenElement.TheVariants.{DataBlock, EmbedTag, MathEmbedTag, Meta, MetaContent, MetaPragma, MetaType, NoScript, NoScriptFrame, NoScriptStyle, Script, SelectEmbedTag, SvgEmbedTag}
+use Rattle.html_tokenizer.specs.declared.elements.OpenElement.TheVariants.{ResourceTag, DataBlock, EmbedTag, MathEmbedTag, Meta, MetaContent, MetaPragma, MetaType, NoScript, NoScriptFrame, NoScriptStyle, Script, SelectEmbedTag, SvgEmbedTag}
 use Rattle.html_tokenizer.specs.Tokenizer.Actions.{read_byte, value_end}
 use Rattle.html_tokenizer.specs.Tokenizer.Attributes.{raw_value, value_but_of, value_in, value_of, reference_read}
 use Rattle.html_tokenizer.specs.Tokenizer.Elements.{beside}
@@ -87,6 +87,7 @@ value_begins Meta content name is = grind arith
 value_begins MetaContent content name is = grind arith
 value_begins MetaPragma content name is = grind arith
 value_begins MetaType content name is = grind arith
+value_begins ResourceTag content name is = grind arith
 value_begins NoScript content name is = absurd (true≢false (sym is ∙ raw_is_none content name))
 value_begins NoScriptStyle content name is = absurd (true≢false (sym is ∙ raw_is_none content name))
 value_begins NoScriptFrame content name is = absurd (true≢false (sym is ∙ raw_is_none content name))
