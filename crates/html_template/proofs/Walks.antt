@@ -156,6 +156,15 @@ base_stands behind (kind.Base other) p s = refl
 base_stands behind (kind.OwnBase other) p s = refl
 base_stands behind kind.Literal p s = refl
 
+pub past_base : (behind : BehindBase) (kind : SlotKind) (p : SlotPlace) (t : Tokenizer) → past_slot p kind t ≡ past_slot p (base_kind behind kind) t
+past_base behind kind.Text p t = refl
+past_base behind (kind.UrlPart slot) p t = refl
+past_base behind kind.Link p t = refl
+past_base behind kind.OwnPath p t = refl
+past_base behind (kind.Base other) p t = refl
+past_base behind (kind.OwnBase other) p t = refl
+past_base behind kind.Literal p t = refl
+
 begun_suits : (s : Standing) (slot : PlacedSlot) (url : OpenUrl) (following : Option BehindBase) → IsSuited s slot → IsSuited s (begun slot url following)
 begun_suits s slot (Whole p) (Some behind) is =
     record { suited = base_stands behind slot.kind slot.place s ∙ is.suited; stood = is.stood }

@@ -3,7 +3,7 @@ use Rattle.std.proofs.Common.{ℕ, ◌≡◌, ◌⊎◌, ◌==◌, ◌+◌, Bool
 use Rattle.std.specs.List.{list_any}
 use Rattle.std.proofs.lemmas.Bool.{cases_Bool, cond-false, cond-true, ne_eqb, true≢false}
 use Rattle.html_template.specs.OpenUrls.{before, begun, first_slot, plain_text, url_markup}
-use Rattle.html_template.specs.Slots.{base_kind}
+use Rattle.html_template.specs.Slots.{base_kind, past_slot as past_place, suits}
 use Rattle.html_template.specs.TemplateFaults.{Walk, at_beginning, behind_markup, behind_slot, faulty_part, pieces_from, put, put_all, slot_at, template_of, told_behind, Told}
 use Rattle.html_template.specs.Templates.{Chunk, Given, GivenMarkup, GivenSlot, Markup, Slot, after_slot}
 use Rattle.html_template.specs.declared.faults.PartFault.{PartFault}
@@ -14,13 +14,13 @@ use Rattle.html_template.specs.declared.open_url.OpenUrl.{OpenUrl}
 use Rattle.html_template.specs.declared.open_url.OpenUrl.TheVariants.{Outside, Within, Whole, Front}
 use Rattle.html_template.specs.declared.open_url.PlacedSlot.{PlacedSlot}
 use Rattle.html_template.specs.declared.parts.SlotKind.{SlotKind}
-use Rattle.html_template.proofs.Walks.{base_stands}
+use Rattle.html_template.proofs.Walks.{base_stands, past_base}
 use Rattle.html_tokenizer.specs.Standing.{is_refused, may_end, standing}
-use Rattle.html_tokenizer.specs.Tokenizer.States.{In, Tokenizer, at_value, refused}
+use Rattle.html_tokenizer.specs.Tokenizer.States.{Tokenizer, refused}
 use Rattle.html_tokenizer.specs.Tokenizer.Tokenization.{state_after}
 use Rattle.html_tokenizer.specs.UrlValues.{after_last, begins_value, is_url}
 use Rattle.html_tokenizer.specs.declared.reader.Standing.{Standing}
-use Rattle.html_tokenizer.specs.declared.reader.Standing.TheVariants.{Stands, InUrl, InLink, Nowhere, Barred}
+use Rattle.html_tokenizer.specs.declared.reader.Standing.TheVariants.{Stands, InUrl, InLink, InScript, Nowhere, Barred}
 use Rattle.html_tokenizer.specs.declared.slot_place.SlotPlace.{SlotPlace}
 use Rattle.html_tokenizer.proofs.Passing.{state_after-append}
 use Rattle.html_tokenizer.proofs.UrlValues.Following.{same_place}
@@ -155,7 +155,9 @@ slot_told walk number markup next found more at = rw (at.read, at.told, at.stand
 
 -- the tokenizer is in the same state behind a base
 after_as : (behind : BehindBase) (p : SlotPlace) (kind : SlotKind) (t : Tokenizer) → after_slot p (base_kind behind kind) t ≡ after_slot p kind t
-after_as behind p kind t = ap (λ suited. if suited then at_value (In p) t.content t.attribute else refused) (base_stands behind kind p (standing t))
+after_as behind p kind t =
+    ap (λ suited. if suited then past_place p (base_kind behind kind) t else refused) (base_stands behind kind p (standing t))
+    ∙ ap (λ u. if suits kind p (standing t) then u else refused) (sym (past_base behind kind p t))
 
 begun_turned : (walk : Walk) (found : PlacedSlot) (url : OpenUrl) (following : Option BehindBase) → found.url ≡ url →
     behind_slot walk (begun found url following) ≡ turned_walk (behind_slot walk found) following
@@ -308,6 +310,7 @@ slot_same way t url markup (InLink p) state gone is =
     ∙ ap (first_slot p true)
     (last_same (begins_value p) gone.front way.markup (is_marked p way t url markup state gone (ap (in_url p) is ∙ same_place p)))
 slot_same way t url markup (Stands p) state gone is = refl
+slot_same way t url markup InScript state gone is = refl
 slot_same way t url markup Barred state gone is = refl
 slot_same way t url markup Nowhere state gone is = refl
 

@@ -17,7 +17,7 @@ use Rattle.html_template.specs.declared.open_url.OpenUrl.{OpenUrl}
 use Rattle.html_template.specs.declared.open_url.OpenUrl.TheVariants.{Outside, Within, Whole, Front}
 use Rattle.html_template.specs.declared.open_url.PlacedSlot.{PlacedSlot}
 use Rattle.html_tokenizer.specs.declared.reader.Standing.{Standing}
-use Rattle.html_tokenizer.specs.declared.reader.Standing.TheVariants.{Stands, InUrl, InLink, Nowhere, Barred}
+use Rattle.html_tokenizer.specs.declared.reader.Standing.TheVariants.{Stands, InUrl, InLink, InScript, Nowhere, Barred}
 use Rattle.html_tokenizer.specs.declared.slot_place.SlotPlace.{SlotPlace}
 use Rattle.html_tokenizer.specs.UrlValues.{after_last, begins_value, ends_value}
 
@@ -146,5 +146,6 @@ pub slot_more : (standing : Standing) (slot : PlacedSlot) (front markup : List â
 slot_more (Stands p) slot front markup told = told
 slot_more (InUrl p) slot front markup told = url_more p false slot front markup told
 slot_more (InLink p) slot front markup told = url_more p true slot front markup told
+slot_more InScript slot front markup told = told
 slot_more Barred slot front markup told = absurd (cc)
 slot_more Nowhere slot front markup told = absurd (cc)

@@ -69,6 +69,7 @@ text_fits p (kind.OwnBase behind) text is =
     (λ (own : is_own_base behind text ≡ true). own)
     (λ (none : is_own_base behind text ≡ false). let here : Some fault.NotAnOwnBase ≡ None = rw none at is in absurd (cc))
     (cases_Bool (is_own_base behind text))
+text_fits p kind.Literal text is = tt
 
 fitting_fits : (slot : Placed) (text found : List ℕ) (first : Option TextFault) → text_fault slot.place slot.kind text ≡ first →
     fitting slot text first ≡ Ok found → MayFill slot.place slot.kind found

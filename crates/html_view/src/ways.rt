@@ -338,7 +338,7 @@ fn is_same_kind(first: SlotKind, second: SlotKind) -> bool
     ensures { IsTrue result → first ≡ second }
 {
     match (first, second) {
-        (SlotKind::Text, SlotKind::Text) => true,
+        (SlotKind::Text, SlotKind::Text) | (SlotKind::Literal, SlotKind::Literal) => true,
         (SlotKind::UrlPart(slot), SlotKind::UrlPart(other)) => {
             slot.place == other.place && slot.begins_segment == other.begins_segment
         }

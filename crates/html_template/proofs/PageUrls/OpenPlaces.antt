@@ -10,7 +10,7 @@ use Rattle.html_template.specs.declared.open_url.PlacedSlot.{PlacedSlot}
 use Rattle.html_template.specs.declared.parts.SlotKind.{SlotKind}
 use Rattle.html_template.specs.declared.parts.SlotKind.TheVariants as kind
 use Rattle.html_template.specs.OpenUrls.{before, begun, behind_front, url_markup, url_slot, value_length}
-use Rattle.html_template.specs.Slots.{base_kind, past_slot, suits}
+use Rattle.html_template.specs.Slots.{past_slot, suits}
 use Rattle.html_template.specs.TemplateFaults.{slot_at}
 use Rattle.html_tokenizer.specs.declared.elements.Content.{Content}
 use Rattle.html_tokenizer.specs.declared.reader.Standing.{Standing}
@@ -33,7 +33,7 @@ use Rattle.html_template.proofs.PageUrls.OpenEnds.{no_end}
 use Rattle.html_template.proofs.PageUrls.Opening.{StandsAt, value_place}
 use Rattle.html_template.proofs.PageUrls.Placed.{InPart, IsFirst, first_told, part_told, past_markup, whole}
 use Rattle.html_template.proofs.TemplateLaw.{base_in_url, part_in_url, whole_in_url}
-use Rattle.html_template.proofs.Walks.{in_script, ok_slot, slot_suits}
+use Rattle.html_template.proofs.Walks.{in_script, ok_slot, past_base, slot_suits}
 use Rattle.html_template.proofs.PageUrls.Splitting.{IsCut, IsWhole, whole_or_cut}
 
 abbrev pub OpenStands : OpenUrl → Tokenizer → Type 0
@@ -180,15 +180,6 @@ placed_stands markup url t (InLink p) slot is told =
 placed_stands markup url t InScript slot is told = subst (λ (x : PlacedSlot). OpenStands x.url (past_slot x.place x.kind t)) (ok_slot told) tt
 placed_stands markup url t Barred slot is told = absurd (cc)
 placed_stands markup url t Nowhere slot is told = absurd (cc)
-
-past_base : (behind : BehindBase) (kind : SlotKind) (p : SlotPlace) (t : Tokenizer) → past_slot p kind t ≡ past_slot p (base_kind behind kind) t
-past_base behind kind.Text p t = refl
-past_base behind (kind.UrlPart slot) p t = refl
-past_base behind kind.Link p t = refl
-past_base behind kind.OwnPath p t = refl
-past_base behind (kind.Base other) p t = refl
-past_base behind (kind.OwnBase other) p t = refl
-past_base behind kind.Literal p t = refl
 
 -- also where it is a base
 begun_stands : (t : Tokenizer) (slot : PlacedSlot) (url : OpenUrl) (following : Option BehindBase) → slot.url ≡ url →
