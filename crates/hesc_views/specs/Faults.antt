@@ -47,7 +47,7 @@ wrong_part part.Forbidden = codes "no text may stand here, since it would be rea
 wrong_part part.NotPlain = codes "this URL has a slot; percent-encode white space, \\ and other references than &amp;"
 wrong_part part.NotFixed = codes "the host of this URL is open; begin it with / or https://host/"
 wrong_part part.DotSegment = codes "a segment of this URL may be . or ..; write other bytes beside the dots"
-wrong_part part.AfterLink = codes "a slot is the whole URL; nothing may follow it there"
+wrong_part part.AfterLink = codes "a slot begins this URL; it may go on with one /, ?, #, a letter, a digit or _"
 
 abbrev pub wrong_value : ValueFault → List ℕ
 wrong_value value.Missing = codes "no value has this name"
@@ -58,12 +58,14 @@ wrong_value (value.Unfit text.EmptySegment) = codes "the text is empty, and a se
 wrong_value (value.Unfit text.DotSegment) = codes "the text is . or .., and a segment of a URL is not"
 wrong_value (value.Unfit text.NotALink) = codes "the text is no link; its scheme has to be http, https or mailto"
 wrong_value (value.Unfit text.NotAnOwnPath) = codes "the text is no own path; begin it with one /, and leave out white space, \\ and dot segments"
+wrong_value (value.Unfit text.NotABase) = codes "the text is no base; begin it with one /, http:// or https://, leave out ?, # and dot segments, and end it in / before a name alone"
+wrong_value (value.Unfit text.NotAnOwnBase) = codes "the text is no base of the page's own host; begin it with one /"
 
 abbrev pub wrong_here : Refusal → List ℕ
 wrong_here (Tag why) = wrong_tag why
 wrong_here (Part why standing) = wrong_part why
 wrong_here (Value why) = wrong_value why
-wrong_here Ambiguous = codes "this slot stands in two places; write one slot for each"
+wrong_here Ambiguous = codes "this slot stands in two places, or before two kinds of markup; write one slot for each"
 wrong_here TooManyWays = codes "too many sections stand within one tag; let each hold whole attributes or whole tags"
 
 abbrev pub what_is_wrong : Fault → List ℕ

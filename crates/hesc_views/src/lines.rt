@@ -159,7 +159,7 @@ fn what_is_wrong(fault: Fault) -> &'static str
         Fault::At(_, Refusal::Part(why, _)) => wrong_part(why),
         Fault::At(_, Refusal::Value(why)) => wrong_value(why),
         Fault::At(_, Refusal::Ambiguous) => {
-            "this slot stands in two places; write one slot for each"
+            "this slot stands in two places, or before two kinds of markup; write one slot for each"
         }
         Fault::At(_, Refusal::TooManyWays) => {
             "too many sections stand within one tag; let each hold whole attributes or whole tags"
@@ -204,7 +204,8 @@ fn wrong_part(fault: PartFault) -> &'static str
         PartFault::NotFixed => "the host of this URL is open; begin it with / or https://host/",
         PartFault::DotSegment =>
             "a segment of this URL may be . or ..; write other bytes beside the dots",
-        PartFault::AfterLink => "a slot is the whole URL; nothing may follow it there",
+        PartFault::AfterLink =>
+            "a slot begins this URL; it may go on with one /, ?, #, a letter, a digit or _",
     }
 }
 
@@ -227,6 +228,12 @@ fn wrong_value(fault: ValueFault) -> &'static str
         }
         ValueFault::Unfit(TextFault::NotAnOwnPath) => {
             "the text is no own path; begin it with one /, and leave out white space, \\ and dot segments"
+        }
+        ValueFault::Unfit(TextFault::NotABase) => {
+            "the text is no base; begin it with one /, http:// or https://, leave out ?, # and dot segments, and end it in / before a name alone"
+        }
+        ValueFault::Unfit(TextFault::NotAnOwnBase) => {
+            "the text is no base of the page's own host; begin it with one /"
         }
     }
 }
