@@ -7,6 +7,7 @@ use uses::asset_page::{AssetTemplate, Assets};
 use uses::breadcrumbs::{Breadcrumbs, Crumb};
 use uses::form_page::{Draft, FormTemplate};
 use uses::home_page::{Stranger, StrangerTemplates};
+use uses::item_links::{self, ItemLinks};
 use uses::link_list::{Found, LinkList};
 use uses::log_item::LogItem;
 use uses::mail_rows::{Mail, MailRows};
@@ -211,6 +212,36 @@ fn a_crumb_is_appended_byte_by_byte(rt: HostRuntime) -> Result<(), Fail> {
     };
     assert!(rt; crumbs.append(&mut page, dots) == Err(FillFault::Text(0, TextFault::DotSegment)));
     assert!(rt; page.as_str() == "<nav><a href=\"/a%2F..%2Fb\">a &gt; b</a> / ");
+    Ok(())
+}
+
+#[test]
+fn an_address_alone_decides_where_items_lead(rt: HostRuntime) -> Result<(), Fail> {
+    let Ok(links) = ItemLinks::new(rt.alloc()) else {
+        assert!(rt; false);
+        return Ok(());
+    };
+    let own = item_links::Item {
+        base: "",
+        id: "../../b",
+        name: "a > b",
+    };
+    let shop = item_links::Item {
+        base: "https://a.example/shop",
+        id: "7?c#d",
+        name: "7",
+    };
+    let mut page = String::new(rt.alloc());
+    assert!(rt; links.append(&mut page, own) == Ok(()));
+    assert!(rt; links.append(&mut page, shop) == Ok(()));
+    assert!(rt;
+        page.as_str()
+            == "<a href=\"/items/..%2F..%2Fb\">a &gt; b</a><a href=\"https://a.example/shop/items/7%3Fc%23d\">7</a>"
+    );
+    for base in ["//a.example", "javascript:f()", "/", "/a/", "/a/..", "a", "/\\a.example"] {
+        let fault = links.append(&mut page, item_links::Item { base, ..shop });
+        assert!(rt; fault == Err(FillFault::Text(0, TextFault::NotABase)), "{base}");
+    }
     Ok(())
 }
 

@@ -135,6 +135,26 @@ fn texts_of_urls_have_their_faults(rt: HostRuntime) {
     };
     let fault = template.append(&mut page, &["//b.example/c.js"]);
     assert!(rt; fault == Err(FillFault::Text(0, TextFault::NotAnOwnPath)));
+    let items = [
+        Part::Markup("<a href=\""),
+        Part::Slot,
+        Part::Markup("/b\">"),
+    ];
+    let Ok(template) = Template::new(rt.alloc(), &items) else {
+        panic!(rt; "the slot is a base");
+    };
+    let fault = template.append(&mut page, &["//c.example"]);
+    assert!(rt; fault == Err(FillFault::Text(0, TextFault::NotABase)));
+    let script = [
+        Part::Markup("<script src=\""),
+        Part::Slot,
+        Part::Markup("/b.js\"></script>"),
+    ];
+    let Ok(template) = Template::new(rt.alloc(), &script) else {
+        panic!(rt; "the slot is an own base");
+    };
+    let fault = template.append(&mut page, &["https://c.example"]);
+    assert!(rt; fault == Err(FillFault::Text(0, TextFault::NotAnOwnBase)));
     assert!(rt; page.as_str() == "");
 }
 

@@ -3,6 +3,7 @@ pub mod AssetPages
 pub mod Breadcrumbs
 pub mod FormPages
 pub mod HomePages
+pub mod ItemLinks
 pub mod LinkLists
 pub mod MailRows
 pub mod PriceLists

@@ -4,6 +4,7 @@ pub mod asset_page;
 pub mod breadcrumbs;
 pub mod form_page;
 pub mod home_page;
+pub mod item_links;
 pub mod link_list;
 pub mod mail_rows;
 pub mod price_list;

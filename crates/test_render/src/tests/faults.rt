@@ -196,10 +196,10 @@ static OF_VIEWS: [Refusal; 13] = [
     ),
     (
         &["check", "v"],
-        &[("v", b"<a href=\"{{a}}/x\">")],
+        &[("v", b"<a href=\"{{a}}.x\">")],
         b"",
         1,
-        "hesc: v:1:15: a slot is the whole URL; nothing may follow it there\n",
+        "hesc: v:1:15: a slot begins this URL; it may go on with one /, ?, #, a letter, a digit or _\n",
     ),
     // Ways.
     (
@@ -207,7 +207,7 @@ static OF_VIEWS: [Refusal; 13] = [
         &[("v", b"<p title={{?x}}'{{/x}}{{^x}}\"{{/x}}a {{a}}'\">")],
         b"",
         1,
-        "hesc: v:1:38: this slot stands in two places; write one slot for each\n",
+        "hesc: v:1:38: this slot stands in two places, or before two kinds of markup; write one slot for each\n",
     ),
     (
         &["check", "v"],

@@ -169,6 +169,7 @@ pub static CHECKS: [Success; 7] = [
             "v",
             b"<p a={{a}} b='{{b}}' c=\"{{c}}\">\
             <a href='/{{d}}?{{e}}#{{f}}' title=t></a><a href='{{g}}'></a><link href='{{m}}'>\
+            <a href='{{n}}/'></a><script src='{{o}}/p'></script>\
             <style>p { content: '{{h}}' \"{{i}}\" }</style><script>x('{{j}}', \"{{k.l}}\")</script>",
         )],
         b"not read",
@@ -180,6 +181,8 @@ pub static CHECKS: [Success; 7] = [
         f single-quoted fragment\n\
         g single-quoted link\n\
         m single-quoted own-path\n\
+        n single-quoted base\n\
+        o single-quoted own-base\n\
         h style-single\n\
         i style-double\n\
         j script-single\n\

@@ -155,9 +155,93 @@ static FAULTS: [(&[Part], Option<TemplateFault>); 14] = [
     ),
 ];
 
+// A URL that begins with a slot, in parts of which two are markup.
+static BASES: [(&[Part], Option<TemplateFault>); 8] = [
+    (
+        &[
+            Part::Markup("<a href=\""),
+            Part::Slot,
+            Part::Markup("/"),
+            Part::Slot,
+            Part::Markup("\">"),
+        ],
+        None,
+    ),
+    (
+        &[
+            Part::Markup("<a href=\""),
+            Part::Slot,
+            Part::Markup("/"),
+            Part::Markup("b\">"),
+        ],
+        None,
+    ),
+    (
+        &[
+            Part::Markup("<a href=\""),
+            Part::Slot,
+            Part::Markup("/b"),
+            Part::Markup("//c\">"),
+        ],
+        None,
+    ),
+    // With an empty text the two would begin a host.
+    (
+        &[
+            Part::Markup("<a href=\""),
+            Part::Slot,
+            Part::Markup("/"),
+            Part::Markup("/b\">"),
+        ],
+        Some(At(3, AfterLink)),
+    ),
+    (
+        &[
+            Part::Markup("<a href=\""),
+            Part::Slot,
+            Part::Markup("//b\">"),
+        ],
+        Some(At(2, AfterLink)),
+    ),
+    (
+        &[
+            Part::Markup("<a href=\""),
+            Part::Slot,
+            Part::Markup(""),
+            Part::Markup("/b\">"),
+        ],
+        Some(At(3, AfterLink)),
+    ),
+    (
+        &[
+            Part::Markup("<a href=\""),
+            Part::Slot,
+            Part::Slot,
+            Part::Markup("/b\">"),
+        ],
+        Some(At(2, AfterLink)),
+    ),
+    (
+        &[
+            Part::Markup("<a href=\""),
+            Part::Slot,
+            Part::Markup("/b"),
+        ],
+        Some(TemplateFault::Unfinished),
+    ),
+];
+
 #[test]
 fn faults_are_told_part_by_part(rt: HostRuntime) {
     for &(parts, wanted) in &FAULTS {
+        let fault = Template::new(rt.alloc(), parts).err();
+        assert!(rt; fault == wanted, "{parts:?}");
+    }
+}
+
+#[test]
+fn a_base_goes_on_over_parts_with_one_slash(rt: HostRuntime) {
+    for &(parts, wanted) in &BASES {
         let fault = Template::new(rt.alloc(), parts).err();
         assert!(rt; fault == wanted, "{parts:?}");
     }

@@ -1,7 +1,8 @@
 //! Bases: which texts may begin a URL that goes on, and where the URL then leads.
 use html_urls::UrlPart::{Markup, Slot};
 use html_urls::{
-    BehindBase, UrlPart, UrlTextFault, append_url, behind_base, encode_component, is_base, laws,
+    BehindBase, OpenPart, UrlPart, UrlTextFault, append_url, behind_base, encode_component, goes_as,
+    is_base, is_own_base, laws, open_behind,
 };
 use std::alloc::Global;
 use std::test::Fail;
@@ -137,6 +138,10 @@ fn texts_are_bases_before_what_follows(rt: HostRuntime) -> Result<(), Fail> {
         assert!(rt; is_base(BehindBase::Slash, text) == slash, "{text:?}/");
         assert!(rt; is_base(BehindBase::Tail, text) == tail, "{text:?}?");
         assert!(rt; is_base(BehindBase::Segment, text) == segment, "{text:?}a");
+        let is_own = text.is_empty() || text.starts_with('/');
+        assert!(rt; is_own_base(BehindBase::Slash, text) == (slash && is_own), "{text:?}/");
+        assert!(rt; is_own_base(BehindBase::Tail, text) == (tail && is_own), "{text:?}?");
+        assert!(rt; is_own_base(BehindBase::Segment, text) == (segment && is_own), "{text:?}a");
     }
     Ok(())
 }
@@ -165,6 +170,22 @@ fn markup_goes_on_by_its_first_byte(rt: HostRuntime) -> Result<(), Fail> {
     ] {
         assert!(rt; behind_base(markup.as_bytes()).is_none(), "{markup}");
     }
+    Ok(())
+}
+
+#[test]
+fn markup_goes_on_as_the_base_was_taken_for(rt: HostRuntime) -> Result<(), Fail> {
+    for behind in [BehindBase::Slash, BehindBase::Tail, BehindBase::Segment] {
+        assert!(rt; goes_as(behind, b"/items/") == (behind == BehindBase::Slash));
+        assert!(rt; goes_as(behind, b"/") == (behind == BehindBase::Slash));
+        assert!(rt; goes_as(behind, b"?q=") == (behind == BehindBase::Tail));
+        assert!(rt; goes_as(behind, b"a") == (behind == BehindBase::Segment));
+        for markup in ["", "//items/", ".html", "&a=b", ":80/"] {
+            assert!(rt; !goes_as(behind, markup.as_bytes()), "{markup}");
+        }
+    }
+    assert!(rt; open_behind(BehindBase::Slash) == OpenPart::NamedSegment);
+    assert!(rt; open_behind(BehindBase::Segment) == OpenPart::NewSegment);
     Ok(())
 }
 
