@@ -14,8 +14,8 @@ use Rattle.html_view.specs.declared.step.Step.TheOpen.{Step-F}
 abbrev pub slot_of : {A : Type 0} → SlotStep A → node.Placed
 slot_of slot = record {
   asked = record { name = words_in slot.name; position = slot.position };
-  place = slot.stored.place;
-  kind = slot.stored.kind;
+  place = slot.checked.stored.place;
+  kind = slot.checked.stored.kind;
 }
 
 abbrev pub opened_of : {A : Type 0} → OpeningStep A → node.Opening

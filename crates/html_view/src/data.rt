@@ -78,7 +78,15 @@ pub(crate) enum Around<'s, 'p, 't> {
 fn is_same(name: &str, word: &str) -> bool
     ensures { result ≡ bytes_eq name.now word.now }
 {
-    name.len() == word.len() && name == word
+    name.len() == word.len() && are_same(name, word)
+}
+
+// It is called, so that nothing is made ready for it before the lengths agree.
+#[inline(never)]
+fn are_same(name: &str, word: &str) -> bool
+    ensures { result ≡ bytes_eq name.now word.now }
+{
+    name == word
 }
 
 // The first value of this name.
@@ -126,9 +134,9 @@ fn member_of<'p, 't>(value: Value<'p, 't>, word: &str) -> Option<Value<'p, 't>>
     None
 }
 
-// The value of a word, from inside out.
+/// The value of a word, from inside out.
 #[inline(always)]
-fn find<'s, 'p, 't>(around: &Around<'s, 'p, 't>, word: &str) -> Option<Value<'p, 't>>
+pub(crate) fn find<'s, 'p, 't>(around: &Around<'s, 'p, 't>, word: &str) -> Option<Value<'p, 't>>
     ensures { option_map datum_of result ≡ data_of.around word.now (stack_of around.now) }
 {
     let mut here = around;

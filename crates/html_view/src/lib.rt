@@ -7,6 +7,7 @@
 #![tactic(auto)]
 
 mod append;
+mod checked;
 mod data;
 mod faults;
 mod follow;

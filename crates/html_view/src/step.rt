@@ -4,10 +4,11 @@ ghost use Rattle.html_view.specs.Kept.{nodes_of, opening_of, placed_node, placed
 ghost use Rattle.html_view.specs.Nodes as spec;
 ghost use Rattle.html_view.specs.Stepped.{opened_of, slot_of, step_node, stepped};
 
+use crate::checked::CheckedSlot;
 use crate::faults::Position;
 use crate::node::{Node, Opening, Placed, Times};
 use crate::words::Words;
-use html_template::{StoredMarkup, StoredSlot};
+use html_template::StoredMarkup;
 use std::alloc::{AllocError, Allocator};
 
 /// A slot, and its name.
@@ -15,7 +16,7 @@ use std::alloc::{AllocError, Allocator};
 pub(crate) struct SlotStep<'a, A: Allocator> {
     pub(crate) name: Words<'a, A>,
     pub(crate) position: Position,
-    pub(crate) stored: StoredSlot,
+    pub(crate) checked: CheckedSlot,
 }
 
 /// The tag that opens a section.
@@ -45,7 +46,7 @@ fn slot_step<'a, A: Allocator + Copy>(
     Ok(SlotStep {
         name,
         position: slot.asked.position,
-        stored: StoredSlot::new(slot.place, slot.kind),
+        checked: CheckedSlot::new(slot.place, slot.kind),
     })
 }
 

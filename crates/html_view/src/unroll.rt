@@ -1,6 +1,8 @@
 //! What data makes of nodes, put into a sink.
 ghost use Rattle.std.specs.Prelude.{◌≡◌, IfErr, IfOk, Ok, Err, option_map};
 ghost use Rattle.std.specs.Str.{IsUtf8};
+ghost use Rattle.html_view.specs.CutNames.{words_in};
+ghost use Rattle.html_view.specs.Data as data_of;
 ghost use Rattle.html_view.specs.Data.{inside, item_stacks, list_stacks, stacks};
 ghost use Rattle.html_view.specs.Nodes as node;
 ghost use Rattle.html_view.specs.Putting.{Puts, PutsFront, StandsSo};
@@ -8,12 +10,13 @@ ghost use Rattle.html_view.specs.Rendered.{text_for, unrolled, unrolled_each};
 ghost use Rattle.html_view.specs.Stepped.{slot_of, step_node, stepped};
 ghost use Rattle.html_view.specs.Values.{datum_of, items_in, stack_of};
 
-use crate::data::{Around, Items, Value, look_up};
+use crate::data::{Around, Items, Value, find, look_up};
 use crate::faults::{Position, ValueFault};
 use crate::node::Times;
 use crate::step::{SlotStep, Step};
+use crate::words::Words;
 use hesc_core::Sink;
-use html_template::{put_markup, put_text, text_fault};
+use html_template::{put_markup, put_text};
 use std::alloc::Allocator;
 
 /// Where a value is refused, and why.
@@ -67,7 +70,7 @@ fn text_for<'p, 't: 'p, A: Allocator>(
     };
     // For the proof alone that it is UTF-8.
     let _length = text.len();
-    match text_fault(&slot.stored, text) {
+    match slot.checked.fault(text) {
         None => Ok(text),
         Some(fault) => Err(ValueFault::Unfit(fault)),
     }
@@ -86,9 +89,50 @@ fn put_slot<'s, 'p, 't: 'p, A: Allocator, S: Sink>(
     ensures same_reference { S.reference sink.new ≡ S.reference sink.old }
     ensures same_before { S.before sink.new ≡ S.before sink.old }
 {
-    let value = look_up(&slot.name, around);
+    match &slot.name {
+        Words::One(word) => put_value(slot, find(around, *word), around, sink, refusal),
+        Words::Innermost | Words::Several(_, _) => put_slot_of_words(slot, around, sink, refusal),
+    }
+}
+
+// The same, of a slot of any name. It is called, so that a slot whose name is one word has to make no room
+// for the values that lie between.
+#[inline(never)]
+fn put_slot_of_words<'s, 'p, 't: 'p, A: Allocator, S: Sink>(
+    slot: &SlotStep<'_, A>,
+    around: &Around<'s, 'p, 't>,
+    sink: &mut S,
+    refusal: &mut Refusal,
+) -> Result<(), Stop<S::Fault>>
+    ensures puts { PutsFront (λ rest. unrolled (node.Slot (slot_of slot.now) rest)
+        (stack_of around.now)) (stack_of around.now) (S.taken sink.old) (S.taken sink.new)
+        refusal.new result }
+    ensures same_reference { S.reference sink.new ≡ S.reference sink.old }
+    ensures same_before { S.before sink.new ≡ S.before sink.old }
+{
+    put_value(slot, look_up(&slot.name, around), around, sink, refusal)
+}
+
+// Puts the text for a slot, whose name means this value.
+#[inline(always)]
+fn put_value<'s, 'p, 't: 'p, A: Allocator, S: Sink>(
+    slot: &SlotStep<'_, A>,
+    value: Option<Value<'p, 't>>,
+    around: &Around<'s, 'p, 't>,
+    sink: &mut S,
+    refusal: &mut Refusal,
+) -> Result<(), Stop<S::Fault>>
+    requires means { option_map datum_of value
+        ≡ data_of.look_up (words_in slot.now.name) (stack_of around.now) }
+    ensures puts { PutsFront (λ rest. unrolled (node.Slot (slot_of slot.now) rest)
+        (stack_of around.now)) (stack_of around.now) (S.taken sink.old) (S.taken sink.new)
+        refusal.new result }
+    ensures same_reference { S.reference sink.new ≡ S.reference sink.old }
+    ensures same_before { S.before sink.new ≡ S.before sink.old }
+{
+    let _around = around;
     match text_for(slot, value) {
-        Ok(text) => match put_text(&slot.stored, text, sink) {
+        Ok(text) => match put_text(&slot.checked.stored, text, sink) {
             Ok(()) => Ok(()),
             Err(fault) => Err(Stop::Failed(fault)),
         },
@@ -204,7 +248,7 @@ fn put_step<'s, 'a, 'p, 't: 'p, A: Allocator, S: Sink>(
             let value = look_up(&opening.name, around);
             match stand_of(opening.times, value, around) {
                 Stand::Never => put_steps(otherwise, around, sink, refusal),
-                Stand::Once(inner) => put_steps(body, &inner, sink, refusal),
+                Stand::Once(inner) => put_once(body, inner, sink, refusal),
                 Stand::Each(items) => put_each(body, items, around, sink, refusal),
                 Stand::Repeated => {
                     *refusal = Refusal {
@@ -216,6 +260,24 @@ fn put_step<'s, 'a, 'p, 't: 'p, A: Allocator, S: Sink>(
             }
         }
     }
+}
+
+// Puts what data makes of a body, once. It is called, so that no other step has to make room for what is
+// around in a body.
+#[cycle(put)]
+#[inline(never)]
+fn put_once<'s, 'a, 'p, 't: 'p, A: Allocator, S: Sink>(
+    body: &Vec<Step<'a, A>, A>,
+    inner: Around<'s, 'p, 't>,
+    sink: &mut S,
+    refusal: &mut Refusal,
+) -> Result<(), Stop<S::Fault>>
+    ensures puts { Puts (unrolled (stepped body.now.items) (stack_of inner.entry))
+        (S.taken sink.old) (S.taken sink.new) refusal.new result }
+    ensures same_reference { S.reference sink.new ≡ S.reference sink.old }
+    ensures same_before { S.before sink.new ≡ S.before sink.old }
+{
+    put_steps(body, &inner, sink, refusal)
 }
 
 // Puts what data makes of a body, once for each item.
