@@ -8,13 +8,13 @@ use Rattle.html_view.specs.Data.{Stack, item_stacks}
 use Rattle.html_view.specs.Nodes.{Nodes, Placed}
 use Rattle.html_view.specs.Rendered.{Unrolled, Unrolling, put_front, rendered, unrolled}
 use Rattle.html_view.specs.Unrolled.{chunk_of}
-use Rattle.html_view.specs.Values.{items_in, stack_of}
+use Rattle.html_view.specs.Values.{datum_of, items_in}
 use Rattle.html_view.specs.Ways.{on_ok}
 use Rattle.html_view.specs.declared.node.Times.{Times}
 use Rattle.html_view.specs.declared.node.Times.TheVariants as time
 use Rattle.html_view.specs.declared.unroll.Refusal.{Refusal}
 use Rattle.html_view.specs.declared.unroll.Stand.{Stand}
-use Rattle.html_view.specs.declared.unroll.Stand.TheVariants.{Never, Once, Each, Repeated}
+use Rattle.html_view.specs.declared.unroll.Stand.TheVariants.{Never, Here, Inside, Each, Repeated}
 use Rattle.html_view.specs.declared.unroll.Stop.{Stop}
 use Rattle.html_view.specs.declared.unroll.Stop.TheVariants.{Refused, Failed}
 
@@ -63,10 +63,12 @@ PutsFront told stack old new refusal (Ok done) = PutFront told stack old new
 PutsFront told stack old new refusal (Err Refused) = (rest : Nodes Placed) → told rest ≡ Err (refusal.position, refusal.why)
 PutsFront told stack old new refusal (Err (Failed fault)) = (rest : Nodes Placed) → PutBeginning (told rest) old new
 
--- the body of a section stands so: never, once, with each item of a list around, or more often than it may
+-- the body of a section stands so: never; once, with the same around or with a value around, too; with each item of a list around; or
+-- more often than it may
 abbrev pub StandsSo : Times → List Stack → Stack → Stand → Type 0
 StandsSo times told stack Never = told ≡ []
-StandsSo times told stack (Once inner) = told ≡ stack_of inner ∷ []
+StandsSo times told stack Here = told ≡ stack ∷ []
+StandsSo times told stack (Inside value) = told ≡ (datum_of value ∷ stack) ∷ []
 StandsSo times told stack (Each items) =
     (times ≡ time.Each) × (first : Stack) × (more : List Stack) × (told ≡ first ∷ more) × (told ≡ item_stacks (items_in items) stack)
 StandsSo times told stack Repeated =

@@ -78,15 +78,7 @@ pub(crate) enum Around<'s, 'p, 't> {
 fn is_same(name: &str, word: &str) -> bool
     ensures { result ≡ bytes_eq name.now word.now }
 {
-    name.len() == word.len() && are_same(name, word)
-}
-
-// It is called, so that nothing is made ready for it before the lengths agree.
-#[inline(never)]
-fn are_same(name: &str, word: &str) -> bool
-    ensures { result ≡ bytes_eq name.now word.now }
-{
-    name == word
+    name.len() == word.len() && name == word
 }
 
 // The first value of this name.

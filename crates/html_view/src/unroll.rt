@@ -1,5 +1,5 @@
 //! What data makes of nodes, put into a sink.
-ghost use Rattle.std.specs.Prelude.{◌≡◌, IfErr, IfOk, Ok, Err, option_map};
+ghost use Rattle.std.specs.Prelude.{◌≡◌, [], ◌∷◌, IfErr, IfOk, Ok, Err, option_map};
 ghost use Rattle.std.specs.Str.{IsUtf8};
 ghost use Rattle.html_view.specs.CutNames.{words_in};
 ghost use Rattle.html_view.specs.Data as data_of;
@@ -148,28 +148,32 @@ fn put_value<'s, 'p, 't: 'p, A: Allocator, S: Sink>(
 
 // How the body of a section stands.
 #[derive(Clone, Copy)]
-enum Stand<'s, 'p, 't> {
+enum Stand<'p, 't> {
     Never,
-    // With this around.
-    Once(Around<'s, 'p, 't>),
+    // With the same around.
+    Here,
+    // With this value around, too.
+    Inside(Value<'p, 't>),
     // With each item around.
     Each(Items<'p, 't>),
     // It would stand more than once, and must not.
     Repeated,
 }
 
-// What is around in a body that stands once.
+// How a body stands that stands once for this value.
 #[inline(always)]
-fn around_body<'s, 'p, 't>(
+fn stand_once<'s, 'p, 't>(
     times: Times,
     value: Value<'p, 't>,
-    around: &'s Around<'s, 'p, 't>,
-) -> Around<'s, 'p, 't>
-    ensures { stack_of result ≡ inside times (datum_of value.entry) (stack_of around.now) }
+    around: &Around<'s, 'p, 't>,
+) -> Stand<'p, 't>
+    ensures { StandsSo times (inside times (datum_of value.entry) (stack_of around.now) ∷ [])
+        (stack_of around.now) result }
 {
+    let _around = around;
     match times {
-        Times::Whether => *around,
-        Times::Each | Times::Once | Times::If => Around::Inside(value, around),
+        Times::Whether => Stand::Here,
+        Times::Each | Times::Once | Times::If => Stand::Inside(value),
     }
 }
 
@@ -178,21 +182,22 @@ fn around_body<'s, 'p, 't>(
 fn stand_of_list<'s, 'p, 't>(
     times: Times,
     items: Items<'p, 't>,
-    around: &'s Around<'s, 'p, 't>,
-) -> Stand<'s, 'p, 't>
+    around: &Around<'s, 'p, 't>,
+) -> Stand<'p, 't>
     ensures { StandsSo times (list_stacks times (items_in items.entry) (stack_of around.now))
         (stack_of around.now) result }
 {
+    let _around = around;
     let Some((first, others)) = items.take_first() else {
         return Stand::Never;
     };
     match times {
         Times::Each => Stand::Each(items),
         Times::Once => match others.take_first() {
-            None => Stand::Once(Around::Inside(first, around)),
+            None => Stand::Inside(first),
             Some(_) => Stand::Repeated,
         },
-        Times::If | Times::Whether => Stand::Once(*around),
+        Times::If | Times::Whether => Stand::Here,
     }
 }
 
@@ -201,8 +206,8 @@ fn stand_of_list<'s, 'p, 't>(
 fn stand_of<'s, 'p, 't>(
     times: Times,
     value: Option<Value<'p, 't>>,
-    around: &'s Around<'s, 'p, 't>,
-) -> Stand<'s, 'p, 't>
+    around: &Around<'s, 'p, 't>,
+) -> Stand<'p, 't>
     ensures { StandsSo times (stacks times (option_map datum_of value.entry) (stack_of around.now))
         (stack_of around.now) result }
 {
@@ -210,15 +215,11 @@ fn stand_of<'s, 'p, 't>(
         None => Stand::Never,
         Some(Value::Null) => Stand::Never,
         Some(Value::Flag(false)) => Stand::Never,
-        Some(Value::Flag(true)) => Stand::Once(*around),
+        Some(Value::Flag(true)) => Stand::Here,
         Some(Value::Text("")) => Stand::Never,
-        Some(Value::Text(text)) => Stand::Once(around_body(times, Value::Text(text), around)),
-        Some(Value::Record(fields)) => {
-            Stand::Once(around_body(times, Value::Record(fields), around))
-        }
-        Some(Value::Object(members)) => {
-            Stand::Once(around_body(times, Value::Object(members), around))
-        }
+        Some(Value::Text(text)) => stand_once(times, Value::Text(text), around),
+        Some(Value::Record(fields)) => stand_once(times, Value::Record(fields), around),
+        Some(Value::Object(members)) => stand_once(times, Value::Object(members), around),
         Some(Value::List(values)) => stand_of_list(times, Items::List(values), around),
         Some(Value::Array(values)) => stand_of_list(times, Items::Array(values), around),
     }
@@ -248,7 +249,8 @@ fn put_step<'s, 'a, 'p, 't: 'p, A: Allocator, S: Sink>(
             let value = look_up(&opening.name, around);
             match stand_of(opening.times, value, around) {
                 Stand::Never => put_steps(otherwise, around, sink, refusal),
-                Stand::Once(inner) => put_once(body, inner, sink, refusal),
+                Stand::Here => put_steps(body, around, sink, refusal),
+                Stand::Inside(value) => put_inside(body, value, around, sink, refusal),
                 Stand::Each(items) => put_each(body, items, around, sink, refusal),
                 Stand::Repeated => {
                     *refusal = Refusal {
@@ -262,21 +264,23 @@ fn put_step<'s, 'a, 'p, 't: 'p, A: Allocator, S: Sink>(
     }
 }
 
-// Puts what data makes of a body, once. It is called, so that no other step has to make room for what is
-// around in a body.
+// Puts what data makes of a body with this value around, too. What is around is made here, so that no other
+// step has to make room for it.
 #[cycle(put)]
-#[inline(never)]
-fn put_once<'s, 'a, 'p, 't: 'p, A: Allocator, S: Sink>(
+#[inline(always)]
+fn put_inside<'s, 'a, 'p, 't: 'p, A: Allocator, S: Sink>(
     body: &Vec<Step<'a, A>, A>,
-    inner: Around<'s, 'p, 't>,
+    value: Value<'p, 't>,
+    around: &'s Around<'s, 'p, 't>,
     sink: &mut S,
     refusal: &mut Refusal,
 ) -> Result<(), Stop<S::Fault>>
-    ensures puts { Puts (unrolled (stepped body.now.items) (stack_of inner.entry))
+    ensures puts { Puts (unrolled (stepped body.now.items) (datum_of value.entry ∷ stack_of around.now))
         (S.taken sink.old) (S.taken sink.new) refusal.new result }
     ensures same_reference { S.reference sink.new ≡ S.reference sink.old }
     ensures same_before { S.before sink.new ≡ S.before sink.old }
 {
+    let inner = Around::Inside(value, around);
     put_steps(body, &inner, sink, refusal)
 }
 

@@ -68,17 +68,29 @@ put_step-returns-in-Never-clause-puts g t c =
     (stacks c.in-Section.opening.times (option_map datum_of c.look_up-value.result) stack) c.in-Never.ensures)
     c.put_steps.ensures.puts)
 
-pub put_step-returns-in-Once-clause-puts : goal.put_step-returns-in-Once-clause-puts
-put_step-returns-in-Once-clause-puts g t c =
+pub put_step-returns-in-Here-clause-puts : goal.put_step-returns-in-Here-clause-puts
+put_step-returns-in-Here-clause-puts g t c =
     let stack = stack_of c.args.around.now in
     let opening = opened_of c.in-Section.opening in
     section_step c.args.step.now c.in-Section.opening c.in-Section.body c.in-Section.otherwise stack (g.S.Sink.taken c.args.sink.now)
-    (g.S.Sink.taken c.put_once.new.sink) c.put_once.new.refusal c.put_once.result c.in-Section.is
+    (g.S.Sink.taken c.put_steps-in-Here.new.sink) c.put_steps-in-Here.new.refusal c.put_steps-in-Here.result c.in-Section.is
     (section_made opening (stepped c.in-Section.body.items) (stepped c.in-Section.otherwise.items) (option_map datum_of c.look_up-value.result) stack
-    (unrolled (stepped c.in-Section.body.items) (stack_of c.in-Once.inner)) _ _ _ _ c.look_up-value.ensures
+    (unrolled (stepped c.in-Section.body.items) stack) _ _ _ _ c.look_up-value.ensures
     (stands_told opening (λ inner. unrolled (stepped c.in-Section.body.items) inner) (unrolled (stepped c.in-Section.otherwise.items) stack)
-    (stacks c.in-Section.opening.times (option_map datum_of c.look_up-value.result) stack) (stack_of c.in-Once.inner) c.in-Once.ensures)
-    c.put_once.ensures.puts)
+    (stacks c.in-Section.opening.times (option_map datum_of c.look_up-value.result) stack) stack c.in-Here.ensures)
+    c.put_steps-in-Here.ensures.puts)
+
+pub put_step-returns-in-Inside-clause-puts : goal.put_step-returns-in-Inside-clause-puts
+put_step-returns-in-Inside-clause-puts g t c =
+    let stack = stack_of c.args.around.now in
+    let opening = opened_of c.in-Section.opening in
+    section_step c.args.step.now c.in-Section.opening c.in-Section.body c.in-Section.otherwise stack (g.S.Sink.taken c.args.sink.now)
+    (g.S.Sink.taken c.put_inside.new.sink) c.put_inside.new.refusal c.put_inside.result c.in-Section.is
+    (section_made opening (stepped c.in-Section.body.items) (stepped c.in-Section.otherwise.items) (option_map datum_of c.look_up-value.result) stack
+    (unrolled (stepped c.in-Section.body.items) (datum_of c.in-Inside.value ∷ stack)) _ _ _ _ c.look_up-value.ensures
+    (stands_told opening (λ inner. unrolled (stepped c.in-Section.body.items) inner) (unrolled (stepped c.in-Section.otherwise.items) stack)
+    (stacks c.in-Section.opening.times (option_map datum_of c.look_up-value.result) stack) (datum_of c.in-Inside.value ∷ stack) c.in-Inside.ensures)
+    c.put_inside.ensures.puts)
 
 pub put_step-returns-in-Each-clause-puts : goal.put_step-returns-in-Each-clause-puts
 put_step-returns-in-Each-clause-puts g t c =
