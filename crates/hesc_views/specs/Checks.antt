@@ -2,7 +2,7 @@
 use Rattle.std.specs.Prelude.{ℕ, List, [], ◌∷◌, ◌++◌, ◌==◌, Bool, true, false, Option, Some, None, codes, length}
 use Rattle.std.specs.List.{concat, flat_map}
 use Rattle.html_template.specs.declared.parts.SlotKind.{SlotKind}
-use Rattle.html_template.specs.declared.parts.SlotKind.TheVariants.{Text, UrlPart, Link, OwnPath, Base, OwnBase}
+use Rattle.html_template.specs.declared.parts.SlotKind.TheVariants.{Text, UrlPart, Link, OwnPath, Base, OwnBase, Literal}
 use Rattle.html_tokenizer.specs.declared.slot_place.SlotPlace.{SlotPlace}
 use Rattle.html_tokenizer.specs.declared.slot_place.SlotPlace.TheVariants as at
 use Rattle.html_urls.specs.declared.place.UrlPlace.{UrlPlace}
@@ -33,13 +33,14 @@ url_word Path = codes " path"
 url_word Query = codes " query"
 url_word Fragment = codes " fragment"
 
--- the word for a part of a URL, a whole one or its beginning, behind a blank
+-- the word for a part of a URL, a whole one or its beginning, and for a string literal, behind a blank
 abbrev pub kind_word : SlotKind → List ℕ
 kind_word Text = []
 kind_word Link = codes " link"
 kind_word OwnPath = codes " own-path"
 kind_word (Base behind) = codes " base"
 kind_word (OwnBase behind) = codes " own-base"
+kind_word Literal = codes " literal"
 kind_word (UrlPart slot) = url_word slot.place
 
 abbrev pub slot_line : Placed → List ℕ

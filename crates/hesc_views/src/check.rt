@@ -119,7 +119,7 @@ fn place_word(place: SlotPlace) -> &'static str
     }
 }
 
-// The word for a part of a URL, a whole one or its beginning, behind a blank.
+// The word for a part of a URL, a whole one or its beginning, and for a string literal, behind a blank.
 fn kind_word(kind: SlotKind) -> &'static str
     ensures { result.now ≡ kind_word kind }
 {
@@ -129,6 +129,7 @@ fn kind_word(kind: SlotKind) -> &'static str
         SlotKind::OwnPath => " own-path",
         SlotKind::Base(_) => " base",
         SlotKind::OwnBase(_) => " own-base",
+        SlotKind::Literal => " literal",
         SlotKind::UrlPart(slot) => match slot.place {
             UrlPlace::Path => " path",
             UrlPlace::Query => " query",

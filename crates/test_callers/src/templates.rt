@@ -8,6 +8,7 @@ use uses::breadcrumbs::{Breadcrumbs, Crumb};
 use uses::form_page::{Draft, FormTemplate};
 use uses::home_page::{Stranger, StrangerTemplates};
 use uses::item_links::{self, ItemLinks};
+use uses::page_script::PageScript;
 use uses::link_list::{Found, LinkList};
 use uses::log_item::LogItem;
 use uses::mail_rows::{Mail, MailRows};
@@ -242,6 +243,21 @@ fn an_address_alone_decides_where_items_lead(rt: HostRuntime) -> Result<(), Fail
         let fault = links.append(&mut page, item_links::Item { base, ..shop });
         assert!(rt; fault == Err(FillFault::Text(0, TextFault::NotABase)), "{base}");
     }
+    Ok(())
+}
+
+#[test]
+fn a_script_starts_with_any_values(rt: HostRuntime) -> Result<(), Fail> {
+    let Ok(script) = PageScript::new(rt.alloc()) else {
+        assert!(rt; false);
+        return Ok(());
+    };
+    let mut page = String::new(rt.alloc());
+    assert!(rt; script.append(&mut page, "a\"b", "{\"c\": \"</script>\"}") == Ok(()));
+    assert!(rt;
+        page.as_str()
+            == "<script>var user = \"a\\\"b\"; show(JSON.parse(\"{\\\"c\\\": \\\"\\x3C/script>\\\"}\"));</script>"
+    );
     Ok(())
 }
 

@@ -6,5 +6,6 @@ pub mod HomePages
 pub mod ItemLinks
 pub mod LinkLists
 pub mod MailRows
+pub mod PageScripts
 pub mod PriceLists
 pub mod SearchPages

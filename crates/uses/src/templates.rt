@@ -7,5 +7,6 @@ pub mod home_page;
 pub mod item_links;
 pub mod link_list;
 pub mod mail_rows;
+pub mod page_script;
 pub mod price_list;
 pub mod search_page;

@@ -170,7 +170,7 @@ pub static CHECKS: [Success; 7] = [
             b"<p a={{a}} b='{{b}}' c=\"{{c}}\">\
             <a href='/{{d}}?{{e}}#{{f}}' title=t></a><a href='{{g}}'></a><link href='{{m}}'>\
             <a href='{{n}}/'></a><script src='{{o}}/p'></script>\
-            <style>p { content: '{{h}}' \"{{i}}\" }</style><script>x('{{j}}', \"{{k.l}}\")</script>",
+            <style>p { content: '{{h}}' \"{{i}}\" }</style><script>x('{{j}}', \"{{k.l}}\", {{q}})</script>",
         )],
         b"not read",
         b"a unquoted\n\
@@ -186,7 +186,8 @@ pub static CHECKS: [Success; 7] = [
         h style-single\n\
         i style-double\n\
         j script-single\n\
-        k.l script-double\n",
+        k.l script-double\n\
+        q script-double literal\n",
     ),
     // A section of white space alone has no line, nor has a body that never stands.
     (
