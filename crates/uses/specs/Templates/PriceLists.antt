@@ -27,10 +27,6 @@ item_texts item = item.name.now ∷ item.price.now ∷ []
 abbrev pub row_texts : List Item → List (List ℕ)
 row_texts items = flat_map item_texts items
 
--- a page before stays one with a row more for each item
-pub record AddsRows (items : List Item) (old new : List ℕ) : Type 0 where
-  pub rows_follow : (parts : List Given) (texts : List (List ℕ)) → IsPageOf parts texts old → IsPageOf (parts ++ rows items) (texts ++ row_texts items) new
-
 -- the page is that of one template of all these parts, with a row for each item, whose slots the texts fill
 abbrev pub IsPriceList : List ℕ → List Item → List ℕ → Type 0
 IsPriceList title items page =

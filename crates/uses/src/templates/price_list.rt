@@ -1,16 +1,10 @@
 //! A caller of templates: a list of prices, by a template for its head, one for a row and one for its
 //! foot. No title, name or price can change the list's structure, and the contract says so.
-ghost use Rattle.std.specs.Prelude.{◌≡◌, ◌∷◌, [], IfOk, OnOk, map};
+ghost use Rattle.std.specs.Prelude.{◌≡◌, IfOk, map};
 ghost use Rattle.std.specs.String.{string_bytes};
 ghost use Rattle.html_template.specs.TemplatePieces.{pieces_of};
 ghost use Rattle.html_template.specs.Templates.{part_of};
-ghost use Rattle.uses.specs.Templates.PriceLists.{
-  AddsRows,
-  IsPriceList,
-  foot_parts,
-  head_parts,
-  row_parts,
-};
+ghost use Rattle.uses.specs.Templates.PriceLists.{IsPriceList, foot_parts, head_parts, row_parts};
 
 use html_template::{FillFault, Part, Template, TemplateFault, laws};
 use std::alloc::Global;
@@ -63,30 +57,10 @@ impl ListTemplates {
         laws::pages_law();
         let mut page = String::new(alloc);
         self.head.append(&mut page, &[title])?;
-        append_rows(&mut page, &self.row, items)?;
+        for item in items {
+            self.row.append(&mut page, &[item.name, item.price])?;
+        }
         self.foot.append(&mut page, &[])?;
         Ok(page)
     }
-}
-
-// Appends a row for each item.
-#[tactic(auto, using(crate::proofs::PriceRows::one_more, crate::proofs::PriceRows::none_yet))]
-fn append_rows(page: &mut String, row: &Template, items: &[Item]) -> Result<(), FillFault>
-    requires { map part_of (pieces_of row.now) ≡ row_parts }
-    ensures { OnOk result (AddsRows items.now (string_bytes page.old) (string_bytes page.new)) }
-{
-    for item in items {
-        append_row(page, row, *item)?;
-    }
-    Ok(())
-}
-
-// Appends the row of an item.
-fn append_row(page: &mut String, row: &Template, item: Item) -> Result<(), FillFault>
-    requires { map part_of (pieces_of row.now) ≡ row_parts }
-    ensures { OnOk result
-        (AddsRows (item.entry ∷ []) (string_bytes page.old) (string_bytes page.new)) }
-{
-    row.append(page, &[item.name, item.price])?;
-    Ok(())
 }
