@@ -239,9 +239,20 @@ fn an_address_alone_decides_where_items_lead(rt: HostRuntime) -> Result<(), Fail
         page.as_str()
             == "<a href=\"/items/..%2F..%2Fb\">a &gt; b</a><a href=\"https://a.example/shop/items/7%3Fc%23d\">7</a>"
     );
-    for base in ["//a.example", "javascript:f()", "/", "/a/", "/a/..", "a", "/\\a.example"] {
+    for base in [
+        "//a.example",
+        "javascript:f()",
+        "/",
+        "/a/",
+        "/a/..",
+        "a",
+        "/\\a.example",
+    ] {
         let fault = links.append(&mut page, item_links::Item { base, ..shop });
-        assert!(rt; fault == Err(FillFault::Text(0, TextFault::NotABase)), "{base}");
+        assert!(rt;
+            fault == Err(FillFault::Text(0, TextFault::NotABase)),
+            "{base}"
+        );
     }
     Ok(())
 }

@@ -256,7 +256,7 @@ static OF_VIEWS: [Refusal; 13] = [
 ];
 
 /// Of the input and of values.
-static OF_DATA: [Refusal; 17] = [
+static OF_DATA: [Refusal; 19] = [
     // The input.
     (
         &["render", "v"],
@@ -371,6 +371,20 @@ static OF_DATA: [Refusal; 17] = [
         b"{\"a\": \"//b.example/c\"}",
         1,
         "hesc: v:1:13: the text is no own path; begin it with one /, and leave out white space, \\ and dot segments\n",
+    ),
+    (
+        &["render", "v"],
+        &[("v", b"<a href='{{a}}/b'>")],
+        b"{\"a\": \"//c\"}",
+        1,
+        "hesc: v:1:10: the text is no base; begin it with one /, http:// or https://, leave out ?, # and dot segments, and end it in / before a name alone\n",
+    ),
+    (
+        &["render", "v"],
+        &[("v", b"<link href='{{a}}/b'>")],
+        b"{\"a\": \"http://c\"}",
+        1,
+        "hesc: v:1:13: the text is no base of the page's own host; begin it with one /\n",
     ),
     (
         &["render", "v", "a/p.html"],

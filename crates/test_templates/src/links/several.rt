@@ -222,11 +222,7 @@ static BASES: [(&[Part], Option<TemplateFault>); 8] = [
         Some(At(2, AfterLink)),
     ),
     (
-        &[
-            Part::Markup("<a href=\""),
-            Part::Slot,
-            Part::Markup("/b"),
-        ],
+        &[Part::Markup("<a href=\""), Part::Slot, Part::Markup("/b")],
         Some(TemplateFault::Unfinished),
     ),
 ];

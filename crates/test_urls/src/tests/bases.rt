@@ -1,8 +1,8 @@
 //! Bases: which texts may begin a URL that goes on, and where the URL then leads.
 use html_urls::UrlPart::{Markup, Slot};
 use html_urls::{
-    BehindBase, OpenPart, UrlPart, UrlTextFault, append_url, behind_base, encode_component, goes_as,
-    is_base, is_own_base, laws, open_behind,
+    BehindBase, OpenPart, UrlPart, UrlTextFault, append_url, behind_base, encode_component,
+    goes_as, is_base, is_own_base, laws, open_behind,
 };
 use std::alloc::Global;
 use std::test::Fail;
@@ -139,9 +139,18 @@ fn texts_are_bases_before_what_follows(rt: HostRuntime) -> Result<(), Fail> {
         assert!(rt; is_base(BehindBase::Tail, text) == tail, "{text:?}?");
         assert!(rt; is_base(BehindBase::Segment, text) == segment, "{text:?}a");
         let is_own = text.is_empty() || text.starts_with('/');
-        assert!(rt; is_own_base(BehindBase::Slash, text) == (slash && is_own), "{text:?}/");
-        assert!(rt; is_own_base(BehindBase::Tail, text) == (tail && is_own), "{text:?}?");
-        assert!(rt; is_own_base(BehindBase::Segment, text) == (segment && is_own), "{text:?}a");
+        assert!(rt;
+            is_own_base(BehindBase::Slash, text) == (slash && is_own),
+            "{text:?}/"
+        );
+        assert!(rt;
+            is_own_base(BehindBase::Tail, text) == (tail && is_own),
+            "{text:?}?"
+        );
+        assert!(rt;
+            is_own_base(BehindBase::Segment, text) == (segment && is_own),
+            "{text:?}a"
+        );
     }
     Ok(())
 }
