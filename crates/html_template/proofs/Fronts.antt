@@ -1,5 +1,5 @@
 -- What follows a slot with which a URL begins tells whether it is a base: the markup is taken only where the slot was taken for what it is.
-use Rattle.std.proofs.Common.{ℕ, zero, suc, ◌≡◌, ◌==◌, ◌&&◌, ◌||◌, Bool, true, false, not, List, [], ◌∷◌, ◌++◌, Option, Some, None, Ok, Err, length, take, nat_lt, refl, sym, ap, ◌∙◌, subst, ⊎_elim, bytes_eq, codes, if◌then◌else◌}
+use Rattle.std.proofs.Common.{ℕ, zero, suc, ◌≡◌, ◌==◌, ◌&&◌, ◌||◌, Bool, true, false, List, [], ◌∷◌, ◌++◌, Option, Some, None, Ok, Err, length, take, nat_lt, refl, sym, ap, ◌∙◌, subst, ⊎_elim, bytes_eq, codes, if◌then◌else◌}
 use Rattle.std.proofs.lemmas.Bool.{cases_Bool, eqb-true, or_cases}
 use Rattle.std.specs.Char.{is_ascii_alphanumeric}
 use Rattle.std.specs.Option.{option_map}
@@ -13,7 +13,7 @@ use Rattle.html_tokenizer.specs.declared.slot_place.SlotPlace.{SlotPlace}
 use Rattle.html_tokenizer.specs.declared.slot_place.SlotPlace.TheVariants as place
 use Rattle.html_tokenizer.specs.Tokenizer.Tags.{is_space}
 use Rattle.html_tokenizer.specs.UrlValues.{ends_value, url_text, url_text_from}
-use Rattle.html_urls.specs.Bases.{behind_base, behind_byte, goes_as}
+use Rattle.html_urls.specs.Bases.{behind_base, behind_byte}
 use Rattle.html_urls.specs.declared.base.BehindBase.{BehindBase}
 use Rattle.html_urls.proofs.Bases.GoesAs.{same_behind}
 use Rattle.html_template.proofs.PageUrls.LaterMarkup.{as_told, base_told}

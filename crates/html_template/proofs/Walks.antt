@@ -219,7 +219,7 @@ same_after_slot next markup url s slot old new told same after =
     let suited : suits here.kind here.place (standing old) ≡ true = ap (suits here.kind here.place) (sym same) ∙ is.suited in
     let stood : stands here.place (standing old) ≡ true = ap (stands here.place) (sym same) ∙ is.stood refl in
     let by_kind : after_slot here.place here.kind old ≡ at_value (In here.place) old.content old.attribute =
-        rw suited (past_in_place here.kind here.place (standing old) old suited stood) in
+    rw suited (past_in_place here.kind here.place (standing old) old suited stood) in
     let by_place : state_after_slot here.place old ≡ at_value (In here.place) old.content old.attribute = rw stood refl in
     placed_at s here.place old new (is.stood refl) after ∙ by_place ∙ sym by_kind
 

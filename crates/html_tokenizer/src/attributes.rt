@@ -276,11 +276,9 @@ pub(crate) fn value_byte_read(kind: Kind, word: &[u8], byte: u8) -> (Kind, Word)
         ≡ value_byte_read (attribute_in kind word.now) byte }
 {
     match kind {
-        Kind::ScriptType
-        | Kind::Encoding
-        | Kind::Pragma
-        | Kind::PageType
-        | Kind::Relation => (kind, Word::Add(byte.to_ascii_lowercase())),
+        Kind::ScriptType | Kind::Encoding | Kind::Pragma | Kind::PageType | Kind::Relation => {
+            (kind, Word::Add(byte.to_ascii_lowercase()))
+        }
         Kind::Raw if byte == b'<' => (Kind::Unread, Word::New),
         _ => (kind, Word::New),
     }

@@ -1,11 +1,11 @@
 -- Data of one form has one unrolling, but for the texts.
-use Rattle.std.proofs.Common.{ℕ, ◌≡◌, Bool, true, false, List, [], ◌∷◌, ◌++◌, map, IsUtf8, Option, Some, None, Result, Ok, Err, bytes_eq, if◌then◌else◌, refl, sym, ap, ◌∙◌, subst, true≢false, ⊎_elim}
+use Rattle.std.proofs.Common.{ℕ, ◌≡◌, Bool, true, false, List, [], ◌∷◌, ◌++◌, map, IsUtf8, Option, Some, None, Ok, bytes_eq, refl, sym, ap, ◌∙◌, true≢false, ⊎_elim}
 use Rattle.std.specs.Prelude.{⊤}
 use Rattle.std.specs.List.{AllByRecursion}
 use Rattle.std.specs.Option.{option_and_then}
 use Rattle.std.proofs.lemmas.Bool.{cases_Bool}
 use Rattle.html_template.specs.Structure.{structure}
-use Rattle.html_template.specs.Templates.{Chunk, Markup, Slot, actions_all, page, part_of}
+use Rattle.html_template.specs.Templates.{Markup, Slot, actions_all, part_of}
 use Rattle.html_tokenizer.specs.Tokenizer.States.{data_state}
 use Rattle.html_tokenizer.specs.Tokenizer.Tokenization.{actions_of}
 use Rattle.html_template.proofs.Pieces.{sound_told}

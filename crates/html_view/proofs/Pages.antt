@@ -1,5 +1,5 @@
 -- The tokens and the URLs of pages.
-use Rattle.std.proofs.Common.{ℕ, ◌≡◌, List, [], ◌∷◌, map, IsUtf8, Ok, refl, sym, ap, ◌∙◌, subst}
+use Rattle.std.proofs.Common.{◌≡◌, List, [], ◌∷◌, map, IsUtf8, Ok, refl, sym, ap, ◌∙◌, subst}
 use Rattle.std.specs.List.{AllByRecursion}
 use Rattle.html_template.specs.FilledUrls.{HasUrls}
 use Rattle.html_template.specs.PageUrls.{AllAlike, first_texts, urls_of}

@@ -12,7 +12,7 @@ use Rattle.html_tokenizer.specs.Tokenizer.States.{Tokenizer}
 use Rattle.html_template.proofs.Walks.{same_after_slot}
 use Rattle.html_template.specs.Templates.{after_slot}
 use Rattle.html_view.specs.Following.{MovedPast}
-use Rattle.html_view.specs.Ways.{EndsWithin, MayEnd, Way, past_slot, way_slot}
+use Rattle.html_view.specs.Ways.{EndsWithin, MayEnd, Way}
 
 pub slot_taken : (next : List ℕ) (way : Way) (left : List ℕ) (opened : OpenUrl) (s : Standing) (found slot : PlacedSlot) (new : Tokenizer) → left ≡ [] →
     is_refused way.tokenizer.state ≡ false → url_markup way.url way.markup ≡ Ok opened → s ≡ standing way.tokenizer →

@@ -1,5 +1,5 @@
 -- A way through pieces, and where nodes lead it.
-use Rattle.std.proofs.Common.{ℕ, ◌≡◌, ◌⊎◌, List, [], ◌∷◌, ◌++◌, Ok, refl, sym, ap, ◌∙◌, subst, ⊎_elim, append_assoc}
+use Rattle.std.proofs.Common.{ℕ, ◌≡◌, List, [], ◌∷◌, ◌++◌, Ok, refl, sym, subst, ⊎_elim}
 use Rattle.std.specs.List.{AllByRecursion}
 use Rattle.html_template.specs.OpenUrls.{before}
 use Rattle.html_template.specs.Templates.{Chunk, Markup, Slot}
@@ -9,7 +9,7 @@ use Rattle.html_tokenizer.specs.declared.slot_place.SlotPlace.{SlotPlace}
 use Rattle.html_view.specs.Nodes as node
 use Rattle.html_view.specs.Nodes.{Nodes, Placed}
 use Rattle.html_view.specs.Takes.{Among, AreAmong, GoesOn, GoesPast, LeadsBack, Takes}
-use Rattle.html_view.specs.Unrolled.{Repeats, Stands, Unrolls, all_of}
+use Rattle.html_view.specs.Unrolled.{Stands, Unrolls, all_of}
 use Rattle.html_view.specs.declared.node.Times.{Times}
 use Rattle.html_view.specs.declared.node.Times.TheVariants.{Each, Once, If, Whether}
 use Rattle.html_view.specs.Ways.{Way, past_slot, way_behind, way_slot}

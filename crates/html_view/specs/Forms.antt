@@ -1,5 +1,5 @@
 -- The form of data: the same names, the same flags, lists that are as long, and texts that are empty where the others are.
-use Rattle.std.specs.Prelude.{◌≡◌, ⊤, ℕ, List, [], ◌∷◌}
+use Rattle.std.specs.Prelude.{◌≡◌, ⊤}
 use Rattle.html_view.specs.Data.{Datum, Fields, Flag, ItemList, Items, Nothing, Record, Text, field, is_filled, item, bare, no_items}
 
 abbrev mutual

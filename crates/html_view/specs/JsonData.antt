@@ -1,5 +1,4 @@
 -- The data that JSON has. A number is its text.
-use Rattle.std.specs.Prelude.{ℕ, List}
 use Rattle.json.specs.Json as json
 use Rattle.json.specs.Json.{Json}
 use Rattle.html_view.specs.Data.{Datum, Fields, Flag, ItemList, Items, Nothing, Record, Text, bare, field, item, no_items}

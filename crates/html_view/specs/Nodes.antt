@@ -1,10 +1,10 @@
 -- The nodes of a view: markup, slots and sections.
-use Rattle.std.specs.Prelude.{ℕ, List, [], ◌∷◌}
+use Rattle.std.specs.Prelude.{ℕ, List}
 use Rattle.html_template.specs.declared.parts.SlotKind.{SlotKind}
 use Rattle.html_tokenizer.specs.declared.slot_place.SlotPlace.{SlotPlace}
 use Rattle.html_view.specs.declared.faults.Position.{Position}
 use Rattle.html_view.specs.declared.node.Times.{Times}
-use Rattle.html_view.specs.declared.node.Times.TheVariants.{Each, Once, If}
+use Rattle.html_view.specs.declared.node.Times.TheVariants.{Each, Once}
 
 -- the words of a name, and none for the value that is innermost
 abbrev pub Words : Type 0

@@ -1,5 +1,5 @@
 -- What data makes of nodes: an unrolling, and the texts of its slots; or the first fault.
-use Rattle.std.specs.Prelude.{◌≡◌, ℕ, List, [], ◌∷◌, ◌++◌, Bool, true, false, Option, Some, None, Result, Ok, Err, codes, if◌then◌else◌}
+use Rattle.std.specs.Prelude.{ℕ, List, [], ◌∷◌, ◌++◌, Bool, true, false, Option, Some, None, Result, Ok, Err, codes}
 use Rattle.html_template.specs.FillFaults.{text_fault}
 use Rattle.html_template.specs.Templates.{Chunk, Markup, page}
 use Rattle.html_template.specs.declared.faults.TextFault.{TextFault}

@@ -8,10 +8,10 @@ use uses::breadcrumbs::{Breadcrumbs, Crumb};
 use uses::form_page::{Draft, FormTemplate};
 use uses::home_page::{Stranger, StrangerTemplates};
 use uses::item_links::{self, ItemLinks};
-use uses::page_script::PageScript;
 use uses::link_list::{Found, LinkList};
 use uses::log_item::LogItem;
 use uses::mail_rows::{Mail, MailRows};
+use uses::page_script::PageScript;
 use uses::price_list::{Item, ListTemplates};
 use uses::search_page::{search_page, search_template};
 

@@ -36,7 +36,7 @@ use Rattle.html_urls.specs.declared.open_part.OpenPart.TheVariants.{NewSegment}
 use Rattle.html_urls.proofs.Bases.GoesAs.{goes_alone, goes_more, slash_alone, slash_goes}
 use Rattle.html_template.proofs.PageUrls.Filled.{EndsBehind, EndsParts, GoesBehind, GoesOn, IsFilled, ends_more, fixed_before}
 use Rattle.html_template.proofs.PageUrls.EndedUrls.{ends_in, parts_end}
-use Rattle.html_template.proofs.PageUrls.LaterMarkup.{BehindFront, InPartOf, SlashAlone, as_told, base_told, behind_told, goes_on, is_ended, ok_url}
+use Rattle.html_template.proofs.PageUrls.LaterMarkup.{InPartOf, SlashAlone, as_told, base_told, behind_told, goes_on, is_ended, ok_url}
 use Rattle.html_template.proofs.PageUrls.Opening.{Goes, behind_bytes, fresh_here, goes_told, value_place}
 use Rattle.html_template.proofs.PageUrls.Splitting.{IsCut, IsWhole, whole_or_cut}
 

@@ -14,7 +14,7 @@ use Rattle.html_tokenizer.specs.declared.reader.Standing.TheVariants.{Stands, In
 use Rattle.html_tokenizer.specs.declared.slot_place.SlotPlace.{SlotPlace}
 use Rattle.html_tokenizer.specs.declared.slot_place.SlotPlace.TheVariants as place
 use Rattle.html_tokenizer.specs.Standing.{standing}
-use Rattle.html_tokenizer.specs.Tokenizer.States.{In, Tokenizer, at_value}
+use Rattle.html_tokenizer.specs.Tokenizer.States.{Tokenizer}
 use Rattle.html_tokenizer.proofs.UrlValues.Slots.AtSlots.{in_url, no_url_tame, open_at_slot}
 use Rattle.html_tokenizer.proofs.UrlValues.Slots.Tame.{IsTame}
 use Rattle.html_urls.specs.Bases.{behind_base}

@@ -24,7 +24,7 @@ use Rattle.html_tokenizer.proofs.UrlValues.Slots.Components.{component_added, is
 use Rattle.html_tokenizer.proofs.UrlValues.Slots.Tame.{IsTame}
 use Rattle.html_tokenizer.proofs.UrlValues.Staying.{StaysUrl}
 use Rattle.html_urls.proofs.Components.{component_bytes}
-use Rattle.html_urls.specs.Bases.{FillBehind, is_base, is_own_base}
+use Rattle.html_urls.specs.Bases.{FillBehind}
 use Rattle.html_urls.specs.Components.{component}
 use Rattle.html_urls.specs.OpenParts.{after_text, open_of, slot_at}
 use Rattle.html_urls.specs.Slots as part

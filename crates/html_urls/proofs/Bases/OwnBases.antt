@@ -1,5 +1,5 @@
 -- Own bases: the head of the URL of one is that of the page.
-use Rattle.std.proofs.Common.{◌≡◌, ℕ, ◌||◌, ◌==◌, true, false, List, [], ◌∷◌, length, Option, Some, Ok, All, sym, ap, ◌∙◌, subst, arith}
+use Rattle.std.proofs.Common.{◌≡◌, ℕ, ◌||◌, ◌==◌, true, false, List, [], ◌∷◌, length, Option, Some, Ok, All, sym, ap, ◌∙◌, arith}
 use Rattle.std.proofs.lemmas.Bool.{and_parts, cond-false, ne_eqb}
 use Rattle.std.proofs.lemmas.List.Elements.{All-nil}
 use Rattle.url.specs.Head.{head_only}

@@ -1,4 +1,4 @@
-use Rattle.std.proofs.Common.{◌≡◌, ◌∷◌, ◌∙◌, ap}
+use Rattle.std.proofs.Common.{◌∷◌, ◌∙◌, ap}
 use Rattle.html_view.specs.Data.{item, item_stacks, list_stacks}
 use Rattle.html_view.specs.Values.{datum_of, items_in, stack_of}
 use Rattle.html_view.proofs.unroll.stand_of_list.Goals as goal
