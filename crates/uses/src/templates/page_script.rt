@@ -39,6 +39,7 @@ impl PageScript {
             (IsReadAs script_pieces (user.now ∷ json.now ∷ []) (script_text user.now json.now)) }
         ensures any { IfErr result (λ fault. fault ≡ Memory) }
     {
-        self.script.append(page, &[user, json])
+        self.script.append(page, &[user, json])?;
+        Ok(())
     }
 }
