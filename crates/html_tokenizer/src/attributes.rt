@@ -2,7 +2,7 @@
 pub(crate) mod encodings;
 
 ghost use Rattle.std.specs.Prelude.{◌≡◌, ℕ, IsTrue, List, [], true};
-ghost use Rattle.html_tokenizer.specs.Tokenizer.Attributes.{attribute_of, content_after, content_after_pragma, fixed, followed, holds_language, holds_url, holds_urls, is_cache_header, is_javascript, is_script_tag, is_shown_relation, is_switch, names_script_type, raw_value, reference_read, value_but_of, value_byte_read, value_of};
+ghost use Rattle.html_tokenizer.specs.Tokenizer.Attributes.{attribute_of, content_after, content_after_pragma, fixed, followed, holds_language, holds_url, holds_urls, is_cache_header, is_javascript, is_script_tag, is_shown_relation, is_switch, names_script_type, raw_value, reference_read, resource_value, value_but_of, value_byte_read, value_of};
 ghost use Rattle.html_tokenizer.specs.Tokenizer.Elements.{is_meta};
 ghost use Rattle.html_tokenizer.specs.Tokenizer.Phases.{attribute_in, moved, word_after};
 ghost use Rattle.html_tokenizer.specs.Tokenizer.States.{Ordinary};
@@ -188,6 +188,19 @@ fn raw_value(content: Content, name: &[u8]) -> Move
     }
 }
 
+// After the `=` of an attribute of a `link`.
+#[inline(never)]
+fn resource_value(content: Content, name: &[u8]) -> Move
+    ensures { moved result name.now ≡ resource_value content name.now }
+{
+    let kind = if name == b"rel".as_slice() {
+        Kind::Relation
+    } else {
+        attribute_of(name)
+    };
+    in_value(Phase::BeforeValue, content, kind, Word::New)
+}
+
 /// After the `=` of an attribute.
 #[inline(always)]
 pub(crate) fn value_of(content: Content, name: &[u8]) -> Move
@@ -200,9 +213,7 @@ pub(crate) fn value_of(content: Content, name: &[u8]) -> Move
             let kind = followed(attribute_of(name));
             in_value(Phase::BeforeValue, content, kind, Word::New)
         }
-        OpenElement::ResourceTag if name == b"rel".as_slice() => {
-            in_value(Phase::BeforeValue, content, Kind::Relation, Word::New)
-        }
+        OpenElement::ResourceTag => resource_value(content, name),
         OpenElement::EmbedTag
         | OpenElement::SvgEmbedTag
         | OpenElement::MathEmbedTag

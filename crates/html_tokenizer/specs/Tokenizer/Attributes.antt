@@ -108,6 +108,11 @@ meta_value pragma described content name =
 abbrev pub raw_value : Content → List ℕ → Tokenizer
 raw_value content name = if is_charset name || is_http_equiv name then refused else at_value BeforeValue content Raw
 
+-- of a `link`
+abbrev pub resource_value : Content → List ℕ → Tokenizer
+resource_value content name =
+    if bytes_eq name (codes "rel") then at_value BeforeValue content (Relation []) else plain_value content name
+
 -- after the `=` of an attribute: a script is a data block unless its one type is JavaScript's, and with a `for` other
 -- than `window` it is passed over (4.12.1); a `meta` has one `http-equiv`; of the `type` `text/html` an `embed` or an
 -- `object` runs its resource as a page (4.8.6, 4.8.7); the first `rel` of a `link` says what it is to the page (4.2.4)
@@ -128,8 +133,7 @@ value_in SvgEmbedTag content name = value_but_of (codes "type") content name
 value_in MathEmbedTag content name = value_but_of (codes "type") content name
 value_in SelectEmbedTag content name = value_but_of (codes "type") content name
 value_in LinkTag content name = at_value BeforeValue content (followed (attribute_of name))
-value_in ResourceTag content name =
-    if bytes_eq name (codes "rel") then at_value BeforeValue content (Relation []) else plain_value content name
+value_in ResourceTag content name = resource_value content name
 value_in NoScript content name = raw_value content name
 value_in NoScriptStyle content name = raw_value content name
 value_in NoScriptFrame content name = raw_value content name
