@@ -1,7 +1,6 @@
 -- The two hex digits of a byte are read as its number.
-use Rattle.std.proofs.Common.{ℕ, ◌≡◌, ◌<◌, ◌/◌, ◌%◌, true, List, [], ◌∷◌, arith}
+use Rattle.std.proofs.Common.{ℕ, ◌≡◌, ◌<◌, ◌/◌, ◌%◌, true, List, [], ◌∷◌}
 use Rattle.std.specs.Char.{is_digit}
-use Rattle.std.specs.Str.Parse.{digits_value}
 use Rattle.std.proofs.lemmas.Bool.{lt-ltb}
 use Rattle.hesc_specs.specs.Text.HexDigits.{hex_digit}
 use Rattle.hesc_specs.proofs.Text.HexDigits.{digit_value-hex_digit}
@@ -12,7 +11,3 @@ is_digit-hex_digit d small = rw (digit_value-hex_digit d small) (lt-ltb d 16 sma
 -- the two digits of a byte
 abbrev pub two_digits : ℕ → List ℕ
 two_digits c = hex_digit (c / 16) ∷ hex_digit (c % 16) ∷ []
-
-pub digits_value-two_digits : (c : ℕ) → c < 256 → digits_value 16 (two_digits c) ≡ c
-digits_value-two_digits c small =
-    rw (digit_value-hex_digit (c / 16) (omega arith), digit_value-hex_digit (c % 16) (omega arith)) (omega arith)

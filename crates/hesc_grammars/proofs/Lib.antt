@@ -1,5 +1,6 @@
 pub mod HexEscapes
 pub mod EscapedMarks
+pub mod EncodedStrings
 pub mod ReferenceBodies
 pub mod NamedReferences
 pub mod ReferenceImages

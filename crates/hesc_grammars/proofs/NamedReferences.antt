@@ -1,5 +1,5 @@
 -- A reference is read by its first byte and what goes on from there.
-use Rattle.std.proofs.Common.{codes, ℕ, zero, suc, ◌⊎◌, ne_eqb, drop, ◌<◌, ◌≤◌, ◌||◌, zero-add, ◌≡◌, ◌+◌, Bool, true, false, not, ◌&&◌, List, [], ◌∷◌, ◌++◌, ◌==◌, Option, Some, None, if◌then◌else◌, length, take, refl, sym, ap, ◌∙◌, arith, ⊎_elim}
+use Rattle.std.proofs.Common.{codes, ℕ, suc, ◌⊎◌, drop, ◌<◌, ◌≤◌, ◌||◌, zero-add, ◌≡◌, ◌+◌, Bool, true, false, not, ◌&&◌, List, [], ◌∷◌, ◌++◌, ◌==◌, Option, Some, None, if◌then◌else◌, length, take, refl, ap, ◌∙◌, arith, ⊎_elim}
 use Rattle.std.specs.List.{list_all, position_from, starts_with}
 use Rattle.std.specs.Option.{option_map}
 use Rattle.std.specs.Prelude.{bytes_eq, nat_eq, slice_index}
@@ -12,7 +12,7 @@ use Rattle.hesc_grammars.specs.declared.step.Step.{Step}
 use Rattle.hesc_grammars.specs.declared.step.Step.TheVariants.{Character, Nothing}
 use Rattle.hesc_grammars.specs.NumberedReferences.{number_of_length, numbered_reference}
 use Rattle.hesc_grammars.specs.References.{reference, reference_of_length, body_character, character_or_nothing, no_break_space}
-use Rattle.hesc_grammars.proofs.ReferenceBodies.{HasNoSemicolon, and_false, position_from-later}
+use Rattle.hesc_grammars.proofs.ReferenceBodies.{HasNoSemicolon, position_from-later}
 
 -- the first `;`
 abbrev pub end_of : List ℕ → Option ℕ
@@ -53,8 +53,7 @@ begins-body [] (b ∷ bytes) none =
     (cases_Bool (b == semicolon))
   where
     longer : (found : Option ℕ) → false ≡ is_body [] (option_map (λ n. 1 + n) found) (b ∷ bytes)
-    longer None = refl
-    longer (Some n) = let one : 1 + n ≡ suc n = omega arith in rw one refl
+    longer found = grind (arith, nat_tests)
 begins-body (w ∷ word) [] none = refl
 begins-body (w ∷ word) (b ∷ bytes) none =
     let parts : (not (w == semicolon) ≡ true) × HasNoSemicolon word =
@@ -66,8 +65,7 @@ begins-body (w ∷ word) (b ∷ bytes) none =
     (cases_Bool (b == semicolon))
   where
     longer : (found : Option ℕ) → (b == w && is_body word found bytes) ≡ is_body (w ∷ word) (option_map (λ n. 1 + n) found) (b ∷ bytes)
-    longer None = and_false (b == w)
-    longer (Some n) = let one : 1 + n ≡ suc n = omega arith in rw one refl
+    longer found = grind (arith, nat_tests)
 
 -- where it does, the first `;` is right after the word
 position_from-begins : (start : ℕ) (word bytes : List ℕ) → HasNoSemicolon word → begins (word ++ semicolon ∷ []) bytes ≡ true →
@@ -92,29 +90,10 @@ pub rest_step-name : (word : List ℕ) (character : ℕ) (other : List ℕ → O
     rest_step (λ x. if bytes_eq x word then Some character else other x) (end_of bytes) bytes
     ≡ if begins (word ++ semicolon ∷ []) bytes then Character (length word + 2) character Plain
     else rest_step other (end_of bytes) bytes
-rest_step-name word character other bytes none =
-    ⊎_elim
-    (λ (is : begins (word ++ semicolon ∷ []) bytes ≡ true).
-    rw (is, position_from-begins 0 word bytes none is) (named (begins-body word bytes none) is))
-    (λ (differs : begins (word ++ semicolon ∷ []) bytes ≡ false).
-    rw differs (unnamed (end_of bytes) (sym (begins-body word bytes none) ∙ differs)))
-    (cases_Bool (begins (word ++ semicolon ∷ []) bytes))
-  where
-    named : begins (word ++ semicolon ∷ []) bytes ≡ is_body word (end_of bytes) bytes →
-        begins (word ++ semicolon ∷ []) bytes ≡ true →
-        rest_step (λ x. if bytes_eq x word then Some character else other x) (Some (0 + length word)) bytes ≡ Character (length word + 2) character Plain
-    named body is =
-        let same : bytes_eq (take (0 + length word) bytes) word ≡ true = rw (position_from-begins 0 word bytes none is) at (sym body ∙ is) in
-        rw (same, zero-add (length word)) refl
-
-    unnamed : (found : Option ℕ) → is_body word found bytes ≡ false →
-        rest_step (λ x. if bytes_eq x word then Some character else other x) found bytes ≡ rest_step other found bytes
-    unnamed None differs = refl
-    unnamed (Some n) differs = rw differs refl
+rest_step-name word character other bytes none = grind (arith, nat_tests, position_from-begins, begins-body, zero-add)
 
 pub rest_step-none : (found : Option ℕ) (bytes : List ℕ) → rest_step (λ x. None) found bytes ≡ Nothing
-rest_step-none None bytes = refl
-rest_step-none (Some n) bytes = refl
+rest_step-none found bytes = grind (arith, nat_tests)
 
 pub has_first : (bytes : List ℕ) → 0 < slice_index bytes 0 → 1 ≤ length bytes
 has_first [] positive = absurd (omega arith)
@@ -126,9 +105,7 @@ pub reference-decimal : (bytes : List ℕ) → (slice_index bytes 0 ≡ 120 → 
 reference-decimal bytes small large = reference-first 35 bytes refl ∙ same (end_of bytes)
   where
     cut : (mark n : ℕ) (bytes : List ℕ) → (slice_index bytes 0 ≡ mark → ⊥) → begins (mark ∷ []) (take n bytes) ≡ false
-    cut mark zero bytes other = refl
-    cut mark (suc n) [] other = refl
-    cut mark (suc n) (b ∷ bytes) other = rw (ne_eqb b mark other) refl
+    cut mark n bytes other = grind (arith, nat_tests)
 
     same : (found : Option ℕ) → rest_step (λ x. body_character (35 ∷ x)) found bytes ≡ number_of_length 10 1 found bytes
     same None = refl
@@ -205,13 +182,4 @@ pub reference-other : (first : ℕ) (bytes : List ℕ) →
     (first == 35) ≡ false → (first == 97) ≡ false → (first == 103) ≡ false →
     (first == 108) ≡ false → (first == 110) ≡ false → (first == 113) ≡ false →
     reference (first ∷ bytes) ≡ Nothing
-reference-other first bytes number a g l n q =
-    ⊎_elim
-    (λ (ends : (first == semicolon) ≡ true). rw ends refl)
-    (λ (goes_on : (first == semicolon) ≡ false).
-    reference-first first bytes goes_on ∙ nothing (end_of bytes))
-    (cases_Bool (first == semicolon))
-  where
-    nothing : (found : Option ℕ) → rest_step (λ x. body_character (first ∷ x)) found bytes ≡ Nothing
-    nothing None = refl
-    nothing (Some count) = rw (number, a, g, l, n, q) refl
+reference-other first bytes number a g l n q = grind (arith, nat_tests, reference-first)

@@ -1,16 +1,15 @@
 -- Stretches of bytes that are read as they stand: each of their bytes is an item whatever follows it.
-use Rattle.std.proofs.Common.{ℕ, suc, ◌≡◌, ◌<◌, ◌+◌, inl, inr, Bool, true, false, ◌||◌, ◌==◌, nat_lt, List, ◌∷◌, drop, refl, sym, ap, ◌∙◌, arith, ne_eqb}
+use Rattle.std.proofs.Common.{ℕ, ◌≡◌, ◌<◌, ◌+◌, inl, inr, Bool, true, false, ◌||◌, ◌==◌, List, ◌∷◌, refl, arith}
 use Rattle.std.proofs.Math.Seq.{drop-cons}
-use Rattle.std.proofs.lemmas.Bool.{cases_lt, or_parts, true≢false}
+use Rattle.std.proofs.lemmas.Bool.{cases_lt}
 use Rattle.std.proofs.lemmas.Bool.Decides.{nat_tests}
 use Rattle.std.specs.Char.{to_ascii_lowercase}
 use Rattle.std.specs.Prelude.{slice_index}
-use Rattle.hesc_specs.specs.Text.Ascii.{ampersand, backslash, carriage_return, less_than, line_feed}
-use Rattle.hesc_specs.specs.Text.Classes.{begins_separator, in_class, in_string_class}
+use Rattle.hesc_specs.specs.Text.Ascii.{ampersand, less_than}
+use Rattle.hesc_specs.specs.Text.Classes.{in_class, in_string_class}
 use Rattle.hesc_specs.specs.Text.FirstPlace.{IsFirstPlace}
 use Rattle.hesc_specs.specs.Strings.Encoding.{is_quote}
 use Rattle.hesc_specs.specs.declared.classes.Class.TheVariants.{UnquotedAttribute}
-use Rattle.hesc_specs.specs.declared.elements.Element.{Element}
 use Rattle.hesc_specs.specs.declared.elements.Element.TheVariants.{Script, Style}
 use Rattle.hesc_specs.specs.declared.quotes.Quotes.{Quotes}
 use Rattle.hesc_grammars.specs.declared.step.Mode.{Mode}
@@ -18,9 +17,9 @@ use Rattle.hesc_grammars.specs.declared.step.Mode.TheVariants.{Plain, Escaped, D
 use Rattle.hesc_grammars.specs.declared.step.Step.{Step}
 use Rattle.hesc_grammars.specs.declared.step.Step.TheVariants.{Byte}
 use Rattle.hesc_grammars.specs.Bodies.{script_body_step, style_body_step}
-use Rattle.hesc_grammars.specs.Html.{ends_unquoted, is_unquoted_error, marked_step, unquoted_step}
+use Rattle.hesc_grammars.specs.Html.{marked_step, unquoted_step}
 use Rattle.hesc_grammars.specs.ScriptStrings.{script_string_step}
-use Rattle.hesc_grammars.specs.StyleStrings.{is_newline_or_nul, style_string_step}
+use Rattle.hesc_grammars.specs.StyleStrings.{style_string_step}
 use Rattle.hesc_grammars.specs.Stretches.{IsStretch, is_special}
 
 -- a byte that does not pass the test is read as itself in the mode, whatever follows it
@@ -30,27 +29,15 @@ pub record ReadsOthers (test : ℕ → Bool) (step : Mode → List ℕ → Step)
 -- up to the first byte that passes it
 pub up_to_first : {test : ℕ → Bool} {step : Mode → List ℕ → Step} {mode : Mode} {bytes : List ℕ} {count : ℕ} →
     ReadsOthers test step mode → IsFirstPlace test bytes 0 count → IsStretch step mode bytes count
-up_to_first {test} {step} {mode} {bytes} {count} reads first = record {
-  within = first.in_range;
-  each = λ k below.
-      rw (drop-cons bytes k 0 (omega (arith, first.in_range)))
-      (reads.other (slice_index bytes k) (drop (suc k) bytes) (first.before k (omega arith) below));
-}
+up_to_first reads first = grind (arith, nat_tests, drop-cons)
 
 pub marked : (mark : ℕ) → ReadsOthers (λ b. b == mark || b == ampersand) (marked_step mark) Plain
 unfolding marked_step
-marked mark = record {
-  other = λ b rest none. let parts = or_parts (b == mark) (b == ampersand) none in rw (parts.0, parts.1) refl;
-}
+marked mark = grind (arith, nat_tests)
 
 pub unquoted : (end : ℕ) → ReadsOthers is_special (unquoted_step end) Plain
 unfolding unquoted_step
-unquoted end = record {
-  other = λ b rest none.
-      let parts = or_parts (ends_unquoted b || b == ampersand) (is_unquoted_error b) none in
-      let first = or_parts (ends_unquoted b) (b == ampersand) parts.0 in
-      rw (first.0, first.1, parts.1) refl;
-}
+unquoted end = grind (arith, nat_tests)
 
 -- what is special is a symbol
 no_symbol : (b : ℕ) → in_class UnquotedAttribute b ≡ false → is_special b ≡ false
@@ -74,36 +61,13 @@ none_at bytes place none here = λ k below. elim (cases_lt k place) [
   | inr after ↦ let same : k ≡ place = omega arith in rw same here
 ]
 
--- what means something in a string is in the class of its encoder
-string_byte : (element : Element) (quotes : Quotes) (mark b : ℕ) → is_quote quotes mark ≡ true → in_string_class element quotes b ≡ false →
-    ((b == mark) ≡ false) × ((b == backslash) ≡ false) × (nat_lt b 32 ≡ false) × (begins_separator element b ≡ false)
-string_byte element quotes mark b is_mark none =
-    let low : Bool = nat_lt b 32 in
-    let to_less = or_parts (b == backslash || is_quote quotes b || low || b == less_than) (begins_separator element b) none in
-    let to_low = (or_parts (b == backslash || is_quote quotes b || low) (b == less_than) to_less.0).0 in
-    let to_mark = or_parts (b == backslash || is_quote quotes b) low to_low in
-    let no_quote = or_parts (b == backslash) (is_quote quotes b) to_mark.0 in
-    (ne_eqb b mark (λ same. true≢false (sym is_mark ∙ (ap (is_quote quotes) (sym same) ∙ no_quote.1))), no_quote.0, to_mark.1, to_less.1)
-
-low_bytes : (b : ℕ) → nat_lt b 32 ≡ false → ((b == line_feed) ≡ false) × ((b == carriage_return) ≡ false) × (is_newline_or_nul b ≡ false)
-low_bytes b none = (grind (arith, nat_tests), grind (arith, nat_tests), grind (arith, nat_tests))
-
 pub script_string : (quotes : Quotes) (mark : ℕ) → is_quote quotes mark ≡ true → ReadsOthers (in_string_class Script quotes) (script_string_step mark) Plain
 unfolding script_string_step
-script_string quotes mark is_mark = record {
-  other = λ b rest none.
-      let byte = string_byte Script quotes mark b is_mark none in
-      let low = low_bytes b byte.2 in
-      rw (byte.0, byte.1, low.0, low.1, byte.3) refl;
-}
+script_string quotes mark is_mark = grind (arith, nat_tests)
 
 pub style_string : (quotes : Quotes) (mark : ℕ) → is_quote quotes mark ≡ true → ReadsOthers (in_string_class Style quotes) (style_string_step mark) Plain
 unfolding style_string_step
-style_string quotes mark is_mark = record {
-  other = λ b rest none.
-      let byte = string_byte Style quotes mark b is_mark none in
-      rw (byte.0, byte.1, (low_bytes b byte.2).2) refl;
-}
+style_string quotes mark is_mark = grind (arith, nat_tests)
 
 in_no_case : (b : ℕ) → (b == less_than) ≡ false → (to_ascii_lowercase b == less_than) ≡ false
 in_no_case b other = grind (arith, nat_tests)
@@ -118,12 +82,8 @@ script_body = record { other = λ b rest other. rw (in_no_case b other, other) r
 
 pub escaped : ReadsOthers (λ b. b == less_than || b == 45) script_body_step Escaped
 unfolding script_body_step
-escaped = record {
-  other = λ b rest none. let parts = or_parts (b == less_than) (b == 45) none in rw (in_no_case b parts.0, parts.1) refl;
-}
+escaped = grind (arith, nat_tests)
 
 pub double_escaped : ReadsOthers (λ b. b == less_than || b == 45) script_body_step DoubleEscaped
 unfolding script_body_step
-double_escaped = record {
-  other = λ b rest none. let parts = or_parts (b == less_than) (b == 45) none in rw (in_no_case b parts.0, parts.1) refl;
-}
+double_escaped = grind (arith, nat_tests)

@@ -1,5 +1,6 @@
 -- What is read from a text is a text: a reader may stand within a character, and then the rest of it comes next.
 use Rattle.std.proofs.Common.{ℕ, ◌≡◌, zero, suc, ◌≢◌, ◌≤◌, ◌<◌, ◌+◌, inl, inr, true, List, [], ◌∷◌, ◌++◌, IsUtf8, length, take, drop, encode_utf8, refl, sym, ap, ◌∙◌, subst, arith, append_assoc, append-nil}
+use Rattle.std.proofs.lemmas.Bool.Decides.{nat_tests}
 use Rattle.std.proofs.Math.Utf8.{encodes, scalars}
 use Rattle.std.proofs.lemmas.Bool.{and_parts, cases_lt}
 use Rattle.std.proofs.lemmas.Str.{IsCharBoundary-after_ascii, IsUtf8-append, IsUtf8-drop, IsUtf8-nil, encode_ascii, len_utf8_bounds, length-encode}
@@ -59,15 +60,10 @@ begins_text_of b bytes (c ∷ cs) scalar is =
 
 -- the bytes after the first of a character's
 rest_of_first : (first tail : List ℕ) (b : ℕ) (bytes : List ℕ) → b ∷ bytes ≡ first ++ tail → length first ≢ 0 → (first ≡ b ∷ drop 1 first) × (bytes ≡ drop 1 first ++ tail)
-rest_of_first [] tail b bytes is some = absurd (some refl)
-rest_of_first (y ∷ ys) tail b bytes is some = (cc, cc)
+rest_of_first first tail b bytes is some = grind (arith, nat_tests)
 
 high_after : (c b : ℕ) (bytes : List ℕ) → encode_utf8 c ≡ b ∷ bytes → AreHigh bytes
-high_after c b bytes is =
-    elim (cases_lt c 128) [
-      | inl small ↦ let none : bytes ≡ [] = cc (encode_ascii c small, is) in rw none tt
-      | inr high ↦ let all : AreHigh (b ∷ bytes) = rw is at (encode-high c high) in all.1
-    ]
+high_after c b bytes is = grind (arith, nat_tests, cases_lt, encode_ascii, encode-high)
 
 first_byte_of : (value : List ℕ) (b : ℕ) (bytes : List ℕ) → IsUtf8 value → BeginsText b bytes → ReadsText (value ++ b ∷ []) bytes
 first_byte_of value b bytes read begins =
@@ -96,9 +92,7 @@ next_byte (b ∷ left) following value high read text some =
     record { left = left; following = following; is = refl; high = high.1; read = subst IsUtf8 (sym (append_assoc value (b ∷ []) left)) read; text = text }
 
 second_byte : (value rest : List ℕ) → 1 < length rest → IsUtf8 value → IsUtf8 (drop 1 rest) → ReadsText (value ++ slice_index rest 1 ∷ []) (drop 2 rest)
-second_byte value [] some read text = absurd (omega arith)
-second_byte value (b ∷ []) some read text = absurd (omega arith)
-second_byte value (b ∷ c ∷ rest) some read text = first_byte value c rest read text
+second_byte value rest some read text = grind (arith, nat_tests, first_byte)
 
 pub takes_byte : (value rest items following : List ℕ) (more v : ℕ) (next : Mode) → more < length rest → IsTextItem (Byte more v next) rest → ReadsText value rest
     → items ≡ value ++ v ∷ [] → following ≡ drop (more + 1) rest → ReadsText items following

@@ -1,12 +1,11 @@
 -- The turns of a reader: what was read, and the reading of the rest, are the reading of the whole.
-use Rattle.std.proofs.Common.{ℕ, zero, suc, append-nil, add-zero, ◌≡◌, ◌≢◌, ◌≤◌, ◌<◌, ◌+◌, ◌-◌, List, [], ◌∷◌, ◌++◌, Option, Some, None, length, take, drop, encode_utf8, refl, sym, ap, ◌∙◌, inl, inr, arith, append_assoc}
-use Rattle.std.proofs.lemmas.Bool.{cases_eq}
+use Rattle.std.proofs.Common.{ℕ, zero, suc, append-nil, add-zero, ◌≡◌, ◌≢◌, ◌≤◌, ◌<◌, ◌+◌, ◌-◌, List, [], ◌∷◌, ◌++◌, Option, Some, None, length, take, drop, encode_utf8, refl, sym, ap, ◌∙◌, arith, append_assoc}
+use Rattle.std.proofs.lemmas.Bool.Decides.{nat_tests}
 use Rattle.std.proofs.lemmas.List.{length-drop, drop-drop}
 use Rattle.hesc_grammars.specs.declared.step.Mode.{Mode}
 use Rattle.hesc_grammars.specs.declared.step.Step.{Step}
 use Rattle.hesc_grammars.specs.declared.step.Step.TheVariants.{Close, Byte, Character, Nothing}
 use Rattle.hesc_grammars.specs.declared.place.Place.{Place}
-use Rattle.hesc_grammars.specs.declared.place.Place.TheVariants.{Text, DoubleAttribute, SingleAttribute, UnquotedAttribute, ScriptSingle, ScriptDouble, StyleSingle, StyleDouble, ScriptBody, StyleBody}
 use Rattle.hesc_grammars.specs.Bodies.{script_body_step, style_body_step}
 use Rattle.hesc_grammars.specs.Html.{marked_step, unquoted_step}
 use Rattle.hesc_grammars.specs.Places.{step_of, reading}
@@ -51,16 +50,7 @@ IsItem found more item next = (go_on : ℕ → Mode → Option (List ℕ × ℕ)
 -- nothing begins where no byte is left
 begins_nothing : (place : Place) (mode : Mode) → step_of place mode [] ≡ Nothing
 unfolding marked_step unquoted_step script_string_step style_string_step script_body_step style_body_step
-begins_nothing Text mode = refl
-begins_nothing DoubleAttribute mode = refl
-begins_nothing SingleAttribute mode = refl
-begins_nothing (UnquotedAttribute end) mode = refl
-begins_nothing ScriptSingle mode = refl
-begins_nothing ScriptDouble mode = refl
-begins_nothing StyleSingle mode = refl
-begins_nothing StyleDouble mode = refl
-begins_nothing ScriptBody mode = refl
-begins_nothing StyleBody mode = refl
+begins_nothing place mode = grind (arith, nat_tests)
 
 -- so a closing mark has a byte
 pub closes_by_byte : (place : Place) (mode : Mode) (rest : List ℕ) → Close ≡ step_of place mode rest → length rest ≢ 0
@@ -83,25 +73,12 @@ none_left {rest = b ∷ rest} follows empty = absurd (cc)
 -- nor where nothing begins
 pub knows_nothing : {place : Place} {bytes value : List ℕ} {mode : Mode} {rest : List ℕ} → Follows place bytes value mode rest →
     Nothing ≡ step_of place mode rest → None ≡ reading place bytes
-knows_nothing {place} {mode = mode} {rest} follows nothing = elim (cases_eq (length rest) 0) [
-  | inl empty ↦ none_left follows empty
-  | inr full ↦ rw (turned (step_of place) mode rest full, sym nothing) at follows.known
-]
+knows_nothing follows nothing = grind (arith, nat_tests, none_left, turned)
 
 -- nor where an item is not all there
 lacks : {place : Place} {bytes value : List ℕ} {mode next : Mode} {rest : List ℕ} (found : Step) (more : ℕ) (item : List ℕ) → IsItem found more item next →
     Follows place bytes value mode rest → found ≡ step_of place mode rest → length rest ≤ more → None ≡ reading place bytes
-lacks {place} {mode = mode} {next} {rest} found more item is_item follows is long = elim (cases_eq (length rest) 0) [
-  | inl empty ↦ none_left follows empty
-  | inr full ↦
-      let none : reading_after (step_of place) more next (drop 1 rest) ≡ None = unfinished (step_of place) next more (drop 1 rest) (omega (arith, length-drop 1 rest, full)) in
-      rw (
-        turned (step_of place) mode rest full,
-        sym is,
-        is_item (λ more next. reading_after (step_of place) more next (drop 1 rest)),
-        none,
-      ) at follows.known
-]
+lacks found more item is_item follows is long = grind (arith, nat_tests, none_left, unfinished, length-drop, turned)
 
 -- an item is read, and the reading goes on after it
 goes_past : {place : Place} {bytes value items : List ℕ} {mode next : Mode} {rest following : List ℕ} (found : Step) (more : ℕ) (item : List ℕ) → IsItem found more item next →

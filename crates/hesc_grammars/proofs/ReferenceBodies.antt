@@ -1,12 +1,12 @@
 -- A reference is read by its body, which goes up to the first `;`, and one by a number by its digits, one pass over them.
-use Rattle.std.proofs.Common.{ℕ, zero, suc, ◌≡◌, ◌<◌, ◌≤◌, ◌+◌, Bool, true, false, not, ◌&&◌, List, [], ◌∷◌, ◌++◌, ◌==◌, Option, Some, None, length, take, refl, sym, ap, ◌∙◌, arith, ⊎_elim, add-zero, zero-add, ne_eqb, length-take}
+use Rattle.std.proofs.Common.{ℕ, zero, suc, ◌≡◌, ◌<◌, ◌≤◌, ◌+◌, Bool, true, false, not, ◌&&◌, List, [], ◌∷◌, ◌++◌, ◌==◌, Option, Some, None, length, take, refl, ap, ◌∙◌, arith, ⊎_elim, add-zero, zero-add, ne_eqb, length-take}
 use Rattle.std.specs.Char.{is_digit}
 use Rattle.std.specs.List.{list_all, position_from}
 use Rattle.std.specs.Option.{option_map}
 use Rattle.std.specs.Prelude.{slice_index}
 use Rattle.std.specs.Str.Parse.{digits_value}
 use Rattle.std.proofs.Math.Seq.{take-append_seam}
-use Rattle.std.proofs.lemmas.Bool.{and_parts, cases_Bool}
+use Rattle.std.proofs.lemmas.Bool.{and_parts, cases_Bool, not-true}
 use Rattle.std.proofs.lemmas.Bool.Decides.{nat_tests}
 use Rattle.hesc_specs.specs.Text.Ascii.{semicolon}
 use Rattle.hesc_specs.specs.References.Numbers.{base_of, capped}
@@ -19,10 +19,6 @@ use Rattle.hesc_grammars.specs.NumberedReferences.{number_of_length, numbered_re
 abbrev pub HasNoSemicolon : List ℕ → Type 0
 HasNoSemicolon body = list_all (λ b. not (b == semicolon)) body ≡ true
 
-not_true : (b : Bool) → not b ≡ true → b ≡ false
-not_true true h = cc
-not_true false h = refl
-
 -- the first `;` stands after a body that has none
 position_from-body : (body rest : List ℕ) (start : ℕ) → HasNoSemicolon body →
     position_from (λ b. b == semicolon) start (body ++ semicolon ∷ rest) ≡ Some (start + length body)
@@ -30,7 +26,7 @@ position_from-body [] rest start none = rw (add-zero start) refl
 position_from-body (b ∷ body) rest start none =
     let parts : (not (b == semicolon) ≡ true) × HasNoSemicolon body =
     and_parts (not (b == semicolon)) (list_all (λ d. not (d == semicolon)) body) none in
-    rw (not_true (b == semicolon) parts.0, position_from-body body rest (start + 1) parts.1) (ap Some (omega arith))
+    rw (not-true (b == semicolon) parts.0, position_from-body body rest (start + 1) parts.1) (ap Some (omega arith))
 
 -- a body without `;` is read whole
 pub reference-body : (body rest : List ℕ) → HasNoSemicolon body →
@@ -43,13 +39,11 @@ abbrev pub BeginsWithDigits : Bool → ℕ → List ℕ → Type 0
 BeginsWithDigits is_hex count bytes = list_all (λ d. is_digit d (base_of is_hex)) (take count bytes) ≡ true
 
 pub and_false : (b : Bool) → (b && false) ≡ false
-and_false true = refl
-and_false false = refl
+and_false b = grind (arith, nat_tests)
 
 -- no digit is a `;`
 digit_goes_on : (is_hex : Bool) (d : ℕ) → is_digit d (base_of is_hex) ≡ true → (d == semicolon) ≡ false
-digit_goes_on true d is = grind (arith, nat_tests)
-digit_goes_on false d is = grind (arith, nat_tests)
+digit_goes_on is_hex d is = grind (arith, nat_tests)
 
 -- the first `;` counted from a later start
 pub position_from-later : (start : ℕ) (bytes : List ℕ) →
@@ -62,8 +56,7 @@ position_from-later start (b ∷ bytes) =
     (cases_Bool (b == semicolon))
   where
     moved : (found : Option ℕ) → option_map (λ n. start + 1 + n) found ≡ option_map (λ n. start + n) (option_map (λ n. 1 + n) found)
-    moved None = refl
-    moved (Some n) = ap Some (omega arith)
+    moved found = grind (arith, nat_tests)
 
 -- a `;` right after digits is the first
 pub position_from-digits : (is_hex : Bool) (start count : ℕ) (bytes : List ℕ) → BeginsWithDigits is_hex count bytes →
@@ -85,12 +78,7 @@ position_from-none is_hex start (b ∷ bytes) digits =
     rw (digit_goes_on is_hex b parts.0) (position_from-none is_hex (start + 1) bytes parts.1)
 
 at_least : (start n : ℕ) (bytes : List ℕ) → position_from (λ b. b == semicolon) start bytes ≡ Some n → start ≤ n
-at_least start n bytes found =
-    from (position_from (λ b. b == semicolon) 0 bytes) (sym (position_from-later start bytes) ∙ found)
-  where
-    from : (later : Option ℕ) → option_map (λ k. start + k) later ≡ Some n → start ≤ n
-    from None e = cc
-    from (Some k) e = let same : start + k ≡ n = cc in omega arith
+at_least start n bytes found = grind (arith, nat_tests, position_from-later)
 
 -- what goes up to a `;` after a byte that is neither a digit nor a `;` has that byte
 stops : (is_hex : Bool) (start count n : ℕ) (bytes : List ℕ) → BeginsWithDigits is_hex count bytes → count < length bytes →

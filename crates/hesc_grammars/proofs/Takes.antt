@@ -1,5 +1,5 @@
 -- Pieces of a place that its grammar takes whole, whatever follows them.
-use Rattle.std.proofs.Common.{ℕ, ◌≡◌, ◌+◌, List, [], ◌∷◌, ◌++◌, Option, Some, None, length, flat_map, encode_utf8, refl, sym, ◌∙◌, ap, append_assoc, append-nil, add_assoc, zero-add, add-zero, length-append, arith}
+use Rattle.std.proofs.Common.{ℕ, ◌≡◌, ◌+◌, List, [], ◌∷◌, ◌++◌, Option, Some, None, length, encode_utf8, refl, sym, ◌∙◌, ap, append_assoc, append-nil, add_assoc, zero-add, add-zero, length-append, arith}
 use Rattle.hesc_grammars.specs.declared.step.Mode.{Mode}
 use Rattle.hesc_grammars.specs.declared.step.Step.{Step}
 use Rattle.hesc_grammars.specs.declared.step.Step.TheVariants.{Byte, Character}
@@ -87,13 +87,6 @@ pub takes_character : {step : Mode → List ℕ → Step} {mode next : Mode} {b 
     ((rest : List ℕ) → step mode (b ∷ tail ++ rest) ≡ Character (length tail) c next) →
     Takes step mode (b ∷ tail) (encode_utf8 c) next
 takes_character {step} {tail = tail} c found = record { goes_on = λ rest. reads_character step tail rest c (found rest) }
-
--- images, of which each is taken
-pub takes_each : {step : Mode → List ℕ → Step} {mode : Mode} {image value : ℕ → List ℕ} →
-    ((b : ℕ) → Takes step mode (image b) (value b) mode) →
-    (text : List ℕ) → Takes step mode (flat_map image text) (flat_map value text) mode
-takes_each each [] = takes_nothing
-takes_each each (b ∷ text) = takes_both (each b) (takes_each each text)
 
 -- a piece right before the end is the whole reading
 pub takes_to_end : {step : Mode → List ℕ → Step} {a b : Mode} {piece value : List ℕ} (close : List ℕ) →

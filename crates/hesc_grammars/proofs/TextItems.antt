@@ -1,29 +1,24 @@
 -- What a grammar takes of a text: an item begins at a byte of ASCII and ends after one, or is one byte.
-use Rattle.std.proofs.Common.{ℕ, zero, suc, ◌≡◌, ◌≢◌, ◌≤◌, ◌<◌, ◌+◌, ◌-◌, ◌⊎◌, inl, inr, Bool, true, false, ◌&&◌, ◌==◌, List, [], ◌∷◌, Option, Some, None, length, take, refl, arith, ne_eqb}
-use Rattle.std.proofs.lemmas.Bool.{and_parts, cases_Bool, cases_eq, cases_lt, le-ltb}
+use Rattle.std.proofs.Common.{ℕ, zero, suc, ◌≡◌, ◌≢◌, ◌≤◌, ◌<◌, ◌+◌, ◌-◌, ◌⊎◌, inl, inr, Bool, true, false, ◌&&◌, ◌==◌, List, [], ◌∷◌, Option, Some, None, length, take, refl, arith}
+use Rattle.std.proofs.lemmas.Bool.{and_parts, cases_Bool, cases_lt}
 use Rattle.std.proofs.lemmas.Bool.Decides.{nat_tests}
 use Rattle.std.specs.Char.{is_digit}
-use Rattle.std.specs.Int.{is_in_range}
 use Rattle.std.specs.Str.Parse.{digits_value}
 use Rattle.std.proofs.lemmas.List.Sums.{take_while-cons}
 use Rattle.std.specs.List.{position_from, take_while}
 use Rattle.std.specs.Prelude.{⊤, if◌then◌else◌, drop, slice_index}
-use Rattle.hesc_specs.specs.Text.Ascii.{ampersand, semicolon, backslash, single_quote, double_quote, lower_x, less_than, space}
-use Rattle.hesc_specs.specs.declared.elements.Element.{Element}
-use Rattle.hesc_specs.specs.declared.elements.Element.TheVariants.{Script, Style}
+use Rattle.hesc_specs.specs.Text.Ascii.{ampersand, semicolon, backslash, lower_x}
 use Rattle.hesc_grammars.specs.declared.step.Mode.{Mode}
-use Rattle.hesc_grammars.specs.declared.step.Mode.TheVariants.{Empty, Plain, Escaped, DoubleEscaped}
+use Rattle.hesc_grammars.specs.declared.step.Mode.TheVariants.{Plain}
 use Rattle.hesc_grammars.specs.declared.place.Place.{Place}
-use Rattle.hesc_grammars.specs.declared.place.Place.TheVariants.{Text, DoubleAttribute, SingleAttribute, UnquotedAttribute, ScriptSingle, ScriptDouble, StyleSingle, StyleDouble, ScriptBody, StyleBody}
 use Rattle.hesc_grammars.specs.Places.{step_of}
 use Rattle.hesc_grammars.specs.declared.step.Step.{Step}
 use Rattle.hesc_grammars.specs.declared.step.Step.TheVariants.{Close, Byte, Character, Nothing}
-use Rattle.hesc_grammars.specs.Bodies.{ends_script, script_body_step, style_body_step}
-use Rattle.hesc_grammars.specs.Html.{ends_unquoted, has_item, is_unquoted_error, marked_step, unquoted_step}
+use Rattle.hesc_grammars.specs.Bodies.{script_body_step, style_body_step}
+use Rattle.hesc_grammars.specs.Html.{ends_unquoted, marked_step, unquoted_step}
 use Rattle.hesc_grammars.specs.References.{character_or_nothing, body_character, reference, reference_of_length}
-use Rattle.hesc_grammars.specs.ScriptStrings.{lower_b, lower_f, lower_n, lower_r, lower_t, lower_u, lower_v, single_escape, unless_surrogate, hex_escape, single_or_hex, script_escape, begins_line_end, script_string_step}
+use Rattle.hesc_grammars.specs.ScriptStrings.{lower_u, single_escape, unless_surrogate, hex_escape, single_or_hex, script_escape, begins_line_end, script_string_step}
 use Rattle.hesc_grammars.specs.StyleStrings.{is_newline_or_nul, begins_white_space, white_space_length, digits_escape, style_escape, style_string_step}
-use Rattle.hesc_grammars.specs.Words.{is_end_tag}
 
 -- the mark is ASCII; an item of a byte is that byte as it stands, or a byte of ASCII and the one after it; that of a character begins and ends with ASCII
 abbrev pub IsTextItem : Step → List ℕ → Type 0
@@ -34,8 +29,7 @@ IsTextItem (Character more c next) bytes = (slice_index bytes 0 < 128) × (slice
 IsTextItem Nothing bytes = ⊤
 
 character_item : (more : ℕ) (c : Option ℕ) (bytes : List ℕ) → slice_index bytes 0 < 128 → slice_index bytes more < 128 → IsTextItem (character_or_nothing more c) bytes
-character_item more None bytes first last = tt
-character_item more (Some c) bytes first last = (first, last)
+character_item more c bytes first last = grind (arith, nat_tests)
 
 one_more : (b : ℕ) (bytes : List ℕ) (n : ℕ) → slice_index (b ∷ bytes) (n + 1) ≡ slice_index bytes n
 one_more b bytes n = let e : n + 1 ≡ suc n = omega arith in rw e refl
@@ -57,10 +51,7 @@ stands test (b ∷ bytes) i n is =
     ]
 
 equal : (a b : ℕ) → (a == b) ≡ true → a ≡ b
-equal a b same = elim (cases_eq a b) [
-  | inl is ↦ is
-  | inr other ↦ absurd (cc (ne_eqb a b other, same))
-]
+equal a b same = grind (arith, nat_tests)
 
 reference_item_of : (bytes : List ℕ) (found : Option ℕ) → position_from (λ b. b == semicolon) 0 bytes ≡ found → IsTextItem (reference_of_length found bytes) (ampersand ∷ bytes)
 reference_item_of bytes None is = tt
@@ -74,67 +65,24 @@ reference_item bytes = reference_item_of bytes (position_from (λ b. b == semico
 
 pub marked_item : (mark : ℕ) (mode : Mode) (b : ℕ) (bytes : List ℕ) → mark < 128 → IsTextItem (marked_step mark mode (b ∷ bytes)) (b ∷ bytes)
 unfolding marked_step
-marked_item mark mode b bytes ascii =
-    elim (cases_Bool (b == mark)) [
-      | inl is ↦ rw is (let same : b ≡ mark = equal b mark is in omega arith)
-      | inr other ↦ rw other (elim (cases_Bool (b == ampersand)) [
-        | inl is ↦ rw is (let same : b ≡ ampersand = equal b ampersand is in rw same (reference_item bytes))
-        | inr plain ↦ rw plain (inl (refl, refl))
-      ])
-    ]
+marked_item mark mode b bytes ascii = grind (arith, nat_tests, equal, reference_item)
 
 ends_unquoted_ascii : (b : ℕ) → ends_unquoted b ≡ true → b < 128
 ends_unquoted_ascii b ends = grind (arith, nat_tests)
 
 pub unquoted_item : (end : ℕ) (mode : Mode) (b : ℕ) (bytes : List ℕ) → IsTextItem (unquoted_step end mode (b ∷ bytes)) (b ∷ bytes)
 unfolding unquoted_step
-unquoted_item end mode b bytes =
-    elim (cases_Bool (ends_unquoted b)) [
-      | inl ends ↦ rw ends (elim (cases_Bool (b == end && has_item mode)) [
-        | inl close ↦ rw close (ends_unquoted_ascii b ends)
-        | inr other ↦ rw other tt
-      ])
-      | inr goes_on ↦ rw goes_on (elim (cases_Bool (b == ampersand)) [
-        | inl is ↦ rw is (let same : b ≡ ampersand = equal b ampersand is in rw same (reference_item bytes))
-        | inr plain ↦ rw plain (elim (cases_Bool (is_unquoted_error b)) [
-          | inl error ↦ rw error tt
-          | inr item ↦ rw item (inl (refl, refl))
-        ])
-      ])
-    ]
-
-high_digit : (d : ℕ) → 128 ≤ d → is_digit d 16 ≡ false
-high_digit d high =
-    rw (
-      le-ltb d 48 (omega arith),
-      le-ltb d 58 (omega arith),
-      le-ltb d 65 (omega arith),
-      le-ltb d 91 (omega arith),
-      le-ltb d 97 (omega arith),
-      le-ltb d 123 (omega arith),
-    ) refl
+unquoted_item end mode b bytes = grind (arith, nat_tests, ends_unquoted_ascii, equal, reference_item)
 
 digit_ascii : (d : ℕ) → is_digit d 16 ≡ true → d < 128
-digit_ascii d is = elim (cases_lt d 128) [
-  | inl small ↦ small
-  | inr high ↦ absurd (cc (high_digit d high, is))
-]
+digit_ascii d is = grind (arith, nat_tests)
 
 hex_item : (are : Bool) (more n : ℕ) (bytes : List ℕ) → slice_index bytes 0 < 128 → (are ≡ true → slice_index bytes more < 128)
     → IsTextItem (if are then unless_surrogate more n else Nothing) bytes
-hex_item false more n bytes first last = tt
-hex_item true more n bytes first last =
-    elim (cases_Bool (is_in_range 0xD800 0xDFFF n)) [
-      | inl surrogate ↦ rw surrogate tt
-      | inr scalar ↦ rw scalar (first, last refl)
-    ]
+hex_item are more n bytes first last = grind (arith, nat_tests)
 
 two_digits_item : (b : ℕ) (bytes : List ℕ) → IsTextItem (hex_escape 2 (take 2 bytes)) (backslash ∷ b ∷ bytes)
-two_digits_item b [] = tt
-two_digits_item b (d ∷ []) = tt
-two_digits_item b (d ∷ e ∷ bytes) =
-    hex_item (is_digit d 16 && (is_digit e 16 && true)) 3 (digits_value 16 (d ∷ e ∷ [])) (backslash ∷ b ∷ d ∷ e ∷ bytes) (omega arith)
-    (λ are. digit_ascii e ((and_parts (is_digit e 16) true ((and_parts (is_digit d 16) (is_digit e 16 && true) are).1)).0))
+two_digits_item b bytes = grind (arith, nat_tests)
 
 four_digits_item : (b : ℕ) (bytes : List ℕ) → IsTextItem (hex_escape 4 (take 4 bytes)) (backslash ∷ b ∷ bytes)
 four_digits_item b [] = tt
@@ -149,18 +97,7 @@ four_digits_item b (d ∷ e ∷ f ∷ g ∷ bytes) =
     digit_ascii g ((and_parts (is_digit g 16) true ((and_parts (is_digit f 16) (is_digit g 16 && true) last).1)).0))
 
 high_single : (b : ℕ) → 128 ≤ b → single_escape b ≡ None
-high_single b high =
-    rw (
-      ne_eqb b single_quote (omega arith),
-      ne_eqb b double_quote (omega arith),
-      ne_eqb b backslash (omega arith),
-      ne_eqb b lower_b (omega arith),
-      ne_eqb b lower_f (omega arith),
-      ne_eqb b lower_n (omega arith),
-      ne_eqb b lower_r (omega arith),
-      ne_eqb b lower_t (omega arith),
-      ne_eqb b lower_v (omega arith),
-    ) refl
+high_single b high = grind (arith, nat_tests)
 
 single_or_hex_item : (found : Option ℕ) (b : ℕ) (bytes : List ℕ) → ((c : ℕ) → found ≡ Some c → b < 128) → IsTextItem (single_or_hex found b bytes) (backslash ∷ b ∷ bytes)
 single_or_hex_item (Some c) b bytes small = (omega arith, small c refl)
@@ -174,13 +111,7 @@ single_or_hex_item None b bytes small =
     ]
 
 script_escape_item : (bytes : List ℕ) → IsTextItem (script_escape bytes) (backslash ∷ bytes)
-script_escape_item [] = tt
-script_escape_item (b ∷ bytes) =
-    single_or_hex_item (single_escape b) b bytes (λ c is.
-    elim (cases_lt b 128) [
-      | inl small ↦ small
-      | inr high ↦ absurd (cc (high_single b high, is))
-    ])
+script_escape_item bytes = grind (arith, nat_tests, single_or_hex_item, cases_lt, high_single)
 
 pub script_string_item : (mark : ℕ) (mode : Mode) (b : ℕ) (bytes : List ℕ) → mark < 128 → IsTextItem (script_string_step mark mode (b ∷ bytes)) (b ∷ bytes)
 unfolding script_string_step
@@ -198,8 +129,7 @@ script_string_item mark mode b bytes ascii =
 
 digit_after : (b : ℕ) (bytes more : List ℕ) (k : ℕ) → ((j : ℕ) → j < length more → is_digit (slice_index bytes j) 16 ≡ true) → is_digit b 16 ≡ true
     → k < length (b ∷ more) → is_digit (slice_index (b ∷ bytes) k) 16 ≡ true
-digit_after b bytes more zero later first within = first
-digit_after b bytes more (suc k) later first within = later k (omega arith)
+digit_after b bytes more k later first within = grind (arith, nat_tests)
 
 -- the digits at the front are digits
 digit_at : (bytes : List ℕ) (most k : ℕ) → k < length (take_while (λ d. is_digit d 16) (take most bytes)) → is_digit (slice_index bytes k) 16 ≡ true
@@ -216,47 +146,18 @@ white_space_ascii [] n begins = omega arith
 white_space_ascii (b ∷ bytes) zero begins = grind (arith, nat_tests)
 white_space_ascii (b ∷ bytes) (suc n) begins = white_space_ascii bytes n begins
 
-high_is_no_end_tag : (element : Element) (b : ℕ) (bytes : List ℕ) → 128 ≤ b → is_end_tag element (b ∷ bytes) ≡ false
-high_is_no_end_tag element b bytes high = rw (le-ltb b 65 (omega arith), le-ltb b 91 (omega arith), ne_eqb b less_than (omega arith)) refl
-
-end_tag_ascii : (element : Element) (b : ℕ) (bytes : List ℕ) → is_end_tag element (b ∷ bytes) ≡ true → b < 128
-end_tag_ascii element b bytes ends = elim (cases_lt b 128) [
-  | inl small ↦ small
-  | inr high ↦ absurd (cc (high_is_no_end_tag element b bytes high, ends))
-]
-
-ends_script_ascii : (mode : Mode) (b : ℕ) (bytes : List ℕ) → ends_script mode (b ∷ bytes) ≡ true → b < 128
-ends_script_ascii DoubleEscaped b bytes ends = absurd (cc)
-ends_script_ascii Empty b bytes ends = end_tag_ascii Script b bytes ends
-ends_script_ascii Plain b bytes ends = end_tag_ascii Script b bytes ends
-ends_script_ascii Escaped b bytes ends = end_tag_ascii Script b bytes ends
-
 style_body_item : (mode : Mode) (b : ℕ) (bytes : List ℕ) → IsTextItem (style_body_step mode (b ∷ bytes)) (b ∷ bytes)
 unfolding style_body_step
-style_body_item mode b bytes =
-    elim (cases_Bool (is_end_tag Style (b ∷ bytes))) [
-      | inl ends ↦ rw ends (end_tag_ascii Style b bytes ends)
-      | inr item ↦ rw item (inl (refl, refl))
-    ]
+style_body_item mode b bytes = grind (arith, nat_tests)
 
 script_body_item : (mode : Mode) (b : ℕ) (bytes : List ℕ) → IsTextItem (script_body_step mode (b ∷ bytes)) (b ∷ bytes)
 unfolding script_body_step
-script_body_item mode b bytes =
-    elim (cases_Bool (ends_script mode (b ∷ bytes))) [
-      | inl ends ↦ rw ends (ends_script_ascii mode b bytes ends)
-      | inr item ↦ rw item (inl (refl, refl))
-    ]
+script_body_item mode b bytes = grind (arith, nat_tests)
 
 -- the last byte of digits, or of the white space after them
 escape_end : (count : ℕ) (bytes : List ℕ) → 0 < count → is_digit (slice_index bytes (count - 1)) 16 ≡ true
     → slice_index (backslash ∷ bytes) (count + white_space_length (drop count bytes)) < 128
-escape_end count bytes some last =
-    elim (cases_Bool (begins_white_space (drop count bytes))) [
-      | inl space ↦ rw (space, one_more backslash bytes count) (white_space_ascii bytes count space)
-      | inr none ↦
-          let before : count + 0 ≡ (count - 1) + 1 = omega arith in
-          rw (none, before, one_more backslash bytes (count - 1)) (digit_ascii (slice_index bytes (count - 1)) last)
-    ]
+escape_end count bytes some last = grind (arith, nat_tests, one_more, white_space_ascii, digit_ascii)
 
 some_digits : (b : ℕ) (bytes : List ℕ) → is_digit b 16 ≡ true → 0 < length (take_while (λ d. is_digit d 16) (b ∷ bytes))
 some_digits b bytes is = rw (take_while-cons (λ d. is_digit d 16) b bytes, is) (omega arith)
@@ -283,29 +184,10 @@ style_escape_item (b ∷ bytes) = style_escape_choice (is_digit b 16) b bytes re
 
 style_string_item : (mark : ℕ) (mode : Mode) (b : ℕ) (bytes : List ℕ) → mark < 128 → IsTextItem (style_string_step mark mode (b ∷ bytes)) (b ∷ bytes)
 unfolding style_string_step
-style_string_item mark mode b bytes ascii =
-    elim (cases_Bool (b == mark)) [
-      | inl is ↦ rw is (let same : b ≡ mark = equal b mark is in omega arith)
-      | inr other ↦ rw other (elim (cases_Bool (b == backslash)) [
-        | inl is ↦ rw is (let same : b ≡ backslash = equal b backslash is in rw same (style_escape_item bytes))
-        | inr plain ↦ rw plain (elim (cases_Bool (is_newline_or_nul b)) [
-          | inl nothing ↦ rw nothing tt
-          | inr item ↦ rw item (inl (refl, refl))
-        ])
-      ])
-    ]
+style_string_item mark mode b bytes ascii = grind (arith, nat_tests, equal, style_escape_item)
 
 text_item : (place : Place) (mode : Mode) (b : ℕ) (bytes : List ℕ) → IsTextItem (step_of place mode (b ∷ bytes)) (b ∷ bytes)
-text_item Text mode b bytes = marked_item _ mode b bytes (omega arith)
-text_item DoubleAttribute mode b bytes = marked_item _ mode b bytes (omega arith)
-text_item SingleAttribute mode b bytes = marked_item _ mode b bytes (omega arith)
-text_item (UnquotedAttribute end) mode b bytes = unquoted_item _ mode b bytes
-text_item ScriptSingle mode b bytes = script_string_item _ mode b bytes (omega arith)
-text_item ScriptDouble mode b bytes = script_string_item _ mode b bytes (omega arith)
-text_item StyleSingle mode b bytes = style_string_item _ mode b bytes (omega arith)
-text_item StyleDouble mode b bytes = style_string_item _ mode b bytes (omega arith)
-text_item ScriptBody mode b bytes = script_body_item mode b bytes
-text_item StyleBody mode b bytes = style_body_item mode b bytes
+text_item place mode b bytes = grind (arith, nat_tests, marked_item, unquoted_item, script_string_item, style_string_item, script_body_item, style_body_item)
 
 pub item_of_text : (place : Place) (mode : Mode) (rest : List ℕ) → length rest ≢ 0 → IsTextItem (step_of place mode rest) rest
 item_of_text place mode [] some = absurd (some refl)

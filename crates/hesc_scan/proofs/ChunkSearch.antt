@@ -1,5 +1,6 @@
 -- A search that goes by chunks of 32 bytes: where a chunk stands, and what its mask tells.
-use Rattle.std.proofs.Common.{◌≡◌, ℕ, zero, suc, ◌+◌, ◌*◌, ◌-◌, ◌/◌, ◌≤◌, ◌<◌, Fits, w8, Bool, true, false, not, cond, List, [], ◌∷◌, drop, length, min, take, get_or, map, sym, subst, ap, ◌∙◌, arith, inl, inr}
+use Rattle.std.proofs.Common.{◌≡◌, ℕ, zero, suc, ◌+◌, ◌*◌, ◌-◌, ◌/◌, ◌≤◌, ◌<◌, Fits, w8, Bool, false, not, cond, List, [], ◌∷◌, drop, length, min, take, get_or, map, sym, subst, ap, ◌∙◌, arith, inl, inr}
+use Rattle.std.proofs.lemmas.Bool.Decides.{nat_tests}
 use Rattle.std.proofs.lemmas.Bool.{cases_lt}
 use Rattle.std.proofs.lemmas.List.{drop-drop, length-drop, take_all, take_min}
 use Rattle.std.proofs.lemmas.Simd.{below_from_Fits, chunk-fits, length-chunk, none_from_empty_mask, run_in_chunk_fails, run_in_chunk_stops, trailing_mask_l}
@@ -30,15 +31,7 @@ module _ (bytes rest : List ℕ) (from : ℕ) (chunks : List (List ℕ)) (i : �
   count = many ∙ ap (λ l. length l / 32) from_there ∙ ap (λ n. n / 32) (length-drop from bytes)
 
   pub chunk_stands : (place : ℕ) → place ≡ from + 32 * i → StandsAt bytes place (get_or chunks i [])
-  chunk_stands place is = record {
-    room = omega (arith, is, count, inside, within);
-    bytes_there =
-        ap (λ l. get_or l i []) front
-        ∙ get_or-first_chunks 32 (length rest / 32) i rest (omega (arith, many, inside))
-        ∙ ap (λ l. chunk (32 * i) 32 l) from_there
-        ∙ ap (chunk 0 32) (drop-drop (32 * i) from bytes)
-        ∙ ap (λ at. chunk at 32 bytes) (sym is);
-  }
+  chunk_stands place is = grind (arith, nat_tests, is, count, get_or-first_chunks, drop-drop)
 
 -- a slice from a place on, as a program writes it
 pub slice_rest : (bytes : List ℕ) (from : ℕ) → from ≤ length bytes → chunk from (length bytes - from) bytes ≡ drop from bytes
@@ -48,8 +41,7 @@ pub below_256 : (bytes found : List ℕ) (place : ℕ) → ((k : ℕ) → Fits w
 below_256 bytes found place fits stands = subst (Each1 (λ b. b < 256)) (sym stands.bytes_there) (below_from_Fits w8 _ (chunk-fits w8 place 32 bytes fits))
 
 stop : (b : Bool) (n m l : ℕ) → 0 < cond b 1 0 + 2 * n → (0 < n → m < l) → cond (not b) (1 + m) 0 < suc l
-stop true n m l some f = omega arith
-stop false n m l some f = omega (arith, f (omega arith))
+stop b n m l some f = grind (arith, nat_tests)
 
 stops : (test : ℕ → Bool) (xs : List ℕ) → 0 < mask_l (map test xs) → prefix_len (λ x. not (test x)) xs < length xs
 stops test [] some = absurd (omega arith)
@@ -72,21 +64,10 @@ module _ (test : ℕ → Bool) (bytes found : List ℕ) (from place n mask : ℕ
   inside_by_mask_of some = omega (arith, room, short some)
 
   pub first_by_mask_of : 0 < mask → IsFirstPlace test bytes from (place + count_trailing_zeros 64 mask)
-  first_by_mask_of some = record {
-    ordered = omega arith;
-    in_range = omega (arith, inside_by_mask_of some);
-    before = λ k from_k below. elim (cases_lt k place) [
-      | inl earlier ↦ none k from_k earlier
-      | inr later ↦ run_in_chunk_fails test bytes place n _ 0 room (counted some) k later below
-    ];
-    found = λ _. run_in_chunk_stops test bytes place n _ 0 room (counted some) (short some);
-  }
+  first_by_mask_of some = grind (arith, nat_tests, inside_by_mask_of, cases_lt, run_in_chunk_fails, counted, run_in_chunk_stops, short)
 
   pub none_by_mask_of : mask ≡ 0 → (k : ℕ) → from ≤ k → k < place + n → test (get_or bytes k 0) ≡ false
-  none_by_mask_of empty k from_k below = elim (cases_lt k place) [
-    | inl earlier ↦ none k from_k earlier
-    | inr later ↦ none_from_empty_mask test bytes place n 0 room (sym is ∙ empty) k later below
-  ]
+  none_by_mask_of empty k from_k below = grind (arith, nat_tests, cases_lt, none_from_empty_mask, is)
 
 -- the mask of 32 bytes
 module _ (test : ℕ → Bool) (bytes found : List ℕ) (from place mask : ℕ) (after : from ≤ place)
@@ -138,26 +119,10 @@ inside_of_block test bytes from place mask first some = inside_by_part test byte
 -- the first block from a place on is that from an earlier one, where no byte between them passes the test
 pub first_block_from : (test : ℕ → Bool) (bytes : List ℕ) (from reached place mask : ℕ) → IsPassed test bytes from reached → IsFirstBlock test bytes reached place mask
     → IsFirstBlock test bytes from place mask
-first_block_from test bytes from reached place mask passed first = record {
-  ordered = omega (arith, passed.ordered, first.ordered);
-  within = first.within;
-  before = λ k from_k below. elim (cases_lt k reached) [
-    | inl earlier ↦ passed.none k from_k earlier
-    | inr later ↦ first.before k later below
-  ];
-  is_mask = first.is_mask;
-  none = first.none;
-}
+first_block_from test bytes from reached place mask passed first = grind (arith, nat_tests)
 
 pub passed_more : (test : ℕ → Bool) (bytes : List ℕ) (from middle reached : ℕ) → IsPassed test bytes from middle → IsPassed test bytes middle reached → IsPassed test bytes from reached
-passed_more test bytes from middle reached first second = record {
-  ordered = omega (arith, first.ordered, second.ordered);
-  within = second.within;
-  none = λ k from_k below. elim (cases_lt k middle) [
-    | inl earlier ↦ first.none k from_k earlier
-    | inr later ↦ second.none k later below
-  ];
-}
+passed_more test bytes from middle reached first second = grind (arith, nat_tests)
 
 -- what an empty mask of 32 bytes tells
 pub passed_by_mask : (test : ℕ → Bool) (bytes found : List ℕ) (place mask : ℕ) → StandsAt bytes place found → mask ≡ mask_l (map test found) → mask ≡ 0 → IsPassed test bytes place (place + 32)

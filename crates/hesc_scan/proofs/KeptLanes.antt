@@ -1,9 +1,9 @@
 -- The lanes of a block that hold its bytes.
-use Rattle.std.proofs.Common.{◌≡◌, ℕ, zero, suc, ◌+◌, ◌-◌, ◌≤◌, Bool, true, false, ◌||◌, cond, bit_or, leb, List, [], ◌∷◌, take, drop, length, replicate, ap, sym, ◌∙◌, inl, inr, refl, arith}
+use Rattle.std.proofs.Common.{◌≡◌, ℕ, zero, suc, ◌+◌, ◌-◌, ◌≤◌, Bool, true, false, ◌||◌, cond, bit_or, leb, List, [], ◌∷◌, take, drop, length, replicate, ap, sym, ◌∙◌, inl, inr, arith}
+use Rattle.std.proofs.lemmas.Bool.Decides.{nat_tests}
 use Rattle.std.proofs.lemmas.Bool.{cases_lt, le-leb, le-ltb, lt-leb, lt-ltb}
 use Rattle.std.specs.Prelude.{nat_lt}
 use Rattle.std.specs.Simd.Lanes.{Each1, sum_l, top}
-use Rattle.hesc_scan.proofs.LaneLemmas.{either_set}
 use lib.Lanes.{sel_l}
 
 -- the lanes from one on that hold a byte
@@ -16,18 +16,14 @@ module _ (front skip : ℕ) (apart : front ≤ skip) where
   kept i v = sel_l (held front skip i (length v)) v (replicate (length v) 0)
 
   empty : (n : ℕ) → sum_l (take n []) ≡ 0
-  empty zero = refl
-  empty (suc n) = refl
+  empty n = grind (arith, nat_tests)
 
   empty_after : (n : ℕ) → sum_l (drop n []) ≡ 0
-  empty_after zero = refl
-  empty_after (suc n) = refl
+  empty_after n = grind (arith, nat_tests)
 
   -- one lane more, by whether it holds a byte
   first_lane : (i : ℕ) (b : ℕ) (v : List ℕ) (p q : Bool) → nat_lt i front ≡ p → leb skip i ≡ q → sum_l (kept i (b ∷ v)) ≡ cond (p || q) b 0 + sum_l (kept (suc i) v)
-  first_lane i b v p q is_p is_q =
-      ap (λ m. cond m b 0 + sum_l (kept (suc i) v))
-      ((λ k. top 7 (bit_or (cond (is_p k) 255 0) (cond (is_q k) 255 0))) ∙ either_set p q)
+  first_lane i b v p q is_p is_q = grind (arith, nat_tests)
 
   -- those before the front's end, and those after what is skipped
   sum_kept : (i : ℕ) (v : List ℕ) → sum_l (kept i v) ≡ sum_l (take (front - i) v) + sum_l (drop (skip - i) v)

@@ -1,5 +1,6 @@
 -- From comparisons of whole vectors to a test of each of their bytes.
-use Rattle.std.proofs.Common.{◌≡◌, ℕ, ◌%◌, ◌^◌, ◌≤◌, ◌<◌, Bool, true, false, ◌||◌, cond, bit_or, refl, List, [], ◌∷◌, map, length, ap, ◌∙◌, arith}
+use Rattle.std.proofs.Common.{◌≡◌, ℕ, ◌%◌, ◌^◌, ◌≤◌, ◌<◌, Bool, true, ◌||◌, cond, bit_or, List, [], ◌∷◌, map, length, ap, ◌∙◌, arith}
+use Rattle.std.proofs.lemmas.Bool.Decides.{nat_tests}
 use Rattle.std.proofs.lemmas.Bool.{agree_below, agree_below_at}
 use Rattle.std.proofs.lemmas.List.{length-map}
 use Rattle.std.proofs.lemmas.Simd.{map-map, mask_l-mod}
@@ -20,14 +21,10 @@ mask_by test f v compared few each agrees =
     ∙ mask_l-mod (map test v) 64 (omega (arith, length-map v test))
 
 pub one_set : (p : Bool) → top 7 (cond p 255 0) ≡ p
-one_set true = refl
-one_set false = refl
+one_set p = grind (arith, nat_tests)
 
 pub either_set : (p q : Bool) → top 7 (bit_or (cond p 255 0) (cond q 255 0)) ≡ p || q
-either_set true true = refl
-either_set true false = refl
-either_set false true = refl
-either_set false false = refl
+either_set p q = grind (arith, nat_tests)
 
 -- a mask by a test that agrees with a class at each of the 256 bytes
 pub mask_as_class : (class : Class) (test : ℕ → Bool) (v : List ℕ) (mask : ℕ) → Each1 (λ b. b < 256) v

@@ -1,5 +1,6 @@
 -- Lanes that are made from each byte by itself.
-use Rattle.std.proofs.Common.{◌≡◌, ℕ, ◌*◌, ◌≤◌, ◌<◌, Bool, true, ◌==◌, cond, List, [], ◌∷◌, map, length, refl, ◌∙◌, arith}
+use Rattle.std.proofs.Common.{◌≡◌, ℕ, ◌*◌, ◌≤◌, ◌<◌, Bool, true, ◌==◌, cond, List, [], ◌∷◌, map, length, refl, arith}
+use Rattle.std.proofs.lemmas.Bool.Decides.{nat_tests}
 use Rattle.std.proofs.lemmas.Bool.{agree_below, agree_below_at, eqb-true, leb-true}
 use Rattle.std.proofs.lemmas.List.{length-map}
 use Rattle.std.proofs.lemmas.List.Sums.{sum_by-cons}
@@ -20,8 +21,7 @@ selected_maps mask f g (b ∷ v) = λ i. cond (top 7 (mask b)) (f b) (g b) ∷ s
 
 pub selected : (mask f g : ℕ → ℕ) (v masks xs ys : List ℕ) → masks ≡ map mask v → xs ≡ map f v → ys ≡ map g v
     → sel_l (map (top 7) masks) xs ys ≡ map (λ b. cond (top 7 (mask b)) (f b) (g b)) v
-selected mask f g v masks xs ys is_mask is_f is_g =
-    (λ i. sel_l (map (top 7) (is_mask i)) (is_f i) (is_g i)) ∙ selected_maps mask f g v
+selected mask f g v masks xs ys is_mask is_f is_g = grind (arith, nat_tests, map, selected_maps)
 
 pub sum-map : (f : ℕ → ℕ) (v : List ℕ) → sum_l (map f v) ≡ sum_by f v
 sum-map f [] = refl

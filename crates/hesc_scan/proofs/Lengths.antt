@@ -1,4 +1,5 @@
 pub mod HtmlSums
+use Rattle.std.proofs.lemmas.Bool.Decides.{nat_tests}
 pub mod LaneSums
 pub mod StringSums
 pub mod Bounds

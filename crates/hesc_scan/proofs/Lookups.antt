@@ -1,6 +1,7 @@
 -- A table of sixteen entries that stands twice, looked up in for each of 32 bytes.
-use Rattle.std.proofs.Common.{◌≡◌, ℕ, suc, ◌+◌, ◌*◌, ◌/◌, ◌^◌, ◌≤◌, ◌<◌, w8, true, ◌==◌, List, [], ◌∷◌, map, length, get_or, replicate, bit_and, refl, ap, ◌∙◌, inl, inr, arith}
-use Rattle.std.proofs.lemmas.Bool.{agree_below, agree_below_at, cases_lt, eqb-true}
+use Rattle.std.proofs.Common.{◌≡◌, ℕ, suc, ◌+◌, ◌*◌, ◌/◌, ◌^◌, ◌≤◌, ◌<◌, w8, true, ◌==◌, List, [], ◌∷◌, map, length, get_or, replicate, bit_and, refl, ap, ◌∙◌, arith}
+use Rattle.std.proofs.lemmas.Bool.Decides.{nat_tests}
+use Rattle.std.proofs.lemmas.Bool.{agree_below}
 use Rattle.std.proofs.lemmas.Nat.{and_le_r}
 use Rattle.std.proofs.lemmas.Simd.{Each1-all, Each1-weaker, Each1-zip2, Each2-splat, length-zip2, swz_l, SwzOk, SwzOk-from_below, get_or-swz_l_below}
 use Rattle.std.specs.Simd.Lanes.{Each1}
@@ -25,17 +26,11 @@ high_nibbles_fit v long below =
 -- that a table stands twice is computed
 pub stands_twice : (table : List ℕ) → agree_below (λ j. get_or table (16 + j) 0 == get_or table j 0) (λ _. true) 16 ≡ true →
     (j : ℕ) → j < 16 → get_or table (16 + j) 0 ≡ get_or table j 0
-stands_twice table same j below =
-    eqb-true _ _ (agree_below_at (λ k. get_or table (16 + k) 0 == get_or table k 0) (λ _. true) 16 j same below)
+stands_twice table same j below = grind (arith, nat_tests)
 
 module _ (table : List ℕ) (twice : (j : ℕ) → j < 16 → get_or table (16 + j) 0 ≡ get_or table j 0) (nibble : ℕ → ℕ) (small : (b : ℕ) → b < 256 → nibble b < 16) where
   repeats : (i j : ℕ) → i < 32 → j < 16 → get_or table (16 * ((i + 0) / 16) + j) 0 ≡ get_or table j 0
-  repeats i j within below = elim (cases_lt i 16) [
-    | inl first ↦ ap (λ at. get_or table at 0) (omega arith)
-    | inr second ↦
-        let place : 16 * ((i + 0) / 16) + j ≡ 16 + j = omega arith in
-        ap (λ at. get_or table at 0) place ∙ twice j below
-  ]
+  repeats i j within below = grind (arith, nat_tests)
 
   looked_up_from : (i : ℕ) (v : List ℕ) → i + length v ≤ 32 → Each1 (λ b. b < 256) v → swz_l w8 16 table i (map nibble v) ≡ map (λ b. get_or table (nibble b) 0) v
   looked_up_from i [] room below = refl

@@ -1,5 +1,6 @@
 -- The mask of a part of some lanes, from the mask of all of them.
-use Rattle.std.proofs.Common.{◌≡◌, ℕ, suc, ◌+◌, ◌*◌, ◌/◌, ◌%◌, ◌^◌, ◌≤◌, ◌<◌, Bool, List, [], ◌∷◌, ◌++◌, map, take, drop, length, ap, sym, ◌∙◌, arith, ◌-◌, bit_and, bit_or, get_or, inl, inr, subst}
+use Rattle.std.proofs.Common.{◌≡◌, ℕ, suc, ◌+◌, ◌*◌, ◌/◌, ◌%◌, ◌^◌, ◌≤◌, ◌<◌, Bool, List, [], ◌∷◌, ◌++◌, map, take, drop, length, ap, sym, ◌∙◌, arith, ◌-◌, bit_and, bit_or, get_or, inl, inr}
+use Rattle.std.proofs.lemmas.Bool.Decides.{nat_tests}
 use Rattle.std.proofs.lemmas.Bool.{cases_lt}
 use Rattle.std.proofs.lemmas.List.{drop-drop, drop-take, length-drop, length-take, length-map, length-take-le, map-append, take-append-drop, take-take}
 use Rattle.std.proofs.lemmas.Nat.{and_mask, mod_low, one_shl, or_shifted, shl_whole, shr_high, shr_le}
@@ -40,11 +41,7 @@ module _ (test : ℕ → Bool) (xs : List ℕ) (k : ℕ) (within : k ≤ length 
 -- the first lanes, and those from a place on
 pub mask_l-parts : (test : ℕ → Bool) (xs : List ℕ) (front skip : ℕ) → front ≤ length xs → skip ≤ length xs
     → mask_l (map test (take front xs ++ drop skip xs)) ≡ mask_l (map test xs) / 2 ^ skip * 2 ^ front + mask_l (map test xs) % 2 ^ front
-mask_l-parts test xs front skip first last =
-    ap mask_l (map-append test (take front xs) (drop skip xs))
-    ∙ mask_l-append (map test (take front xs)) (map test (drop skip xs))
-    ∙ ap (λ n. mask_l (map test (drop skip xs)) * 2 ^ n + mask_l (map test (take front xs))) (long test xs front first)
-    ∙ (λ i. sym (mask_l-drop test xs skip last) i * 2 ^ front + sym (mask_l-take test xs front first) i)
+mask_l-parts test xs front skip first last = grind (arith, nat_tests, map-append, mask_l-append, map, long, mask_l-drop, mask_l-take)
 
 -- the same, as shifts and masks of 64 bits
 pub parts_by_bits : (test : ℕ → Bool) (xs : List ℕ) (front skip mask : ℕ) → length xs ≡ 32 → front ≤ 32 → skip ≤ 32 → mask ≡ mask_l (map test xs)
@@ -79,9 +76,7 @@ mask_from-later test bytes start from hits after near within masks =
     ∙ ap (λ n. mask_l (map test (take (32 - skipped) (drop n bytes)))) (omega arith)
 
 half_small : (test : ℕ → Bool) (xs : List ℕ) (skip : ℕ) → length xs ≡ skip + 16 → mask_l (map test (drop skip xs)) < 2 ^ 16
-half_small test xs skip sixteen =
-    let left : length (map test (drop skip xs)) ≡ 16 = omega (arith, sixteen, length-map (drop skip xs) test, length-drop skip xs) in
-    subst (λ n. mask_l (map test (drop skip xs)) < 2 ^ n) left (mask_l-lt (map test (drop skip xs)))
+half_small test xs skip sixteen = grind (arith, nat_tests, map, length-map, length-drop, mask_l-lt)
 
 -- the mask of lanes, from those of the first 16 and of the last 16
 pub halves_by_bits : (test : ℕ → Bool) (xs : List ℕ) (skip first last : ℕ) → skip ≤ 16 → length xs ≡ skip + 16 → first ≡ mask_l (map test (take 16 xs)) → last ≡ mask_l (map test (drop skip xs))

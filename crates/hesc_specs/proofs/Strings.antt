@@ -6,6 +6,5 @@ pub mod Bound
 pub mod DecodingChanges
 pub mod EncodingChanges
 pub mod EscapeEnds
-pub mod Numbers
 pub mod Undone
 pub mod Places

@@ -1,27 +1,15 @@
 -- The groups agree with the classes.
-use Rattle.std.proofs.Common.{◌≡◌, ◌≢◌, ℕ, ◌<◌, true, List, None, refl, map}
+use Rattle.std.proofs.Common.{◌≡◌, ◌≢◌, ℕ, ◌<◌, true, List, None, map, arith}
+use Rattle.std.proofs.lemmas.Bool.Decides.{nat_tests}
 use Rattle.std.proofs.lemmas.Bool.{agree_below}
 use Rattle.std.specs.Simd.Lanes.{Each1, mask_l}
 use Rattle.hesc_specs.specs.Text.Classes.{in_class, string_class}
 use Rattle.hesc_specs.specs.declared.classes.Class.{Class}
-use Rattle.hesc_specs.specs.declared.classes.Class.TheVariants.{TextMinimal, Text, DoubleQuotedAttribute, SingleQuotedAttribute, QuotedAttribute, Safe, UnquotedAttribute, ScriptSingleQuoted, ScriptDoubleQuoted, ScriptQuoted, StyleSingleQuoted, StyleDoubleQuoted, StyleQuoted}
 use Rattle.hesc_scan.specs.Groups.{groups_in, in_groups}
 use Rattle.hesc_scan.proofs.LaneLemmas.{mask_as_class}
 
 agrees : (class : Class) → string_class class ≢ None → agree_below (in_groups (groups_in class)) (in_class class) 256 ≡ true
-agrees TextMinimal string = absurd (string refl)
-agrees Text string = absurd (string refl)
-agrees DoubleQuotedAttribute string = absurd (string refl)
-agrees SingleQuotedAttribute string = absurd (string refl)
-agrees QuotedAttribute string = absurd (string refl)
-agrees Safe string = absurd (string refl)
-agrees UnquotedAttribute string = absurd (string refl)
-agrees ScriptSingleQuoted string = refl
-agrees ScriptDoubleQuoted string = refl
-agrees ScriptQuoted string = refl
-agrees StyleSingleQuoted string = refl
-agrees StyleDoubleQuoted string = refl
-agrees StyleQuoted string = refl
+agrees class string = grind (arith, nat_tests)
 
 -- the mask by the groups of a class
 pub mask_by_groups : (class : Class) → string_class class ≢ None → (v : List ℕ) (mask : ℕ) → Each1 (λ b. b < 256) v → mask ≡ mask_l (map (in_groups (groups_in class)) v)

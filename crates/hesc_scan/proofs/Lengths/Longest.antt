@@ -1,5 +1,6 @@
 -- How long an encoding is at most, by the length of its text.
 use Rattle.std.proofs.Common.{◌≡◌, ℕ, ◌*◌, ◌≤◌, ◌<◌, List, [], Option, Some, None, length, IfSome, IsUtf8, refl, sym, ap, ◌∙◌, arith}
+use Rattle.std.proofs.lemmas.Bool.Decides.{nat_tests}
 use Rattle.std.specs.Prelude.{SomeIff}
 use Rattle.std.specs.Simd.Lanes.{Each1}
 use Rattle.hesc_specs.specs.Html.{encoding}
@@ -17,12 +18,10 @@ use Rattle.hesc_scan.proofs.LaneMaps.{few_in_all}
 
 -- a product that was checked
 pub product : (r : Option ℕ) (P : Type 0) (n : ℕ) → SomeIff r P n → IfSome r (λ count. count ≡ n)
-product None P n checked = _
-product (Some count) P n checked = omega (arith, checked.1)
+product r P n checked = grind (arith, nat_tests)
 
 longest_html : (class : Class) → string_class class ≡ None → (text : List ℕ) → Each1 (λ b. b < 256) text → length (encoding class text) ≤ length text * 6
-longest_html class html text below =
-    omega (arith, length-encoding class text, few_in_all (added_length class) text (few_added class html) below)
+longest_html class html text below = grind (arith, nat_tests, length-encoding, few_in_all, added_length, few_added)
 
 longest_string : (class : Class) (element : Element) (quotes : Quotes) → string_class class ≡ Some (element, quotes) → (text : List ℕ) → IsUtf8 text → Each1 (λ b. b < 256) text
     → length (string_encoding element quotes text) ≤ length text * 6

@@ -1,5 +1,6 @@
 -- A body encoding has at most one byte more for each `<` of its text.
-use Rattle.std.proofs.Common.{◌≡◌, ℕ, ◌+◌, ◌≤◌, Bool, true, false, ◌&&◌, ◌==◌, List, [], ◌∷◌, length, if◌then◌else◌, refl, arith}
+use Rattle.std.proofs.Common.{◌≡◌, ℕ, ◌+◌, ◌≤◌, Bool, ◌&&◌, ◌==◌, List, [], ◌∷◌, length, if◌then◌else◌, refl, arith}
+use Rattle.std.proofs.lemmas.Bool.Decides.{nat_tests}
 use Rattle.std.proofs.lemmas.List.Sums.{sum_by-cons}
 use Rattle.std.specs.List.{count_by}
 use Rattle.hesc_specs.specs.Text.Ascii.{less_than, backslash}
@@ -10,9 +11,7 @@ use Rattle.hesc_specs.specs.declared.elements.Element.{Element}
 -- one byte and what follows it: it is a `<` or not, and what follows completes an opening or not
 length-step : (less completes : Bool) (with_it without_it : List ℕ) (n : ℕ) → length without_it ≤ n → with_it ≡ backslash ∷ without_it
     → length (if less && completes then with_it else without_it) ≤ (if less then 1 else 0) + n
-length-step true true with_it without_it n short is = rw is (omega arith)
-length-step true false with_it without_it n short is = omega arith
-length-step false completes with_it without_it n short is = omega arith
+length-step less completes with_it without_it n short is = grind (arith, nat_tests)
 
 pub length-body_encoding : (element : Element) (text : List ℕ) → length (body_encoding element text) ≤ length text + count_by (λ b. b == less_than) text
 length-body_encoding element [] = omega arith

@@ -1,6 +1,7 @@
 -- The encoding and the decoding of a body: what they hold no more, and what doing both or one twice gives.
-use Rattle.std.proofs.Common.{ℕ, zero, suc, ◌≡◌, ◌↔◌, Bool, true, false, ◌&&◌, List, [], ◌∷◌, ◌==◌, refl, sym, ap, ap₂, subst, ◌∙◌, ne_eqb, inl, inr, if◌then◌else◌}
-use Rattle.std.proofs.lemmas.Bool.{cases_Bool, cases_eq, and_right, and_parts, eqb-true}
+use Rattle.std.proofs.Common.{ℕ, zero, suc, ◌≡◌, ◌↔◌, Bool, true, false, ◌&&◌, List, [], ◌∷◌, ◌==◌, refl, sym, ap, ap₂, subst, ◌∙◌, inl, inr, if◌then◌else◌, arith}
+use Rattle.std.proofs.lemmas.Bool.Decides.{nat_tests}
+use Rattle.std.proofs.lemmas.Bool.{cases_Bool, and_right, and_parts, eqb-true}
 use Rattle.hesc_specs.specs.Text.Ascii.{less_than, backslash}
 use Rattle.hesc_specs.specs.Bodies.Encoding.{body_encoding, body_decoding, body_decoding_after, nothing_before}
 use Rattle.hesc_specs.specs.Bodies.Openings.{completes_opening, is_opening, is_escaped_opening, HasNoOpening, HasNoEscapedOpening}
@@ -13,40 +14,22 @@ encoding_after element before text = if is_opening element (before ∷ text) the
 
 -- no opening begins after its own `\`
 not_escaped_again : (element : Element) (text : List ℕ) → completes_opening element text ≡ true → is_escaped_opening element (less_than ∷ text) ≡ false
-not_escaped_again element [] completes = refl
-not_escaped_again element (b ∷ text) completes =
-    elim (cases_eq b backslash) [
-      | inl is ↦ let clash : false ≡ true = rw is at completes in cc
-      | inr other ↦ rw (ne_eqb b backslash other) refl
-    ]
+not_escaped_again element text completes = grind (arith, nat_tests)
 
 -- what completes an opening is decoded alike after any byte
 decoding-opening : (element : Element) (before : ℕ) (text : List ℕ) → completes_opening element text ≡ true
     → body_decoding_after element before text ≡ body_decoding_after element backslash text
-decoding-opening element before [] completes = refl
-decoding-opening element before (b ∷ text) completes =
-    elim (cases_eq b backslash) [
-      | inl is ↦ let clash : false ≡ true = rw is at completes in cc
-      | inr other ↦ rw (ne_eqb b backslash other, and_right (before == less_than) false refl) refl
-    ]
+decoding-opening element before text completes = grind (arith, nat_tests)
 
 -- two bytes begin an escaped opening exactly if they do so before the decoded rest
 escaped-decoding : (element : Element) (before b : ℕ) (text : List ℕ)
     → is_escaped_opening element (before ∷ b ∷ body_decoding_after element b text) ≡ is_escaped_opening element (before ∷ b ∷ text)
-escaped-decoding element before b text =
-    elim (cases_eq b backslash) [
-      | inl is ↦ rw (is, completes_opening-decoding element backslash text refl) refl
-      | inr other ↦ rw (ne_eqb b backslash other) refl
-    ]
+escaped-decoding element before b text = grind (arith, nat_tests, completes_opening-decoding)
 
 -- and before the encoded rest
 escaped-encoding : (element : Element) (before b : ℕ) (text : List ℕ)
     → is_escaped_opening element (before ∷ b ∷ encoding_after element b text) ≡ is_escaped_opening element (before ∷ b ∷ text)
-escaped-encoding element before b text =
-    elim (cases_eq b backslash) [
-      | inl is ↦ rw (is, completes_opening-encoding element text) refl
-      | inr other ↦ rw (ne_eqb b backslash other) refl
-    ]
+escaped-encoding element before b text = grind (arith, nat_tests, completes_opening-encoding)
 
 -- encoding twice is encoding once
 pub encode_twice : (element : Element) (text : List ℕ) → body_encoding element (body_encoding element text) ≡ body_encoding element text

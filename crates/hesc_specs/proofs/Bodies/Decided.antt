@@ -1,60 +1,26 @@
 -- What is decided of a body and what is partial: whatever follows, nothing is lost of the encoding.
-use Rattle.std.proofs.Common.{ℕ, ◌≡◌, Bool, true, false, ◌&&◌, ◌||◌, List, [], ◌∷◌, ◌++◌, ◌==◌, refl, sym, ap, ap₂, ◌∙◌, append_assoc, inl, inr}
-use Rattle.std.proofs.lemmas.Bool.{cases_Bool, or_parts}
+use Rattle.std.proofs.Common.{ℕ, ◌≡◌, Bool, true, false, List, [], ◌∷◌, ◌++◌, refl, sym, ap, ◌∙◌, append_assoc, inl, inr, arith}
+use Rattle.std.proofs.lemmas.Bool.Decides.{nat_tests}
+use Rattle.std.proofs.lemmas.Bool.{cases_Bool}
 use Rattle.std.proofs.lemmas.List.{append-nil}
-use Rattle.std.specs.Char.{to_ascii_lowercase}
 use Rattle.std.proofs.lemmas.Str.{IsUtf8-append, IsUtf8-nil}
 use Rattle.std.specs.List.{concat}
 use Rattle.std.specs.Prelude.{codes}
 use Rattle.std.specs.Str.{IsUtf8}
-use Rattle.hesc_specs.specs.Text.Ascii.{slash, less_than}
 use Rattle.hesc_specs.specs.Bodies.Encoding.{body_encoding}
-use Rattle.hesc_specs.specs.Text.Elements.{element_name}
-use Rattle.hesc_specs.specs.Bodies.Openings.{ends_name, completes_opening, is_opening}
+use Rattle.hesc_specs.specs.Bodies.Openings.{is_opening}
 use Rattle.hesc_specs.specs.Bodies.Sessions.{is_partial, partial_end, decided_encoding, IsStep, IsSession, IsTextSession}
-use Rattle.hesc_specs.specs.Text.Words.{begins_in_any_case, is_beginning_in_any_case}
+use Rattle.hesc_specs.specs.Text.Words.{begins_in_any_case}
 use Rattle.hesc_specs.specs.declared.elements.Element.{Element}
-use Rattle.hesc_specs.proofs.Bodies.Openings.{passes, completes_opening-words}
-
--- whether a word and what follows it stand at the front is decided where the bytes are no beginning of it
-word-decided : (word : List ℕ) (follows : List ℕ → Bool) (bytes rest : List ℕ) → ((b : ℕ) (more : List ℕ) → follows (b ∷ (more ++ rest)) ≡ follows (b ∷ more))
-    → is_beginning_in_any_case word bytes ≡ false → begins_in_any_case word follows (bytes ++ rest) ≡ begins_in_any_case word follows bytes
-word-decided word follows [] rest after other = absurd (cc)
-word-decided [] follows (b ∷ bytes) rest after other = after b bytes
-word-decided (w ∷ word) follows (b ∷ bytes) rest after other =
-    elim (cases_Bool (to_ascii_lowercase b == w)) [
-      | inl same ↦ rw same (word-decided word follows bytes rest after (rw same at other))
-      | inr differs ↦ rw differs refl
-    ]
+use Rattle.hesc_specs.proofs.Bodies.Openings.{passes}
 
 -- the last letter of a comment's opening, as what follows the first two
 abbrev dash_follows : List ℕ → Bool
 dash_follows bytes = begins_in_any_case (codes "-") passes bytes
 
-comment-word : (bytes : List ℕ) → begins_in_any_case (codes "!--") passes bytes ≡ begins_in_any_case (codes "!-") dash_follows bytes
-comment-word [] = refl
-comment-word (b ∷ []) = refl
-comment-word (b ∷ c ∷ bytes) = refl
-
-completes-decided : (element : Element) (bytes rest : List ℕ) → is_beginning_in_any_case (codes "!-") bytes ≡ false → is_beginning_in_any_case (slash ∷ element_name element) bytes ≡ false
-    → completes_opening element (bytes ++ rest) ≡ completes_opening element bytes
-completes-decided element bytes rest comment name =
-    completes_opening-words element (bytes ++ rest)
-    ∙ (ap₂ (λ x y. x || y)
-    (comment-word (bytes ++ rest) ∙ (word-decided (codes "!-") dash_follows bytes rest (λ b more. refl) comment ∙ sym (comment-word bytes)))
-    (word-decided (slash ∷ element_name element) ends_name bytes rest (λ b more. refl) name)
-    ∙ sym (completes_opening-words element bytes))
-
 -- whether an opening begins is decided where the bytes are not partial
 pub is_opening-decided : (element : Element) (bytes rest : List ℕ) → is_partial element bytes ≡ false → is_opening element (bytes ++ rest) ≡ is_opening element bytes
-is_opening-decided element [] rest decided = absurd (cc)
-is_opening-decided element (b ∷ bytes) rest decided =
-    elim (cases_Bool (b == less_than)) [
-      | inl is ↦
-          let parts = or_parts (is_beginning_in_any_case (codes "!-") bytes) (is_beginning_in_any_case (slash ∷ element_name element) bytes) (rw is at decided) in
-          ap (λ x. (b == less_than) && x) (completes-decided element bytes rest parts.0 parts.1)
-      | inr other ↦ rw other refl
-    ]
+is_opening-decided element bytes rest decided = grind (arith, nat_tests)
 
 -- the encoding of a text and what follows it
 pub body_encoding-decided : (element : Element) (text rest : List ℕ)
@@ -90,12 +56,10 @@ decided-step element held piece = (
 
 -- what is partial as a whole: nothing of it is decided
 pub partial-whole : (element : Element) (text : List ℕ) → is_partial element text ≡ true → partial_end element text ≡ text
-partial-whole element [] undecided = refl
-partial-whole element (b ∷ text) undecided = rw undecided refl
+partial-whole element text undecided = grind (arith, nat_tests)
 
 pub partial-nothing : (element : Element) (text : List ℕ) → is_partial element text ≡ true → decided_encoding element text ≡ []
-partial-nothing element [] undecided = refl
-partial-nothing element (b ∷ text) undecided = rw undecided refl
+partial-nothing element text undecided = grind (arith, nat_tests)
 
 -- all that a session adds, from some held bytes on
 session-from : (element : Element) (held : List ℕ) (pieces : List (List ℕ)) (all : List ℕ) → IsSession element held pieces all → all ≡ body_encoding element (held ++ concat pieces)

@@ -1,5 +1,6 @@
 -- The changes of what is decided of a body make its decided encoding.
 use Rattle.std.proofs.Common.{◌≡◌, ℕ, zero, suc, ◌+◌, ◌≤◌, ◌<◌, List, [], ◌∷◌, ◌++◌, true, false, length, drop, refl, sym, ap, ◌∙◌, append_assoc, arith, inl, inr}
+use Rattle.std.proofs.lemmas.Bool.Decides.{nat_tests}
 use Rattle.std.specs.Prelude.{slice_range}
 use Rattle.std.proofs.lemmas.Bool.{cases_Bool, cases_lt}
 use Rattle.std.proofs.lemmas.List.{drop-drop}
@@ -61,9 +62,4 @@ end-at element (b ∷ text) (suc n) within decided partial =
 -- where the partial end begins
 pub partial_end-place : (element : Element) (text : List ℕ) (end : ℕ) → IsFirstAt (partial_at element text) 0 (length text) end
     → partial_end element text ≡ drop end text
-partial_end-place element text end first =
-    end-at element text end first.in_range (λ k below. first.before k (omega arith) below)
-    (elim (cases_lt end (length text)) [
-      | inl within ↦ first.found within
-      | inr over ↦ let is_end : end ≡ length text = omega (arith, first.in_range) in rw (is_end, drop-length text) refl
-    ])
+partial_end-place element text end first = grind (arith, nat_tests, end-at, cases_lt, drop-length)

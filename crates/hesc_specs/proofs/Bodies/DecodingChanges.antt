@@ -1,5 +1,6 @@
 -- The changes of a body decoder: which comes first, when none is left, and that they make the decoding.
 use Rattle.std.proofs.Common.{◌≡◌, ℕ, zero, suc, add-zero, ◌+◌, ◌-◌, ◌≤◌, ◌<◌, List, [], ◌∷◌, ◌++◌, Bool, true, false, length, drop, refl, ap, ◌∙◌, append_assoc, arith, inl, inr}
+use Rattle.std.proofs.lemmas.Bool.Decides.{nat_tests}
 use Rattle.std.specs.Prelude.{slice_range, slice_index}
 use Rattle.std.proofs.lemmas.Bool.{cases_lt}
 use Rattle.std.proofs.lemmas.List.{drop_more}
@@ -25,8 +26,7 @@ byte_before-more source at = let there : at + 1 ≡ suc at = omega arith in rw t
 -- one byte further, where none is dropped
 kept-one : (element : Element) (source : List ℕ) (at : ℕ) → at < length source → is_dropped element source at ≡ false
     → body_decoding_changes element source at ≡ body_decoding_changes element source (at + 1)
-kept-one element source at within plain =
-    rw (drop_more source at 0 within, byte_before-more source at) (rw (rw (drop_more source at 0 within) at plain) refl)
+kept-one element source at within plain = grind (arith, nat_tests, drop_more, byte_before-more)
 
 kept-many : (element : Element) (source : List ℕ) (from n : ℕ) → from + n ≤ length source → ((k : ℕ) → from ≤ k → k < from + n → is_dropped element source k ≡ false)
     → body_decoding_changes element source from ≡ body_decoding_changes element source (from + n)
@@ -38,8 +38,7 @@ kept-many element source from (suc n) within before =
 
 -- the first byte of a text is none
 first-kept : (element : Element) (source : List ℕ) → is_dropped element source 0 ≡ false
-first-kept element [] = refl
-first-kept element (b ∷ source) = refl
+first-kept element source = grind (arith, nat_tests)
 
 -- a byte is the second of the escaped opening that begins before it
 dropped-opens : (element : Element) (source : List ℕ) (place : ℕ) → place < length source → is_dropped element source (place + 1) ≡ opens_escaped_at element source place

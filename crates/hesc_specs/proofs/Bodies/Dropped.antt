@@ -1,5 +1,6 @@
 -- The `\` of an escaped opening, by its place, and the opening before it.
-use Rattle.std.proofs.Common.{◌≡◌, ℕ, zero, suc, ◌+◌, ◌-◌, ◌≤◌, ◌<◌, true, false, List, [], ◌∷◌, length, drop, slice_index, refl, ap, ◌∙◌, arith, inl, inr}
+use Rattle.std.proofs.Common.{◌≡◌, ℕ, zero, suc, ◌+◌, ◌-◌, ◌≤◌, ◌<◌, true, List, [], ◌∷◌, length, drop, slice_index, refl, ap, ◌∙◌, arith, inl, inr}
+use Rattle.std.proofs.lemmas.Bool.Decides.{nat_tests}
 use Rattle.std.proofs.lemmas.Bool.{cases_lt, false_from_ne_true}
 use Rattle.std.proofs.lemmas.List.{drop_all, drop_more}
 use Rattle.hesc_specs.specs.Text.Ascii.{backslash, less_than}
@@ -13,16 +14,7 @@ module _ (element : Element) (source : List ℕ) where
   -- a dropped byte is a `\` after a `<`
   pub dropped-bytes : (place : ℕ) → drops_at element source place ≡ true
       → (0 < place) × ((place < length source) × ((slice_index source (place - 1) ≡ less_than) × (slice_index source place ≡ backslash)))
-  dropped-bytes zero is = absurd cc
-  dropped-bytes (suc place) is =
-      elim (cases_lt place (length source)) [
-        | inl within ↦
-            let bytes = escaped-bytes element source place within is in
-            let there : place + 1 ≡ suc place = omega arith in
-            let before : suc place - 1 ≡ place = omega arith in
-            (omega arith, (omega (arith, bytes.1.1), (rw before bytes.0, rw there at bytes.1.0)))
-        | inr past ↦ let clash : false ≡ true = rw (drop_all place source past) at is in absurd (cc)
-      ]
+  dropped-bytes place is = grind (arith, nat_tests, cases_lt, escaped-bytes, drop_all)
 
   pub drops-after_less : (place : ℕ) → 0 < place → place < length source → slice_index source (place - 1) ≡ less_than → slice_index source place ≡ backslash
       → drops_at element source place ≡ completes_opening element (drop (place + 1) source)

@@ -1,7 +1,7 @@
 -- The changes of a body encoder: which comes first, when none is left, and that they make the encoding.
-use Rattle.std.proofs.Common.{◌≡◌, ℕ, zero, suc, add-zero, ◌+◌, ◌-◌, ◌≤◌, ◌<◌, List, [], ◌∷◌, ◌++◌, Bool, true, false, length, drop, refl, ap, ◌∙◌, append_assoc, arith, ◌==◌}
+use Rattle.std.proofs.Common.{◌≡◌, ℕ, zero, suc, add-zero, ◌+◌, ◌-◌, ◌≤◌, ◌<◌, List, [], ◌∷◌, ◌++◌, Bool, true, false, length, drop, refl, ap, ◌∙◌, append_assoc, arith}
+use Rattle.std.proofs.lemmas.Bool.Decides.{nat_tests}
 use Rattle.std.specs.Prelude.{slice_range, slice_index}
-use Rattle.std.proofs.lemmas.Bool.{and_parts, eqb-true}
 use Rattle.std.proofs.lemmas.List.{drop-drop, drop_more, length-drop}
 use Rattle.std.proofs.lemmas.List.Folds.{drop_split}
 use Rattle.std.proofs.Math.Seq.{drop-length}
@@ -10,7 +10,7 @@ use Rattle.hesc_specs.specs.Bodies.Encoding.{body_encoding}
 use Rattle.hesc_specs.specs.Bodies.Changes.{body_encoding_changes, body_encoding_changes_of}
 use Rattle.hesc_specs.specs.Text.Changes.{applied}
 use Rattle.hesc_specs.specs.Text.FirstPlace.{IsFirstAt}
-use Rattle.hesc_specs.specs.Bodies.Openings.{completes_opening, is_opening, opens_at}
+use Rattle.hesc_specs.specs.Bodies.Openings.{is_opening, opens_at}
 use Rattle.hesc_specs.specs.declared.elements.Element.{Element}
 use Rattle.hesc_specs.proofs.Text.SliceRanges.{slice_range-more, drop-next}
 
@@ -48,9 +48,7 @@ next-body_encoding_changes element source from at first within =
 
 -- an opening begins with a `<`
 pub opening-byte : (element : Element) (source : List ℕ) (place : ℕ) → place < length source → opens_at element source place ≡ true → slice_index source place ≡ less_than
-opening-byte element source place within opens =
-    let parts = and_parts (slice_index source place == less_than) (completes_opening element (drop (place + 1) source)) (rw (drop_more source place 0 within) at opens) in
-    eqb-true (slice_index source place) less_than parts.0
+opening-byte element source place within opens = grind (arith, nat_tests, drop_more)
 
 -- one byte more, by whether an opening begins at it
 applied-step : (element : Element) (source : List ℕ) (from at b : ℕ) (bytes : List ℕ) (t : Bool) → is_opening element (b ∷ bytes) ≡ t → from ≤ at → drop at source ≡ b ∷ bytes

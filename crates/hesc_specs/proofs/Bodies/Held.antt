@@ -1,21 +1,19 @@
 -- What a session holds: it is short and ASCII, and is given out as soon as it is decided.
-use Rattle.std.proofs.Common.{ℕ, zero, suc, ◌≡◌, ◌+◌, ◌<◌, ◌≤◌, Bool, true, false, ◌||◌, List, [], ◌∷◌, ◌++◌, ◌==◌, length, take, drop, refl, sym, ap, ◌∙◌, arith, ne_eqb, inl, inr, ◌⊎◌}
-use Rattle.std.proofs.lemmas.Bool.{cases_Bool, cases_eq, cases_lt, and_parts, eqb-true}
+use Rattle.std.proofs.Common.{ℕ, zero, suc, ◌≡◌, ◌+◌, ◌<◌, ◌≤◌, Bool, true, false, List, [], ◌∷◌, ◌++◌, ◌==◌, length, take, refl, ap, arith, ne_eqb, inl, inr, ◌⊎◌}
+use Rattle.std.proofs.lemmas.Bool.{cases_eq, and_parts}
 use Rattle.std.proofs.lemmas.Bool.Decides.{nat_tests}
-use Rattle.std.proofs.lemmas.List.{take-append-drop, length-take-le, take_all}
-use Rattle.std.proofs.lemmas.Str.{IsCharBoundary-from_drop, IsUtf8-from_ascii}
+use Rattle.std.proofs.lemmas.List.{take_all}
 use Rattle.std.specs.Char.{to_ascii_lowercase}
 use Rattle.std.specs.Prelude.{codes}
-use Rattle.std.specs.Str.{IsAscii, IsCharBoundary}
+use Rattle.std.specs.Str.{IsAscii}
 use Rattle.hesc_specs.specs.Text.Ascii.{slash, less_than}
 use Rattle.hesc_specs.specs.Text.Elements.{element_name}
 use Rattle.hesc_specs.specs.Bodies.Openings.{is_opening}
 use Rattle.hesc_specs.specs.Bodies.Sessions.{is_partial, partial_end, decided_encoding, flushed}
 use Rattle.hesc_specs.specs.Text.Words.{is_beginning_in_any_case}
 use Rattle.hesc_specs.specs.declared.elements.Element.{Element}
-use Rattle.hesc_specs.specs.declared.elements.Element.TheVariants.{Script, Style}
 use Rattle.hesc_specs.proofs.Bodies.Openings.{HasNoLessThan, name-no_less_than}
-use Rattle.hesc_specs.proofs.Bodies.Decided.{is_opening-decided, partial_end-partial}
+use Rattle.hesc_specs.proofs.Bodies.Decided.{partial_end-partial}
 
 -- the longest is `<`, `/` and the element's name
 abbrev pub longest_held : ℕ
@@ -24,14 +22,7 @@ longest_held = 8
 -- partial bytes that are not none: a `<` and a beginning of one of two words
 partial-parts : (element : Element) (b : ℕ) (bytes : List ℕ) → is_partial element (b ∷ bytes) ≡ true
     → (b ≡ less_than) × ((is_beginning_in_any_case (codes "!-") bytes ≡ true) ⊎ (is_beginning_in_any_case (slash ∷ element_name element) bytes ≡ true))
-partial-parts element b bytes held =
-    let parts = and_parts (b == less_than) (is_beginning_in_any_case (codes "!-") bytes || is_beginning_in_any_case (slash ∷ element_name element) bytes) held in (
-      eqb-true b less_than parts.0,
-      elim (cases_Bool (is_beginning_in_any_case (codes "!-") bytes)) [
-        | inl comment ↦ inl comment
-        | inr other ↦ inr (rw other at parts.1)
-      ],
-    )
+partial-parts element b bytes held = grind (arith, nat_tests)
 
 beginning-short : (word bytes : List ℕ) → is_beginning_in_any_case word bytes ≡ true → length bytes ≤ length word
 beginning-short word [] begins = omega arith
@@ -41,16 +32,10 @@ beginning-short (w ∷ word) (b ∷ bytes) begins =
     omega (arith, rest)
 
 name-length : (element : Element) → length (element_name element) ≤ 6
-name-length Script = omega arith
-name-length Style = omega arith
+name-length element = grind (arith, nat_tests)
 
 pub partial-short : (element : Element) (bytes : List ℕ) → is_partial element bytes ≡ true → length bytes ≤ longest_held
-partial-short element [] held = omega arith
-partial-short element (b ∷ bytes) held =
-    elim ((partial-parts element b bytes held).1) [
-      | inl comment ↦ omega (arith, beginning-short (codes "!-") bytes comment)
-      | inr name ↦ omega (arith, beginning-short (slash ∷ element_name element) bytes name, name-length element)
-    ]
+partial-short element bytes held = grind (arith, nat_tests, partial-parts, beginning-short, name-length)
 
 -- each letter of the word is ASCII
 abbrev AreAscii : List ℕ → Type 0
@@ -58,8 +43,7 @@ AreAscii [] = Unit {0}
 AreAscii (w ∷ word) = (w < 128) × AreAscii word
 
 name-ascii : (element : Element) → AreAscii (element_name element)
-name-ascii Script = (omega arith, (omega arith, (omega arith, (omega arith, (omega arith, (omega arith, tt))))))
-name-ascii Style = (omega arith, (omega arith, (omega arith, (omega arith, (omega arith, tt)))))
+name-ascii element = grind (arith, nat_tests)
 
 lower-ascii : (b w : ℕ) → (to_ascii_lowercase b == w) ≡ true → w < 128 → b < 128
 lower-ascii b w same ascii = grind (arith, nat_tests)
@@ -106,15 +90,7 @@ tail-flushed element b bytes rest held =
 pub decided-flushed : (element : Element) (held piece : List ℕ) (opens : Bool) → is_partial element held ≡ true → is_partial element (held ++ piece) ≡ false
     → (length held ≡ 0 → opens ≡ false) → (0 < length held → opens ≡ is_opening element (held ++ piece))
     → decided_encoding element (held ++ piece) ≡ flushed opens held ++ decided_encoding element piece
-decided-flushed element [] piece opens partial decided none some = rw (none refl) refl
-decided-flushed element (b ∷ held) piece opens partial decided none some =
-    let later = (tail-flushed element b held piece partial).0 in
-    rw (some (omega arith))
-    (rw decided
-    (elim (cases_Bool (is_opening element (b ∷ (held ++ piece)))) [
-      | inl opening ↦ rw (opening, later, (partial-parts element b held partial).0) refl
-      | inr plain ↦ rw (plain, later) refl
-    ]))
+decided-flushed element held piece opens partial decided none some = grind (arith, nat_tests, tail-flushed, partial-parts)
 
 pub partial_end-flushed : (element : Element) (held piece : List ℕ) → is_partial element held ≡ true → is_partial element (held ++ piece) ≡ false
     → partial_end element (held ++ piece) ≡ partial_end element piece
@@ -123,42 +99,21 @@ partial_end-flushed element (b ∷ held) piece partial decided = rw decided ((ta
 
 -- the first bytes decide, one more than can be held
 pub partial-front : (element : Element) (text : List ℕ) → is_partial element (take (longest_held + 1) text) ≡ true → take (longest_held + 1) text ≡ text
-partial-front element text partial =
-    elim (cases_lt (longest_held) (length text)) [
-      | inl long ↦ absurd (omega (arith, partial-short element (take (longest_held + 1) text) partial, length-take-le (longest_held + 1) text (omega arith)))
-      | inr short ↦ take_all (longest_held + 1) text (omega arith)
-    ]
+partial-front element text partial = grind (arith, nat_tests)
 
 pub decided-front : (element : Element) (text : List ℕ) → is_partial element (take (longest_held + 1) text) ≡ false
     → (is_partial element text ≡ false) × (is_opening element text ≡ is_opening element (take (longest_held + 1) text))
-decided-front element text decided = (
-  elim (cases_Bool (is_partial element text)) [
-    | inl partial ↦ absurd (cc (rw (take_all (longest_held + 1) text (omega (arith, partial-short element text partial))) at decided, partial))
-    | inr is ↦ is
-  ],
-  ap (is_opening element) (sym (take-append-drop (longest_held + 1) text))
-      ∙ is_opening-decided element (take (longest_held + 1) text) (drop (longest_held + 1) text) decided,
-)
-
--- a character begins where a text is partial from there on
-pub partial-boundary : (element : Element) (text : List ℕ) (place : ℕ) → place ≤ length text → is_partial element (drop place text) ≡ true → IsCharBoundary text place
-partial-boundary element text place within partial =
-    IsCharBoundary-from_drop text place within (IsUtf8-from_ascii (drop place text) (partial-ascii element (drop place text) partial))
+decided-front element text decided = grind (arith, nat_tests)
 
 -- bytes that are decided are some
 pub decided-some : (element : Element) (bytes : List ℕ) → is_partial element bytes ≡ false → 0 < length bytes
-decided-some element [] decided = absurd (cc)
-decided-some element (b ∷ bytes) decided = omega arith
+decided-some element bytes decided = grind (arith, nat_tests)
 
 -- what is given out with a piece, by the first bytes of what was held and of the piece
 pub flushed-front : (element : Element) (held piece front : List ℕ) (opens : Bool) → is_partial element held ≡ true → front ≡ take (longest_held + 1) (held ++ piece)
     → is_partial element front ≡ false → (length held ≡ 0 → opens ≡ false) → (0 < length held → opens ≡ is_opening element front)
     → (decided_encoding element (held ++ piece) ≡ flushed opens held ++ decided_encoding element piece) × (partial_end element (held ++ piece) ≡ partial_end element piece)
-flushed-front element held piece front opens partial is decided none some =
-    let decides = decided-front element (held ++ piece) (rw is at decided) in (
-      decided-flushed element held piece opens partial decides.0 none (λ more. some more ∙ rw is (sym decides.1)),
-      partial_end-flushed element held piece partial decides.0,
-    )
+flushed-front element held piece front opens partial is decided none some = grind (arith, nat_tests, decided-front, decided-flushed, partial_end-flushed)
 
 -- all that is held is among the first bytes
 pub partial_end-front : (element : Element) (text : List ℕ) → take (longest_held + 1) (partial_end element text) ≡ partial_end element text

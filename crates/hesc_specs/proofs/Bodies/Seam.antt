@@ -1,37 +1,17 @@
 -- The encoding of two texts that are joined, where the first has no `<` near its end.
-use Rattle.std.proofs.Common.{ℕ, suc, ◌≡◌, ◌≢◌, ◌+◌, ◌-◌, ◌<◌, ◌≤◌, Bool, ◌&&◌, ◌||◌, List, [], ◌∷◌, ◌++◌, ◌==◌, length, drop, refl, sym, ap, ap₂, ◌∙◌, arith, ne_eqb, inl, inr}
+use Rattle.std.proofs.Common.{ℕ, suc, ◌≡◌, ◌≢◌, ◌+◌, ◌-◌, ◌<◌, ◌≤◌, ◌&&◌, List, [], ◌∷◌, ◌++◌, ◌==◌, length, drop, refl, ap, ◌∙◌, arith, ne_eqb, inl, inr}
+use Rattle.std.proofs.lemmas.Bool.Decides.{nat_tests}
 use Rattle.std.proofs.lemmas.Bool.{cases_Bool, cases_lt}
 use Rattle.std.proofs.lemmas.List.{length-drop, get_or-drop}
-use Rattle.std.specs.Char.{to_ascii_lowercase}
-use Rattle.std.specs.Prelude.{codes, slice_index}
-use Rattle.hesc_specs.specs.Text.Ascii.{slash, less_than}
+use Rattle.std.specs.Prelude.{slice_index}
+use Rattle.hesc_specs.specs.Text.Ascii.{less_than}
 use Rattle.hesc_specs.specs.Bodies.Encoding.{body_encoding, EndsWithoutLessThan}
 use Rattle.hesc_specs.specs.Text.Elements.{element_name}
-use Rattle.hesc_specs.specs.Bodies.Openings.{ends_name, completes_opening, is_opening}
-use Rattle.hesc_specs.specs.Text.Words.{begins_in_any_case}
+use Rattle.hesc_specs.specs.Bodies.Openings.{completes_opening, is_opening}
 use Rattle.hesc_specs.specs.declared.elements.Element.{Element}
-use Rattle.hesc_specs.specs.declared.elements.Element.TheVariants.{Script, Style}
-use Rattle.hesc_specs.proofs.Bodies.Openings.{passes, completes_opening-words}
-
-name-length : (element : Element) → 2 ≤ length (element_name element)
-name-length Script = omega arith
-name-length Style = omega arith
-
--- whether a word stands at the front of a longer text does not depend on what is joined to it
-word-append : (word : List ℕ) (follows : List ℕ → Bool) (a b : List ℕ) → ((c : ℕ) (rest : List ℕ) → follows (c ∷ (rest ++ b)) ≡ follows (c ∷ rest))
-    → length word < length a → begins_in_any_case word follows (a ++ b) ≡ begins_in_any_case word follows a
-word-append word follows [] b after long = absurd (omega arith)
-word-append [] follows (c ∷ a) b after long = after c a
-word-append (w ∷ word) follows (c ∷ a) b after long =
-    ap (λ x. (to_ascii_lowercase c == w) && x) (word-append word follows a b after (omega arith))
 
 completes_opening-append : (element : Element) (a b : List ℕ) → length (element_name element) + 2 ≤ length a → completes_opening element (a ++ b) ≡ completes_opening element a
-completes_opening-append element a b long =
-    completes_opening-words element (a ++ b)
-    ∙ (ap₂ (λ x y. x || y)
-    (word-append (codes "!--") passes a b (λ c rest. refl) (omega (arith, name-length element)))
-    (word-append (slash ∷ element_name element) ends_name a b (λ c rest. refl) (omega arith))
-    ∙ sym (completes_opening-words element a))
+completes_opening-append element a b long = grind (arith, nat_tests)
 
 -- no `<` stands among the last n bytes
 HasNoneNearEnd : ℕ → List ℕ → Type 0

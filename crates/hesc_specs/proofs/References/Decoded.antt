@@ -1,6 +1,6 @@
 -- Decoding by rows whose values are bounded by their references: so is the decoded text by its source, and nothing is left of an empty text alone.
 -- Five times a value's length is at most the scale of its reference's length: five times it where no value is longer, more where one may be.
-use Rattle.std.proofs.Common.{◌≡◌, ℕ, ◌+◌, ◌*◌, ◌≤◌, ◌<◌, Bool, true, false, ◌&&◌, not, ◌==◌, List, [], ◌∷◌, Option, Some, None, length, refl, ap, ◌∙◌, arith, length-append, if◌then◌else◌, encode_utf8}
+use Rattle.std.proofs.Common.{◌≡◌, ℕ, ◌+◌, ◌*◌, ◌≤◌, ◌<◌, Bool, true, false, not, ◌==◌, List, [], ◌∷◌, Option, Some, None, length, refl, ap, ◌∙◌, arith, length-append, if◌then◌else◌, encode_utf8}
 use Rattle.std.specs.List.{list_all}
 use Rattle.std.specs.Option.{option_and_then}
 use Rattle.std.specs.Str.{bytes_eq}
@@ -8,27 +8,17 @@ use Rattle.std.proofs.lemmas.Bool.{and_parts}
 use Rattle.std.proofs.lemmas.Bool.Decides.{nat_tests}
 use Rattle.std.proofs.lemmas.Slice.Eq.{bytes_eq-Decides}
 use Rattle.std.proofs.lemmas.Str.{length-encode, len_utf8_bounds}
-use Rattle.hesc_specs.specs.Text.Ascii.{number_sign, ampersand, semicolon}
+use Rattle.hesc_specs.specs.Text.Ascii.{ampersand, semicolon}
 use Rattle.hesc_specs.specs.References.Rows.{Row, are_short, is_short, value_of}
-use Rattle.hesc_specs.specs.References.Decoding.{body_of, body_value, decoded, decoded_from, is_kept_control, is_scalar_value, number_after_sign, number_of, number_or_name, numbered_value, reference_value, replaced_or_kept, with_byte}
+use Rattle.hesc_specs.specs.References.Decoding.{body_of, body_value, decoded, decoded_from, number_of, number_or_name, numbered_value, reference_value, replaced_or_kept}
 
 -- a value of a reference with this body: it has a byte, and is bounded
 pub record Bounded (scale : ℕ → ℕ) (body value : List ℕ) : Type 0 where
   pub some : 0 < length value
   pub few : 5 * length value ≤ scale (length body + 2)
 
--- the number of a body is after a `#` and has a digit
-number_after_sign-some : (bytes : List ℕ) (n : ℕ) → number_after_sign bytes ≡ Some n → 0 < length bytes
-number_after_sign-some [] n is = cc
-number_after_sign-some (b ∷ bytes) n is = omega arith
-
 number_of-long : (body : List ℕ) (n : ℕ) → number_of body ≡ Some n → 2 ≤ length body
-number_of-long [] n is = cc
-number_of-long (b ∷ bytes) n is = by_test (b == number_sign) refl
-  where
-    by_test : (begins : Bool) → (b == number_sign) ≡ begins → 2 ≤ length (b ∷ bytes)
-    by_test true begins = omega (arith, number_after_sign-some bytes n (rw begins at is))
-    by_test false other = let none : None ≡ Some n = rw other at is in cc
+number_of-long body n is = grind (arith, nat_tests)
 
 module _ (scale : ℕ → ℕ) (adds : (a b : ℕ) → scale (a + b) ≡ scale a + scale b) (least : (n : ℕ) → 5 * n ≤ scale n)
     (test : Row → Bool) (row-bounded : (row : Row) → test row ≡ true → Bounded scale row.0 row.1) where
@@ -38,11 +28,7 @@ module _ (scale : ℕ → ℕ) (adds : (a b : ℕ) → scale (a + b) ≡ scale a
   -- by whether the first row has the name
   first_row-bounded : (row : Row) (name : List ℕ) (later : Option (List ℕ)) (value : List ℕ) (same : Bool) → bytes_eq row.0 name ≡ same → test row ≡ true
       → (later ≡ Some value → Bounded scale name value) → (if same then Some row.1 else later) ≡ Some value → Bounded scale name value
-  first_row-bounded row name later value true same passes after is =
-      let here : row.0 ≡ name = (bytes_eq-Decides row.0 name).0 same in
-      let found : row.1 ≡ value = cc in
-      rw (here, found) at (row-bounded row passes)
-  first_row-bounded row name later value false other passes after is = after is
+  first_row-bounded row name later value same other passes after is = grind (arith, nat_tests, bytes_eq-Decides)
 
   named-bounded : (rows : List Row) (name value : List ℕ) → list_all test rows ≡ true → value_of rows name ≡ Some value → Bounded scale name value
   named-bounded [] name value all is = cc
@@ -51,15 +37,7 @@ module _ (scale : ℕ → ℕ) (adds : (a b : ℕ) → scale (a + b) ≡ scale a
       first_row-bounded row name (value_of rows name) value (bytes_eq row.0 name) refl parts.0 (named-bounded rows name value parts.1) is
 
   numbered-bounded : (n : ℕ) (body value : List ℕ) → 2 ≤ length body → numbered_value n ≡ Some value → Bounded scale body value
-  numbered-bounded n body value long is = by_test (is_scalar_value n && not (is_kept_control n)) refl
-    where
-      by_test : (stands : Bool) → (is_scalar_value n && not (is_kept_control n)) ≡ stands → Bounded scale body value
-      by_test true stands =
-          let same : encode_utf8 n ≡ value = let found : Some (encode_utf8 n) ≡ Some value = rw stands at is in cc in
-          let bytes : length (encode_utf8 n) ≡ length value = ap length same in
-          let bounds = len_utf8_bounds n in
-          record { some = omega (arith, bytes, length-encode n, bounds.0); few = omega (arith, bytes, length-encode n, bounds.1, least (length body + 2)) }
-      by_test false other = let none : None ≡ Some value = rw other at is in cc
+  numbered-bounded n body value long is = grind (arith, nat_tests, not, encode_utf8, len_utf8_bounds, length-encode)
 
   value-bounded : (number : Option ℕ) (rows : List Row) (body value : List ℕ) → list_all test rows ≡ true → number_of body ≡ number
       → number_or_name number (value_of rows body) ≡ Some value → Bounded scale body value
@@ -90,26 +68,9 @@ module _ (scale : ℕ → ℕ) (adds : (a b : ℕ) → scale (a + b) ≡ scale a
         rw (is, scale-cons b bytes) (ampersand_step bytes (body_of bytes) (reference_value rows bytes) outside inside refl refl)
     outside_step b bytes false is outside inside = rw (is, scale-cons b bytes) (omega (arith, least 1))
 
-    -- a byte of a body that is not its end
-    inside_body : (b : ℕ) (bytes body : List ℕ) (rest : Option (List ℕ)) → body_of bytes ≡ rest → with_byte b rest ≡ Some body → Inside bytes
-        → 5 * length (decoded_from rows true bytes) + scale (length body) ≤ scale (length bytes)
-    inside_body b bytes body None is_rest is_body inside = absurd (cc)
-    inside_body b bytes body (Some rest) is_rest is_body inside =
-        let whole : b ∷ rest ≡ body = cc in
-        let one : length body ≡ length rest + 1 = omega (arith, ap length whole) in
-        rw one (inside rest is_rest)
-
     inside_step : (b : ℕ) (bytes : List ℕ) (is_semicolon is_ampersand : Bool) → (b == semicolon) ≡ is_semicolon → (b == ampersand) ≡ is_ampersand
         → Outside bytes → Inside bytes → Inside (b ∷ bytes)
-    inside_step b bytes true is_ampersand is_end is_start outside inside body is_body =
-        let nothing : [] ≡ body = let found : Some [] ≡ Some body = rw is_end at is_body in cc in
-        let one : length body + 1 ≡ 1 = omega (arith, ap length nothing) in
-        rw (is_end, scale-cons b bytes, one) (omega arith)
-    inside_step b bytes false true is_end is_start outside inside body is_body =
-        let none : None ≡ Some body = rw (is_end, is_start) at is_body in absurd (cc)
-    inside_step b bytes false false is_end is_start outside inside body is_body =
-        let found : with_byte b (body_of bytes) ≡ Some body = rw (is_end, is_start) at is_body in
-        rw (is_end, scale-cons b bytes, adds (length body) 1) (omega (arith, inside_body b bytes body (body_of bytes) refl found inside))
+    inside_step b bytes is_semicolon is_ampersand is_end is_start outside inside body is_body = grind (arith, nat_tests)
 
     both : (bytes : List ℕ) → Outside bytes × Inside bytes
     both [] = (omega arith, λ body is_body. absurd (cc))

@@ -101,10 +101,6 @@ module _ (rows : List Row) where
         kept from (drop from source) (at - from) (omega (arith, length-drop from source)) (λ k below. rw (get_or-drop from source k 0) (before (from + k) (omega arith) (omega arith))) in
         here ∙ rw (drop-drop (at - from) from source, there) refl
 
-    -- the changes from a place on are those from the first `&` on
-    pub reached : (from at : ℕ) → IsFirstPlace is_start source from at → reference_changes rows source from ≡ reference_changes rows source at
-    reached from at first = skipped from at first.ordered first.in_range first.before
-
     -- after the last byte there is nothing
     pub none_at_end : (at : ℕ) → at ≡ length source → reference_changes rows source at ≡ []
     none_at_end at is_end = rw (is_end, drop-length source) refl

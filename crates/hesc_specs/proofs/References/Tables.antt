@@ -1,5 +1,5 @@
 -- What holds of rows that have no fault: their names ascend, and the common names have their values.
-use Rattle.std.proofs.Common.{ℕ, zero, suc, ◌≡◌, ◌≢◌, ◌+◌, ◌-◌, ◌<◌, Bool, true, false, ◌&&◌, not, List, [], ◌∷◌, Option, Some, None, Ordering, Less, Equal, Greater, ◌==◌, length, nat_le, is_none, if◌then◌else◌, refl, ap, sym, ⊎_elim, arith}
+use Rattle.std.proofs.Common.{ℕ, zero, suc, ◌≡◌, ◌≢◌, ◌+◌, ◌-◌, ◌<◌, Bool, true, false, ◌&&◌, not, List, [], ◌∷◌, Option, Some, None, Ordering, Less, length, nat_le, is_none, if◌then◌else◌, refl, ap, sym, ⊎_elim, arith}
 use Rattle.std.specs.Cmp.Lexicographic.{slice_cmp}
 use Rattle.std.specs.Option.{option_or}
 use Rattle.std.specs.Ordering.{is_lt, nat_cmp}
@@ -9,21 +9,18 @@ use Rattle.std.proofs.lemmas.Bool.Decides.{nat_tests}
 use Rattle.std.proofs.lemmas.Cmp.{nat_list_cmp_total}
 use Rattle.std.proofs.lemmas.Slice.Eq.{bytes_eq-Decides}
 use Rattle.hesc_specs.specs.References.Rows.{Row, row_at, value_of, common_rows}
-use Rattle.hesc_specs.specs.References.TableFaults.{is_alphanumeric, is_ascending, is_wrong_common, row_fault, faults_below, missing_below, first_fault, is_table}
+use Rattle.hesc_specs.specs.References.TableFaults.{is_ascending, is_wrong_common, row_fault, faults_below, missing_below, first_fault, is_table}
 use Rattle.hesc_specs.specs.declared.table_fault.TableFault.{TableFault}
 use Rattle.hesc_specs.specs.declared.table_fault.TableFault.TheVariants.{EmptyName, BadName, NotAscending, WrongCommon, MissingCommon}
 
 is_none-None : {A : Type 0} (found : Option A) → is_none found ≡ true → found ≡ None
-is_none-None None h = refl
-is_none-None (Some x) h = absurd (cc)
+is_none-None found h = grind (arith, nat_tests)
 
 option_or-first : (a b : Option TableFault) → option_or a b ≡ None → a ≡ None
-option_or-first None b h = refl
-option_or-first (Some fault) b h = absurd (cc)
+option_or-first a b h = grind (arith, nat_tests)
 
 option_or-second : (a b : Option TableFault) → option_or a b ≡ None → b ≡ None
-option_or-second None b h = h
-option_or-second (Some fault) b h = absurd (cc)
+option_or-second a b h = grind (arith, nat_tests)
 
 -- a row among the first that have no fault has none
 row_among : (rows : List Row) (n i : ℕ) → faults_below rows n ≡ None → i < n → row_fault rows i ≡ None
@@ -48,8 +45,7 @@ first_fault-row rows i fault within none here =
     rw found refl
 
 missing_here : (found : Option (List ℕ)) (n : ℕ) → (if is_none found then Some (MissingCommon n) else None) ≡ None → is_none found ≡ false
-missing_here None n h = absurd (cc)
-missing_here (Some value) n h = refl
+missing_here found n h = grind (arith, nat_tests)
 
 -- a common name among the first that are there is there
 name_among : (rows : List Row) (n k : ℕ) → missing_below rows n ≡ None → k < n → is_none (value_of rows (row_at common_rows k).0) ≡ false
@@ -68,25 +64,16 @@ record Faultless (rows : List Row) (i : ℕ) : Type 0 where
 faultless_tests : (i : ℕ) (is_empty is_bad is_unordered is_wrong : Bool)
     → (if is_empty then Some (EmptyName i) else (if is_bad then Some (BadName i) else (if is_unordered then Some (NotAscending i) else (if is_wrong then Some (WrongCommon i) else None)))) ≡ None
     → (is_unordered ≡ false) × (is_wrong ≡ false)
-faultless_tests i true is_bad is_unordered is_wrong h = absurd (cc)
-faultless_tests i false true is_unordered is_wrong h = absurd (cc)
-faultless_tests i false false true is_wrong h = absurd (cc)
-faultless_tests i false false false true h = absurd (cc)
-faultless_tests i false false false false h = (refl, refl)
+faultless_tests i is_empty is_bad is_unordered is_wrong h = grind (arith, nat_tests)
 
 faultless : (rows : List Row) (i : ℕ) → row_fault rows i ≡ None → Faultless rows i
-faultless rows i h =
-    let tests = faultless_tests i (length (row_at rows i).0 == 0) (not (is_alphanumeric (row_at rows i).0)) (nat_le 1 i && not (is_ascending rows i)) (is_wrong_common (row_at rows i)) h in
-    record { ascends = tests.0; common = tests.1 }
+faultless rows i h = grind (arith, nat_tests, faultless_tests, not, nat_le)
 
 is_lt-Less : (order : Ordering) → is_lt order ≡ true → order ≡ Less
-is_lt-Less Less h = refl
-is_lt-Less Equal h = absurd (cc)
-is_lt-Less Greater h = absurd (cc)
+is_lt-Less order h = grind (arith, nat_tests)
 
 not_not : (b : Bool) → not b ≡ false → b ≡ true
-not_not true h = refl
-not_not false h = absurd (cc)
+not_not b h = grind (arith, nat_tests)
 
 -- the row in which a value was found
 pub value_row : (rows : List Row) (name value : List ℕ) → value_of rows name ≡ Some value → (i : ℕ) × (i < length rows) × (row_at rows i ≡ (name, value))

@@ -1,6 +1,5 @@
 -- Decoding undoes the HTML encoders: each image is decoded to its byte, but for a control that no reference stands for.
-use Rattle.std.proofs.Common.{ℕ, ◌≡◌, ◌≢◌, ◌+◌, ◌*◌, ◌/◌, ◌%◌, ◌<◌, true, false, List, [], ◌∷◌, ◌++◌, ◌==◌, Some, None, ⊎_elim, length, refl, ap, sym, ◌∙◌, append_assoc, arith, codes, ne_eqb}
-use Rattle.std.specs.Char.{is_digit}
+use Rattle.std.proofs.Common.{ℕ, ◌≡◌, ◌≢◌, ◌/◌, ◌%◌, ◌<◌, true, false, List, [], ◌∷◌, ◌++◌, ◌==◌, Some, None, ⊎_elim, length, refl, ap, sym, ◌∙◌, append_assoc, arith, codes, ne_eqb}
 use Rattle.std.proofs.lemmas.Bool.{cases_Bool, cases_eq}
 use Rattle.std.proofs.lemmas.Bool.Decides.{nat_tests}
 use Rattle.std.proofs.lemmas.Str.{encode_ascii}
@@ -10,12 +9,11 @@ use Rattle.hesc_specs.specs.References.Rows.{Row, row_at, value_of, common_rows}
 use Rattle.hesc_specs.specs.Text.HexDigits.{hex_digit}
 use Rattle.hesc_specs.specs.Html.{encoding, image, reference_to, hex_reference}
 use Rattle.hesc_specs.specs.References.KeptControls.{kept_control_image, with_kept_controls}
-use Rattle.hesc_specs.specs.References.Decoding.{decoded, is_kept_control, is_scalar_value, numbered_value, numeral}
+use Rattle.hesc_specs.specs.References.Decoding.{decoded, is_kept_control, numbered_value, numeral}
 use Rattle.hesc_specs.specs.References.TableFaults.{is_table}
 use Rattle.hesc_specs.specs.declared.classes.Class.{Class}
-use Rattle.hesc_specs.specs.declared.classes.Class.TheVariants.{TextMinimal, Text, DoubleQuotedAttribute, SingleQuotedAttribute, QuotedAttribute, Safe, UnquotedAttribute, ScriptSingleQuoted, ScriptDoubleQuoted, ScriptQuoted, StyleSingleQuoted, StyleDoubleQuoted, StyleQuoted}
-use Rattle.hesc_specs.proofs.Text.HexDigits.{digit_value-hex_digit}
-use Rattle.hesc_specs.proofs.Html.Images.{image-replaced, image-kept, in_class-ampersand, in_class_is_ascii, kept_is_other}
+use Rattle.hesc_specs.specs.declared.classes.Class.TheVariants.{UnquotedAttribute}
+use Rattle.hesc_specs.proofs.Html.Images.{image-replaced, in_class_is_ascii}
 use Rattle.hesc_specs.proofs.References.Tables.{common_value}
 
 -- a digit neither begins nor ends a reference
@@ -25,43 +23,20 @@ digit_is_no_ampersand d small = grind (arith, nat_tests)
 digit_is_no_semicolon : (d : ℕ) → d < 16 → hex_digit d == semicolon ≡ false
 digit_is_no_semicolon d small = grind (arith, nat_tests)
 
-is_hex_digit : (d : ℕ) → d < 16 → is_digit (hex_digit d) 16 ≡ true
-is_hex_digit d small = rw (digit_value-hex_digit d small) (grind (arith, nat_tests))
-
 -- the two digits of a byte write its number
 numeral-hex_digits : (b : ℕ) → b < 128 → numeral 16 (hex_digit (b / 16) ∷ hex_digit (b % 16) ∷ []) ≡ Some b
-numeral-hex_digits b small =
-    let high : b / 16 < 16 = omega arith in
-    let low : b % 16 < 16 = omega arith in
-    let value : (0 * 16 + b / 16) * 16 + b % 16 ≡ b = omega arith in
-    rw (is_hex_digit (b / 16) high, is_hex_digit (b % 16) low, digit_value-hex_digit (b / 16) high, digit_value-hex_digit (b % 16) low) (ap Some value)
+numeral-hex_digits b small = grind (arith, nat_tests)
 
 -- no reference stands for a kept control, and that to another ASCII byte for this byte
 numbered_value-kept : (b : ℕ) → is_kept_control b ≡ true → numbered_value b ≡ None
-numbered_value-kept b kept =
-    let scalar : is_scalar_value b ≡ true = grind (arith, nat_tests, kept) in
-    rw (scalar, kept) refl
+numbered_value-kept b kept = grind (arith, nat_tests)
 
 numbered_value-ascii : (b : ℕ) → b < 128 → is_kept_control b ≡ false → numbered_value b ≡ Some (b ∷ [])
-numbered_value-ascii b small free =
-    let scalar : is_scalar_value b ≡ true = grind (arith, nat_tests, small) in
-    rw (scalar, free) (ap Some (encode_ascii b small))
+numbered_value-ascii b small free = grind (arith, nat_tests, encode_ascii)
 
 -- a byte of an HTML class is no kept control, but for the class that has them all
 in_class_is_free : (class : Class) (b : ℕ) → IsHtml class → class ≢ UnquotedAttribute → in_class class b ≡ true → is_kept_control b ≡ false
-in_class_is_free TextMinimal b html other replaced = grind (arith, nat_tests)
-in_class_is_free Text b html other replaced = grind (arith, nat_tests)
-in_class_is_free DoubleQuotedAttribute b html other replaced = grind (arith, nat_tests)
-in_class_is_free SingleQuotedAttribute b html other replaced = grind (arith, nat_tests)
-in_class_is_free QuotedAttribute b html other replaced = grind (arith, nat_tests)
-in_class_is_free Safe b html other replaced = grind (arith, nat_tests)
-in_class_is_free UnquotedAttribute b html other replaced = absurd (other refl)
-in_class_is_free ScriptSingleQuoted b html other replaced = cc
-in_class_is_free ScriptDoubleQuoted b html other replaced = cc
-in_class_is_free ScriptQuoted b html other replaced = cc
-in_class_is_free StyleSingleQuoted b html other replaced = cc
-in_class_is_free StyleDoubleQuoted b html other replaced = cc
-in_class_is_free StyleQuoted b html other replaced = cc
+in_class_is_free class b html other replaced = grind (arith, nat_tests)
 
 unquoted_kept_is_free : (b : ℕ) → in_class UnquotedAttribute b ≡ false → is_kept_control b ≡ false
 unquoted_kept_is_free b kept = grind (arith, nat_tests)
@@ -81,20 +56,7 @@ module _ (rows : List Row) where
   digits_replaced x y b text x_ends y_ends x_starts y_starts number value rest = rw (x_ends, y_ends, x_starts, y_starts, number, value) refl
 
   hex_reference_gives : (b : ℕ) → b < 128 → Gives (hex_reference b) (kept_control_image b)
-  hex_reference_gives b small rest =
-      let high : b / 16 < 16 = omega arith in
-      let low : b % 16 < 16 = omega arith in
-      ⊎_elim
-      (λ (kept : is_kept_control b ≡ true).
-      rw kept (digits_kept (hex_digit (b / 16)) (hex_digit (b % 16)) b (digit_is_no_semicolon (b / 16) high) (digit_is_no_semicolon (b % 16) low)
-      (digit_is_no_ampersand (b / 16) high) (digit_is_no_ampersand (b % 16) low) (numeral-hex_digits b small) (numbered_value-kept b kept) rest))
-      (λ (free : is_kept_control b ≡ false).
-      rw free (digits_replaced (hex_digit (b / 16)) (hex_digit (b % 16)) b (b ∷ []) (digit_is_no_semicolon (b / 16) high) (digit_is_no_semicolon (b % 16) low)
-      (digit_is_no_ampersand (b / 16) high) (digit_is_no_ampersand (b % 16) low) (numeral-hex_digits b small) (numbered_value-ascii b small free) rest))
-      (cases_Bool (is_kept_control b))
-
-  byte_gives : (b : ℕ) → b == ampersand ≡ false → Gives (b ∷ []) (b ∷ [])
-  byte_gives b other rest = rw other refl
+  hex_reference_gives b small rest = grind (arith, nat_tests, digits_kept, digit_is_no_semicolon, digit_is_no_ampersand, numeral-hex_digits, numbered_value-kept, digits_replaced, numbered_value-ascii)
 
   module _ (good : is_table rows ≡ true) where
     named_gives : (k : ℕ) (name value written : List ℕ) → k < length common_rows → (row_at common_rows k).0 ≡ name → value_of common_rows name ≡ Some value
@@ -127,8 +89,7 @@ module _ (rows : List Row) where
     replaced_gives class b html replaced rest = rw (image-replaced class b replaced) (reference_to_gives b (in_class_is_ascii class b html replaced) rest)
 
     kept_gives : (class : Class) (b : ℕ) → IsHtml class → in_class class b ≡ false → Gives (image class b) (b ∷ [])
-    kept_gives class b html kept rest =
-        rw (image-kept class b kept) (byte_gives b (ne_eqb b ampersand (kept_is_other class b ampersand kept (in_class-ampersand class html))) rest)
+    kept_gives class b html kept rest = grind (arith, nat_tests)
 
     image_gives : (class : Class) (b : ℕ) → IsHtml class → class ≢ UnquotedAttribute → Gives (image class b) (b ∷ [])
     image_gives class b html other =

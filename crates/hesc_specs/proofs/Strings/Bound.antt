@@ -1,19 +1,18 @@
 -- By how much a string encoding is longer than its text at most, by the bytes of the text.
-use Rattle.std.proofs.Common.{◌≡◌, ℕ, ◌+◌, ◌/◌, ◌%◌, ◌≤◌, ◌<◌, Bool, true, false, ◌||◌, not, ◌==◌, List, [], ◌∷◌, ◌++◌, Some, length, flat_map, if◌then◌else◌, IsUtf8, refl, sym, subst, ap, ◌∙◌, length-append, ne_eqb, inl, inr, arith}
+use Rattle.std.proofs.Common.{◌≡◌, ℕ, ◌+◌, ◌≤◌, ◌<◌, Bool, true, ◌||◌, not, ◌==◌, List, [], ◌∷◌, ◌++◌, Some, length, flat_map, if◌then◌else◌, IsUtf8, refl, sym, ap, ◌∙◌, length-append, inl, inr, arith}
+use Rattle.std.proofs.lemmas.Bool.Decides.{nat_tests}
 use Rattle.std.specs.Prelude.{chars}
 use Rattle.std.specs.List.{sum_by}
-use Rattle.std.proofs.lemmas.Bool.{and_parts, cases_eq}
+use Rattle.std.proofs.lemmas.Bool.{and_parts}
 use Rattle.std.proofs.lemmas.List.Sums.{sum_by-append}
 use Rattle.std.proofs.lemmas.Str.{encode_ascii, encodes-chars}
 use Rattle.std.proofs.Math.Utf8.{encode, encodes}
-use Rattle.hesc_specs.specs.Text.Ascii.{backslash, lower_x, space}
+use Rattle.hesc_specs.specs.Text.Ascii.{backslash}
 use Rattle.hesc_specs.specs.Text.Classes.{in_class, separator_lead, string_class}
 use Rattle.hesc_specs.specs.Text.EscapedPlaces.{begins_escaped, completes_separator}
-use Rattle.hesc_specs.specs.Text.HexDigits.{hex_digit}
-use Rattle.hesc_specs.specs.Strings.Encoding.{is_escaped, is_mark, line_separator, paragraph_separator, string_encoding, string_escape, string_image}
+use Rattle.hesc_specs.specs.Strings.Encoding.{is_escaped, is_mark, string_encoding, string_escape, string_image}
 use Rattle.hesc_specs.specs.declared.classes.Class.{Class}
 use Rattle.hesc_specs.specs.declared.elements.Element.{Element}
-use Rattle.hesc_specs.specs.declared.elements.Element.TheVariants.{Script, Style}
 use Rattle.hesc_specs.specs.declared.quotes.Quotes.{Quotes}
 use Rattle.hesc_specs.proofs.Strings.CharacterBytes.{begins_escaped-character, encode-line_separator, encode-paragraph_separator, encode-replacement_character, is_escaped-cases}
 use Rattle.hesc_specs.proofs.Text.SomeImages.{some-string_image}
@@ -24,19 +23,10 @@ added_length class b = if in_class class b then (if is_mark b then 1 else 3) els
 
 -- the escape of an ASCII character
 mark_or_number : (mark : Bool) (c : ℕ) (number : List ℕ) → length number ≡ 4 → length (if mark then backslash ∷ c ∷ [] else number) ≤ 1 + (if mark then 1 else 3)
-mark_or_number true c number long = omega arith
-mark_or_number false c number long = omega arith
+mark_or_number mark c number long = grind (arith, nat_tests)
 
 length-string_escape : (element : Element) (c : ℕ) → c < 128 → length (string_escape element c) ≤ 1 + (if is_mark c then 1 else 3)
-length-string_escape Script c small =
-    rw (ne_eqb c line_separator (λ is. omega arith), ne_eqb c paragraph_separator (λ is. omega arith))
-    (mark_or_number (is_mark c) c (backslash ∷ lower_x ∷ hex_digit (c / 16) ∷ hex_digit (c % 16) ∷ []) refl)
-length-string_escape Style c small = elim (cases_eq c 0) [
-  | inl nul ↦ rw (nul, encode-replacement_character) (omega arith)
-  | inr other ↦
-      rw (ne_eqb c 0 other)
-      (mark_or_number (is_mark c) c (backslash ∷ hex_digit (c / 16) ∷ hex_digit (c % 16) ∷ space ∷ []) refl)
-]
+length-string_escape element c small = grind (arith, nat_tests, mark_or_number, encode-replacement_character)
 
 module _ (class : Class) (element : Element) (quotes : Quotes) (is : string_class class ≡ Some (element, quotes)) where
   -- the first byte of a replaced character is in the class
@@ -48,9 +38,7 @@ module _ (class : Class) (element : Element) (quotes : Quotes) (is : string_clas
 
   separator-grows : (c last : ℕ) → is_escaped element quotes c ≡ true → encode c ≡ separator_lead ∷ 0x80 ∷ last ∷ []
       → 6 ≤ length (encode c) + sum_by (added_length class) (encode c)
-  separator-grows c last replaced spelt =
-      let lead : added_length class separator_lead ≡ 3 = rw (first_in_class c separator_lead (0x80 ∷ last ∷ []) replaced spelt) refl in
-      rw spelt (omega (arith, lead))
+  separator-grows c last replaced spelt = grind (arith, nat_tests, first_in_class)
 
   replaced-grows : (c : ℕ) → is_escaped element quotes c ≡ true → length (string_escape element c) ≤ length (encode c) + sum_by (added_length class) (encode c)
   replaced-grows c replaced = elim (is_escaped-cases element quotes c replaced) [
@@ -72,8 +60,7 @@ module _ (class : Class) (element : Element) (quotes : Quotes) (is : string_clas
 
   image-grows : (c : ℕ) (replaced : Bool) → is_escaped element quotes c ≡ replaced
       → length (string_image element quotes c) ≤ length (encode c) + sum_by (added_length class) (encode c)
-  image-grows c true is_replaced = rw is_replaced (replaced-grows c is_replaced)
-  image-grows c false is_kept = rw is_kept (omega arith)
+  image-grows c replaced is_replaced = grind (arith, nat_tests, replaced-grows)
 
   images-grow : (characters : List ℕ) → length (flat_map (string_image element quotes) characters) ≤ length (encodes characters) + sum_by (added_length class) (encodes characters)
   images-grow [] = omega arith
@@ -82,8 +69,7 @@ module _ (class : Class) (element : Element) (quotes : Quotes) (is : string_clas
       omega (arith, image-grows c (is_escaped element quotes c) refl, images-grow characters, length-append image (flat_map (string_image element quotes) characters), length-append (encode c) (encodes characters), sum_by-append (added_length class) (encode c) (encodes characters))
 
   pub length-string_encoding : (text : List ℕ) → IsUtf8 text → length (string_encoding element quotes text) ≤ length text + sum_by (added_length class) text
-  length-string_encoding text utf8 =
-      subst (λ bytes. length (string_encoding element quotes text) ≤ length bytes + sum_by (added_length class) bytes) (encodes-chars text utf8) (images-grow (chars text))
+  length-string_encoding text utf8 = grind (arith, nat_tests, encodes-chars, images-grow)
 
 no_characters : (element : Element) (quotes : Quotes) (characters : List ℕ) → flat_map (string_image element quotes) characters ≡ [] → characters ≡ []
 no_characters element quotes [] none = refl

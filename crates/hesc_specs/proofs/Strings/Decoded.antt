@@ -1,5 +1,6 @@
 -- A string decoder, and so that of a class, never lengthens a text, and leaves nothing of an empty text alone.
 use Rattle.std.proofs.Common.{◌≡◌, ℕ, zero, suc, ◌+◌, ◌≤◌, Bool, false, List, [], ◌∷◌, ◌==◌, Option, Some, None, length, encode_utf8, refl, ap, arith, length-append, inl, inr, ne_eqb}
+use Rattle.std.proofs.lemmas.Bool.Decides.{nat_tests}
 use Rattle.std.proofs.lemmas.Bool.{cases_eq}
 use Rattle.std.proofs.lemmas.Str.{length-encode, len_utf8_bounds}
 use Rattle.hesc_specs.specs.Text.Ascii.{less_than, backslash}
@@ -48,12 +49,10 @@ module _ (element : Element) (quotes : Quotes) where
   string_decoding-empty (b ∷ text) is = absurd (some-value b (escape_at element quotes false b text) (λ more. string_decoding_after element quotes more (b == less_than) text) is)
 
 by_class-shorter : (string : Option (Element × Quotes)) (text : List ℕ) → length (by_class string (λ text. text) string_decoding text) ≤ length text
-by_class-shorter None text = omega arith
-by_class-shorter (Some s) text = string_decoding-shorter s.0 s.1 text
+by_class-shorter string text = grind (arith, nat_tests, string_decoding-shorter)
 
 by_class-empty : (string : Option (Element × Quotes)) (text : List ℕ) → by_class string (λ text. text) string_decoding text ≡ [] → text ≡ []
-by_class-empty None text is = is
-by_class-empty (Some s) text is = string_decoding-empty s.0 s.1 text is
+by_class-empty string text is = grind (arith, nat_tests, string_decoding-empty)
 
 pub unescaped-shorter : (class : Class) (text : List ℕ) → length (unescaped class text) ≤ length text
 unescaped-shorter class text = by_class-shorter (string_class class) text

@@ -1,5 +1,6 @@
 -- The changes of a string encoder: which comes first, when none is left, and that they make the encoding.
-use Rattle.std.proofs.Common.{◌≡◌, ℕ, add-zero, ◌+◌, ◌-◌, ◌≤◌, ◌<◌, List, [], ◌∷◌, ◌++◌, Bool, true, false, Some, length, take, drop, flat_map, IsUtf8, refl, sym, ap, subst, ◌∙◌, append_assoc, length-append, arith, get_or, inl, inr, if◌then◌else◌, ◌==◌}
+use Rattle.std.proofs.Common.{◌≡◌, ℕ, add-zero, ◌+◌, ◌-◌, ◌≤◌, ◌<◌, List, [], ◌∷◌, ◌++◌, Bool, true, false, Some, length, take, drop, flat_map, IsUtf8, refl, sym, ap, subst, ◌∙◌, append_assoc, length-append, arith, get_or, if◌then◌else◌, ◌==◌}
+use Rattle.std.proofs.lemmas.Bool.Decides.{nat_tests}
 use Rattle.std.specs.Prelude.{chars, slice_range, slice_index}
 use Rattle.std.specs.Char.{len_utf8}
 use Rattle.std.specs.Str.{IsCharBoundary}
@@ -144,8 +145,7 @@ module _ (class : Class) (element : Element) (quotes : Quotes) (is : string_clas
 -- the first byte determines the character, and where it is that of the separators, the third
 module _ {element : Element} {quotes : Quotes} {source : List ℕ} {from at : ℕ} (first : FirstEscaped element quotes source from at) where
   byte_at : (k b : ℕ) (bytes : List ℕ) → encode first.character ≡ bytes → get_or (bytes ++ first.after) k 0 ≡ b → slice_index source (at + k) ≡ b
-  byte_at k b bytes spelt there =
-      sym (get_or-drop at source k 0) ∙ (ap (λ rest. get_or rest k 0) first.bytes ∙ (ap (λ front. get_or (front ++ first.after) k 0) spelt ∙ there))
+  byte_at k b bytes spelt there = grind (arith, nat_tests, get_or-drop)
 
   first_byte : (b : ℕ) (bytes : List ℕ) → encode first.character ≡ bytes → get_or (bytes ++ first.after) 0 0 ≡ b → slice_index source at ≡ b
   first_byte b bytes spelt there = ap (λ place. slice_index source place) (sym (add-zero at)) ∙ byte_at 0 b bytes spelt there
@@ -174,19 +174,7 @@ module _ {element : Element} {quotes : Quotes} {source : List ℕ} {from at : �
   of_ascii small = first_byte first.character (first.character ∷ []) (encode_ascii first.character small) refl
 
   pub ascii_character : (slice_index source at ≡ separator_lead → ⊥) → IsAsciiCharacter
-  ascii_character other = elim (is_escaped-cases element quotes first.character first.replaced) [
-    | inl small ↦ (sym (of_ascii small), small)
-    | inr separator ↦ elim separator.1 [
-      | inl is ↦ absurd (other (of_line separator.0 is).0)
-      | inr is ↦ absurd (other (of_paragraph separator.0 is).0)
-    ]
-  ]
+  ascii_character other = grind (arith, nat_tests, is_escaped-cases, of_ascii, of_line, of_paragraph)
 
   pub separator_character : slice_index source at ≡ separator_lead → IsSeparator
-  separator_character lead = elim (is_escaped-cases element quotes first.character first.replaced) [
-    | inl small ↦ absurd (omega (arith, lead, of_ascii small))
-    | inr separator ↦ elim separator.1 [
-      | inl is ↦ (of_line separator.0 is).1
-      | inr is ↦ (of_paragraph separator.0 is).1
-    ]
-  ]
+  separator_character lead = grind (arith, nat_tests, is_escaped-cases, of_ascii, of_line, of_paragraph)

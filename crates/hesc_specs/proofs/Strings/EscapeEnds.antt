@@ -8,13 +8,12 @@ use Rattle.std.proofs.lemmas.Bool.Decides.{nat_tests}
 use Rattle.std.proofs.lemmas.Str.{encode_ascii}
 use Rattle.hesc_specs.specs.Text.Ascii.{space, slash, backslash, lower_x}
 use Rattle.hesc_specs.specs.Text.Elements.{element_name}
-use Rattle.hesc_specs.specs.Strings.Encoding.{is_quote, line_separator, paragraph_separator}
+use Rattle.hesc_specs.specs.Strings.Encoding.{is_quote}
 use Rattle.hesc_specs.specs.Strings.Tokens.{Escape, when, mark_escape, is_upper_hex, is_pair, pair_value, number_escape, separator_escape, ends_name_within, opening_escape, escape}
 use Rattle.hesc_specs.specs.Text.Words.{begins, begins_in_any_case}
 use Rattle.hesc_specs.specs.declared.elements.Element.{Element}
 use Rattle.hesc_specs.specs.declared.elements.Element.TheVariants.{Script, Style}
 use Rattle.hesc_specs.specs.declared.quotes.Quotes.{Quotes}
-use Rattle.hesc_specs.specs.declared.quotes.Quotes.TheVariants.{Single, Double, Both}
 use Rattle.hesc_specs.proofs.Strings.CharacterBytes.{encode-line_separator, encode-paragraph_separator}
 
 -- the bytes of an escape after its `\`: there is one, all of them are there, and the last is of ASCII
@@ -36,20 +35,13 @@ ends-option_or bytes None other first second = second
 ends-option_or bytes (Some e) other first second = first
 
 ends-when : (bytes : List ℕ) (holds : Bool) (more character : ℕ) → (holds ≡ true → EndsWithin bytes more character) → Ends bytes (when holds more character)
-ends-when bytes true more character ends more' character' is =
-    let same : (more, character) ≡ (more', character') = cc in
-    let count : more ≡ more' = ap (λ (e : ℕ × ℕ). e.0) same in
-    let value : character ≡ character' = ap (λ (e : ℕ × ℕ). e.1) same in
-    rw (count, value) at (ends refl)
-ends-when bytes false more character ends more' character' is = cc
+ends-when bytes holds more character ends more' character' is = grind (arith, nat_tests)
 
 ascii-short : (c more : ℕ) → c < 128 → length (encode_utf8 c) ≤ more + 1
 ascii-short c more small = rw (encode_ascii c small) (omega arith)
 
 quote-ascii : (quotes : Quotes) (c : ℕ) → (c == backslash || is_quote quotes c) ≡ true → c < 128
-quote-ascii Single c is = grind (arith, nat_tests)
-quote-ascii Double c is = grind (arith, nat_tests)
-quote-ascii Both c is = grind (arith, nat_tests)
+quote-ascii quotes c is = grind (arith, nat_tests)
 
 ends-mark : (quotes : Quotes) (bytes : List ℕ) → Ends bytes (mark_escape quotes bytes)
 ends-mark quotes [] = ends-none []
@@ -84,10 +76,7 @@ begins-splits (w ∷ word) (b ∷ bytes) is =
     rw (eqb-true b w parts.0) (ap (λ rest. w ∷ rest) (begins-splits word bytes parts.1))
 
 ends-separator : (element : Element) (bytes : List ℕ) → Ends bytes (separator_escape element bytes)
-ends-separator Script bytes = ends-option_or bytes (when (begins (codes "u2028") bytes) 5 line_separator) (when (begins (codes "u2029") bytes) 5 paragraph_separator)
-    (ends-when bytes (begins (codes "u2028") bytes) 5 line_separator (λ is. rw (begins-splits (codes "u2028") bytes is) (record { some = omega arith; within = omega arith; ascii = omega arith; short = rw encode-line_separator (omega arith) })))
-    (ends-when bytes (begins (codes "u2029") bytes) 5 paragraph_separator (λ is. rw (begins-splits (codes "u2029") bytes is) (record { some = omega arith; within = omega arith; ascii = omega arith; short = rw encode-paragraph_separator (omega arith) })))
-ends-separator Style bytes = ends-none bytes
+ends-separator element bytes = grind (arith, nat_tests, ends-option_or, ends-when, begins-splits, encode-line_separator, encode-paragraph_separator, ends-none)
 
 lower-slash : (b : ℕ) → (to_ascii_lowercase b == slash) ≡ true → b < 128
 lower-slash b is = grind (arith, nat_tests)

@@ -1,5 +1,6 @@
 -- The escapes of an encoded string, each judged by itself, and those of a class.
-use Rattle.std.proofs.Common.{◌≡◌, ℕ, ◌+◌, ◌<◌, false, ◌==◌, List, [], Option, Some, None, length, slice_index, refl, ◌∙◌, arith, inl, inr}
+use Rattle.std.proofs.Common.{◌≡◌, ℕ, ◌+◌, ◌<◌, false, ◌==◌, List, [], Option, length, slice_index, refl, ◌∙◌, arith, inl, inr}
+use Rattle.std.proofs.lemmas.Bool.Decides.{nat_tests}
 use Rattle.std.proofs.lemmas.Bool.{cases_Bool, eqb-true}
 use Rattle.hesc_specs.specs.Text.Ascii.{backslash}
 use Rattle.hesc_specs.specs.Text.Classes.{string_class}
@@ -28,8 +29,7 @@ module _ (element : Element) (quotes : Quotes) (source : List ℕ) where
 
 -- of a class, by what strings it is of
 none_left_in : (class : Class) (strings : Option (Element × Quotes)) → string_class class ≡ strings → (source : List ℕ) (from : ℕ) → IsFirstAt (unescapes_at class source) from (length source) (length source) → unescape_changes class source from ≡ []
-none_left_in class None is source from none = rw is refl
-none_left_in class (Some s) is source from none = rw is (none_left s.0 s.1 source from (rw is at none))
+none_left_in class strings is source from none = grind (arith, nat_tests, none_left)
 
 pub none_left_of : (class : Class) (source : List ℕ) (from : ℕ) → IsFirstAt (unescapes_at class source) from (length source) (length source) → unescape_changes class source from ≡ []
 none_left_of class source from none = none_left_in class (string_class class) refl source from none

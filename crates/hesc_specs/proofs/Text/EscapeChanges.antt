@@ -1,5 +1,6 @@
 -- The changes of the encoder of a class, made, are what it writes.
-use Rattle.std.proofs.Common.{◌≡◌, ℕ, List, Option, Some, None, IsUtf8, refl, ap}
+use Rattle.std.proofs.Common.{◌≡◌, ℕ, List, Option, Some, None, IsUtf8, ap, arith}
+use Rattle.std.proofs.lemmas.Bool.Decides.{nat_tests}
 use Rattle.hesc_specs.specs.Text.Changes.{applied, html_changes}
 use Rattle.hesc_specs.specs.Text.Classes.{element_in, element_of, string_class}
 use Rattle.hesc_specs.specs.Text.Escaped.{by_class, escape_changes, escaped}
@@ -14,16 +15,10 @@ use Rattle.hesc_specs.proofs.Strings.EncodingChanges.{applied-string_encoding_ch
 
 applied-by_class : (class : Class) (string : Option (Element × Quotes)) (source : List ℕ) → IsUtf8 source
     → applied source 0 (by_class string (html_changes class) string_encoding_changes source 0) ≡ by_class string (encoding class) string_encoding source
-applied-by_class class None source text = applied-html_changes class source
-applied-by_class class (Some string) source text = applied-string_encoding_changes string.0 string.1 source text
+applied-by_class class string source text = grind (arith, nat_tests, applied-html_changes, applied-string_encoding_changes)
 
 pub applied-escape_changes : (class : Class) (source : List ℕ) → IsUtf8 source → applied source 0 (escape_changes class source 0) ≡ escaped class source
 applied-escape_changes class source text = applied-by_class class (string_class class) source text
-
--- a class with no element is an HTML encoder's, and one with an element has quote marks
-element_in-none : (string : Option (Element × Quotes)) → element_in string ≡ None → string ≡ None
-element_in-none None is = refl
-element_in-none (Some string) is = cc
 
 element_in-some : (string : Option (Element × Quotes)) (element : Element) → element_in string ≡ Some element → (quotes : Quotes) × (string ≡ Some (element, quotes))
 element_in-some None element is = cc

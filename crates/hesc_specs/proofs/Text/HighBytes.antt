@@ -1,5 +1,5 @@
 -- The bytes of a character that is not ASCII.
-use Rattle.std.proofs.Common.{ℕ, ◌≤◌, ◌<◌, List, [], ◌∷◌, arith, inl, inr}
+use Rattle.std.proofs.Common.{ℕ, ◌≤◌, ◌<◌, List, [], ◌∷◌, arith}
 use Rattle.std.proofs.Math.Utf8.{encode}
 use Rattle.std.proofs.lemmas.Bool.{cases_lt}
 use Rattle.std.proofs.lemmas.Bool.Decides.{nat_tests}
@@ -22,12 +22,4 @@ unfolding encode
 four-high c low = grind (arith, nat_tests)
 
 pub encode-high : (c : ℕ) → 128 ≤ c → AreHigh (encode c)
-encode-high c low =
-    elim (cases_lt c 2048) [
-      | inl two ↦ two-high c low two
-      | inr more ↦
-          elim (cases_lt c 65536) [
-            | inl three ↦ three-high c (omega arith) three
-            | inr four ↦ four-high c (omega arith)
-          ]
-    ]
+encode-high c low = grind (arith, nat_tests, cases_lt, two-high, three-high, four-high)

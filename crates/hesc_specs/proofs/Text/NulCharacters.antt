@@ -1,5 +1,6 @@
 -- A text with each NUL replaced by U+FFFD, by its characters.
 use Rattle.std.proofs.Common.{◌≡◌, ◌≢◌, ℕ, ◌==◌, List, [], ◌∷◌, ◌++◌, if◌then◌else◌, map, IsUtf8, refl, sym, ap, ap₂, ◌∙◌, append-nil, ne_eqb, arith, inl, inr}
+use Rattle.std.proofs.lemmas.Bool.Decides.{nat_tests}
 use Rattle.std.specs.Prelude.{chars}
 use Rattle.std.proofs.Math.Utf8.{encode, encodes}
 use Rattle.std.proofs.lemmas.Bool.{cases_eq, cases_lt}
@@ -18,11 +19,7 @@ nul-high (b ∷ bytes) high = rw (ne_eqb b 0 (omega (arith, high.0))) (ap (λ re
 
 -- the bytes of a character other than NUL are kept
 nul-encode : (c : ℕ) → c ≢ 0 → nul (encode c) ≡ encode c
-nul-encode c other =
-    elim (cases_lt c 128) [
-      | inl ascii ↦ rw (encode_ascii c ascii, ne_eqb c 0 other) refl
-      | inr high ↦ nul-high (encode c) (encode-high c (omega arith))
-    ]
+nul-encode c other = grind (arith, nat_tests, cases_lt, encode_ascii, nul-high, encode, encode-high)
 
 nul-character : (c : ℕ) → nul (encode c) ≡ encode (nul_character c)
 nul-character c =

@@ -33,12 +33,10 @@ parts-joined source from (c ∷ cs) =
     cc (stretch-joined source from c.start, renewed-joined c.bytes, parts-joined source c.end cs)
 
 stretch_if-few : (b : Bool) (start : ℕ) (bytes : List ℕ) → length (if b then kept start bytes ∷ [] else []) ≤ 1
-stretch_if-few true start bytes = omega arith
-stretch_if-few false start bytes = omega arith
+stretch_if-few b start bytes = grind (arith, nat_tests)
 
 renewed-few : (bytes : List ℕ) → length (renewed bytes) ≤ 1
-renewed-few [] = omega arith
-renewed-few (b ∷ bytes) = omega arith
+renewed-few bytes = grind (arith, nat_tests)
 
 pub parts-few : (source : List ℕ) (from : ℕ) (changes : List Change) → length (parts source from changes) ≤ 2 * length changes + 1
 parts-few source from [] = stretch_if-few (nat_lt from (length source)) from (slice_range source from (length source))

@@ -1,5 +1,6 @@
 -- Stretches of a source, and its rest, one byte further.
 use Rattle.std.proofs.Common.{◌≡◌, ℕ, ◌+◌, ◌-◌, ◌≤◌, List, [], ◌∷◌, ◌++◌, length, take, drop, refl, sym, ◌∙◌, arith}
+use Rattle.std.proofs.lemmas.Bool.Decides.{nat_tests}
 use Rattle.std.specs.Prelude.{slice_range}
 use Rattle.std.proofs.lemmas.List.{drop-drop}
 use Rattle.std.proofs.Math.Seq.{take-add, take-append_seam}
@@ -17,12 +18,7 @@ slice_range-further source from at more bytes ordered is =
 
 -- the stretch up to one byte further
 pub slice_range-more : (source : List ℕ) (from at b : ℕ) (bytes : List ℕ) → from ≤ at → drop at source ≡ b ∷ bytes → slice_range source from (at + 1) ≡ slice_range source from at ++ b ∷ []
-slice_range-more source from at b bytes ordered is =
-    let count : (at + 1) - from ≡ (at - from) + 1 = omega arith in
-    let there : from + (at - from) ≡ at = omega arith in
-    let front : take ((at - from) + 1) (drop from source) ≡ take (at - from) (drop from source) ++ take 1 (drop (at - from) (drop from source)) = take-add (at - from) 1 (drop from source) in
-    let rest : drop (at - from) (drop from source) ≡ b ∷ bytes = drop-drop (at - from) from source ∙ rw there is in
-    rw count (front ∙ rw rest refl)
+slice_range-more source from at b bytes ordered is = grind (arith, nat_tests, take-add, drop-drop)
 
 -- the rest from one byte further on
 pub drop-next : (source : List ℕ) (at b : ℕ) (bytes : List ℕ) → drop at source ≡ b ∷ bytes → drop (at + 1) source ≡ bytes
