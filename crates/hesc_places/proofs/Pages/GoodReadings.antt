@@ -1,14 +1,12 @@
--- The attributes of a form that is read are good, so that they can be written again.
-use Rattle.std.proofs.Common.{ℕ, zero, suc, ◌≡◌, ◌==◌, ◌&&◌, subst, if◌then◌else◌, ◌≢◌, ◌+◌, ◌-◌, Bool, true, false, List, [], ◌∷◌, ◌++◌, Option, Some, None, length, take, encode_utf8, refl, sym, ap, ◌∙◌, ⊎_elim, arith, length-append, drop, map}
-use Rattle.std.specs.Prelude.{IsTrue, codes}
+-- Parts of a form that is read: what is bound, names, and values without quote marks, which hold an item.
+use Rattle.std.proofs.Common.{ℕ, suc, ◌≡◌, ◌==◌, ◌&&◌, if◌then◌else◌, ◌≢◌, ◌+◌, Bool, true, false, List, [], ◌∷◌, ◌++◌, Option, Some, None, length, take, encode_utf8, refl, sym, ap, ◌∙◌, ⊎_elim, arith, length-append}
 use Rattle.std.specs.Char.{is_ascii_lowercase}
-use Rattle.std.specs.List.{AllByRecursion, list_all, position_from, prefix_len}
+use Rattle.std.specs.List.{list_all, position_from, prefix_len}
 use Rattle.std.proofs.lemmas.Bool.{cases_Bool}
 use Rattle.std.proofs.lemmas.Str.{len_utf8_bounds, length-encode}
-use Rattle.hesc_specs.specs.Text.Ascii.{ampersand, double_quote, semicolon, single_quote}
+use Rattle.hesc_specs.specs.Text.Ascii.{ampersand, semicolon}
 use Rattle.hesc_grammars.specs.declared.place.End.{End}
-use Rattle.hesc_grammars.specs.declared.place.Place.{Place}
-use Rattle.hesc_grammars.specs.declared.place.Place.TheVariants.{DoubleAttribute, SingleAttribute, UnquotedAttribute}
+use Rattle.hesc_grammars.specs.declared.place.Place.TheVariants.{UnquotedAttribute}
 use Rattle.hesc_grammars.specs.declared.step.Mode.TheVariants.{Empty, Plain}
 use Rattle.hesc_grammars.specs.declared.step.Mode.{Mode}
 use Rattle.hesc_grammars.specs.declared.step.Step.{Step}
@@ -17,13 +15,8 @@ use Rattle.hesc_grammars.specs.Html.{ends_unquoted, has_item, is_unquoted_error,
 use Rattle.hesc_grammars.specs.Places.{end_byte, reading, step_of}
 use Rattle.hesc_grammars.specs.Reading.{after, reading_after, taken}
 use Rattle.hesc_grammars.specs.References.{body_character, character_or_nothing, reference_of_length}
-use Rattle.hesc_grammars.specs.Words.{is_white_space}
-use Rattle.hesc_places.specs.declared.markup.types.Quoting.{Quoting}
-use Rattle.hesc_places.specs.declared.markup.types.Quoting.TheVariants.{Unquoted, Single, Double}
-use Rattle.hesc_places.specs.Pages.AttributeReadings.{Entry, and_others, entry, attribute_at, attributes_at, differ, first_ending, quoted_at, unquoted_at, value_at}
-use Rattle.hesc_places.specs.Pages.FormReadings.{FormRead, after_attributes, form_found, form_reading, with_attributes}
-use Rattle.hesc_places.specs.Pages.FormTexts.{AreGood, IsFilled, is_name}
-use Rattle.hesc_places.specs.Pages.Parsers.{◌>>=◌, past, past_while, some_while}
+use Rattle.hesc_places.specs.Pages.FormTexts.{is_name}
+use Rattle.hesc_places.specs.Pages.Parsers.{◌>>=◌, past_while, some_while}
 
 -- where all is read, each part is
 pub record IsBound {A B : Type 0} (found : Option A) (go_on : A → Option B) (all : B) : Type 0 where
@@ -55,7 +48,7 @@ read_if false found name told = cc
 pub some_read : (count : ℕ) (found name : List ℕ × List ℕ) → (if count == 0 then None else Some found) ≡ Some name → found ≡ name
 some_read count found name told = read_if (count == 0) found name told
 
-name_read : (bytes : List ℕ) (name : List ℕ × List ℕ) → some_while is_ascii_lowercase bytes ≡ Some name → is_name name.0 ≡ true
+pub name_read : (bytes : List ℕ) (name : List ℕ × List ℕ) → some_while is_ascii_lowercase bytes ≡ Some name → is_name name.0 ≡ true
 name_read [] name told = absurd (cc)
 name_read (b ∷ bytes) name told =
     ⊎_elim
@@ -118,92 +111,8 @@ item_filled (Character more value next) go_on found no_end told =
     longer (encode_utf8 value) 1 (go_on more next) found (λ none. omega (arith, length-encode value, (len_utf8_bounds value).0, none)) told
 item_filled Nothing go_on found no_end told = absurd (cc)
 
-value_filled : (end : End) (bytes : List ℕ) (found : List ℕ × ℕ) → reading (UnquotedAttribute end) bytes ≡ Some found → length found.0 ≢ 0
+pub value_filled : (end : End) (bytes : List ℕ) (found : List ℕ × ℕ) → reading (UnquotedAttribute end) bytes ≡ Some found → length found.0 ≢ 0
 value_filled end [] found told = absurd (cc)
 value_filled end (b ∷ bytes) found told =
     item_filled (step_of (UnquotedAttribute end) Empty (b ∷ bytes)) (λ more next. reading_after (step_of (UnquotedAttribute end)) more next bytes) found
     (begins_with_item (end_byte end) b bytes) told
-
--- ---- attributes
-
-abbrev Filled : Quoting × List ℕ × List ℕ → Type 0
-Filled value = IsFilled value.0 value.1
-
-quoted_good : (quoting : Quoting) (place : Place) (bytes : List ℕ) (value : Quoting × List ℕ × List ℕ) → ((text : List ℕ) → IsFilled quoting text) →
-    quoted_at quoting place bytes ≡ Some value → Filled value
-unfolding quoted_at
-quoted_good quoting place bytes value any told =
-    let found = bound (reading place bytes) (λ found. Some (quoting, found.0, drop (found.1 + 1) bytes)) value told in
-    let same : (quoting, found.part.0, drop (found.part.1 + 1) bytes) ≡ value = cc found.others in
-    subst Filled same (any found.part.0)
-
-unquoted_good : (bytes : List ℕ) (value : Quoting × List ℕ × List ℕ) → unquoted_at bytes ≡ Some value → Filled value
-unfolding unquoted_at
-unquoted_good bytes value told =
-    let end = bound (first_ending bytes) (λ end. reading (UnquotedAttribute end) bytes >>= λ found. Some (Unquoted, found.0, drop found.1 bytes)) value told in
-    let found = bound (reading (UnquotedAttribute end.part) bytes) (λ found. Some (Unquoted, found.0, drop found.1 bytes)) value end.others in
-    let same : (Unquoted, found.part.0, drop found.part.1 bytes) ≡ value = cc found.others in
-    subst Filled same (value_filled end.part bytes found.part found.is)
-
-value_good : (bytes : List ℕ) (value : Quoting × List ℕ × List ℕ) → value_at bytes ≡ Some value → Filled value
-unfolding value_at
-value_good [] value told = absurd (cc)
-value_good (b ∷ bytes) value told =
-    ⊎_elim
-    (λ (double : (b == double_quote) ≡ true). quoted_good Double DoubleAttribute bytes value (λ text. tt) (rw double at told))
-    (λ (other : (b == double_quote) ≡ false).
-    ⊎_elim
-    (λ (single : (b == single_quote) ≡ true). quoted_good Single SingleAttribute bytes value (λ text. tt) (rw (other, single) at told))
-    (λ (neither : (b == single_quote) ≡ false). unquoted_good (b ∷ bytes) value (rw (other, neither) at told))
-    (cases_Bool (b == single_quote)))
-    (cases_Bool (b == double_quote))
-
-record IsGood (a : Entry) : Type 0 where
-  name : is_name a.name ≡ true
-  filled : IsFilled a.quoting a.value
-
-attribute_good : (bytes : List ℕ) (found : Entry × List ℕ) → attribute_at bytes ≡ Some found → IsGood found.0
-unfolding attribute_at
-attribute_good bytes found told =
-    let gap = bound (some_while is_white_space bytes) _ found told in
-    let name = bound (some_while is_ascii_lowercase gap.part.1) _ found gap.others in
-    let rest = bound (past (codes "=") name.part.1) _ found name.others in
-    let value = bound (value_at rest.part) _ found rest.others in
-    let same : entry name.part.0 value.part.0 value.part.1 ≡ found.0 = cc value.others in
-    subst IsGood same (record { name = name_read gap.part.1 name.part name.is; filled = value_good rest.part value.part value.is })
-
-record AreAllGood (attributes : List Entry) : Type 0 where
-  names : AllByRecursion (λ a. IsTrue (is_name a.name)) attributes
-  filled : AllByRecursion (λ a. IsFilled a.quoting a.value) attributes
-
-others_good : (bytes : List ℕ) (first : Option (Entry × List ℕ)) (go_on : List ℕ → List Entry × List ℕ) → attribute_at bytes ≡ first →
-    ((rest : List ℕ) → AreAllGood (go_on rest).0) → AreAllGood (and_others bytes first go_on).0
-others_good bytes None go_on is good = record { names = tt; filled = tt }
-others_good bytes (Some first) go_on is good =
-    let here = attribute_good bytes first is in
-    let more = good first.1 in
-    record { names = (here.name, more.names); filled = (here.filled, more.filled) }
-
-attributes_good : (most : ℕ) (bytes : List ℕ) → AreAllGood (attributes_at most bytes).0
-unfolding attributes_at
-attributes_good zero bytes = record { names = tt; filled = tt }
-attributes_good (suc most) bytes = others_good bytes (attribute_at bytes) (attributes_at most) refl (attributes_good most)
-
--- ---- the form
-
-pub if_differs : (test : Bool) (found form : FormRead) → (if test then Some found else None) ≡ Some form → (test ≡ true) × (found ≡ form)
-if_differs true found form told = (refl, cc)
-if_differs false found form told = absurd (cc)
-
-with_good : (total : ℕ) (found : List Entry × List ℕ) (form : FormRead) → AreAllGood found.0 → with_attributes total found ≡ Some form → AreGood form.attributes
-unfolding with_attributes
-with_good total found form good told =
-    let script = bound (after_attributes found.1) _ form told in
-    let differs = if_differs (differ (map (λ a. a.name) found.0)) (form_found found.0 script.part.0 (total - length script.part.1)) form script.others in
-    subst (λ (f : FormRead). AreGood f.attributes) differs.1 (record { names = good.names; differ = differs.0; filled = good.filled })
-
-pub read_form_good : (bytes : List ℕ) (form : FormRead) → form_reading bytes ≡ Some form → AreGood form.attributes
-unfolding form_reading
-read_form_good bytes form told =
-    let inside = bound (past (codes "<input") bytes) _ form told in
-    with_good (length bytes) (attributes_at (length inside.part) inside.part) form (attributes_good (length inside.part) inside.part) inside.others

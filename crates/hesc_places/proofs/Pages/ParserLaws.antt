@@ -1,5 +1,5 @@
 -- What the small parsers find in front of what stands after it.
-use Rattle.std.proofs.Common.{ℕ, ◌≡◌, ◌≢◌, ◌+◌, Bool, true, false, ◌&&◌, List, [], ◌∷◌, ◌++◌, ◌==◌, nat_eq, Option, Some, None, Bor, take, drop, length, refl, sym, ap, ◌∙◌, arith, ne_eqb}
+use Rattle.std.proofs.Common.{ℕ, ◌≡◌, ◌≢◌, ◌+◌, Bool, true, false, ◌&&◌, List, [], ◌∷◌, ◌++◌, ◌==◌, nat_eq, Option, Some, None, Bor, take, drop, length, refl, sym, ap, ◌∙◌, arith, ne_eqb, suc}
 use Rattle.std.specs.Option.{MatchOption, option_map}
 use Rattle.std.specs.Cmp.Lexicographic.{pointwise}
 use Rattle.std.specs.List.{list_all, prefix_len}
@@ -7,6 +7,10 @@ use Rattle.std.proofs.Math.Seq.{take-append_seam, drop-append_seam}
 use Rattle.std.proofs.lemmas.Bool.{and_parts}
 use Rattle.hesc_specs.specs.Text.Words.{begins}
 use Rattle.hesc_places.specs.Pages.Parsers.{past, some_while}
+use Rattle.std.specs.Prelude.{cond}
+use Rattle.std.specs.Char.{is_ascii_lowercase}
+use Rattle.std.proofs.lemmas.Bool.Decides.{nat_tests}
+use Rattle.hesc_places.specs.Pages.FormTexts.{is_name}
 
 begins-pointwise : (word bytes : List ℕ) → pointwise nat_eq (take (length word) bytes) word ≡ begins word bytes
 begins-pointwise [] bytes = refl
@@ -38,3 +42,20 @@ some_while-all passes bytes b rest full all stops =
       take-append_seam bytes (b ∷ rest),
       drop-append_seam bytes (b ∷ rest),
     ) refl
+
+-- ---- a name is letters to its end
+
+one_more : (passes all : Bool) (count size : ℕ) → (count == size) ≡ all →
+    (cond passes (1 + count) 0 == suc size) ≡ (passes && all)
+one_more true all count size same = grind (arith, nat_tests)
+one_more false all count size same = grind (arith, nat_tests)
+
+-- all elements pass exactly where as many pass at the front
+all_pass : (passes : ℕ → Bool) (bytes : List ℕ) → (prefix_len passes bytes == length bytes) ≡ list_all passes bytes
+all_pass passes [] = refl
+all_pass passes (b ∷ bytes) = one_more (passes b) (list_all passes bytes) (prefix_len passes bytes) (length bytes) (all_pass passes bytes)
+
+pub letters_to_the_end : (name : List ℕ) (letters : ℕ) → length name ≢ 0 → letters ≡ prefix_len is_ascii_lowercase name →
+    (letters == length name) ≡ is_name name
+letters_to_the_end [] letters full counted = absurd (full refl)
+letters_to_the_end (b ∷ name) letters full counted = rw counted (all_pass is_ascii_lowercase (b ∷ name))

@@ -1,11 +1,11 @@
 -- What is read in a place of a text is a text, where the place's steps read characters that are scalar values.
-use Rattle.std.proofs.Common.{ℕ, zero, suc, ◌≡◌, ◌≢◌, ◌<◌, ◌≤◌, ◌+◌, ◌^◌, ◌==◌, ◌&&◌, ◌||◌, ◌⊎◌, inl, inr, Bool, true, false, if◌then◌else◌, List, [], ◌∷◌, ◌++◌, Option, Some, None, IsUtf8, bytes_eq, codes, length, take, drop, encode_utf8, refl, sym, ap, ◌∙◌, subst, ⊎_elim, arith, append-nil, append_assoc}
-use Rattle.std.specs.Char.{InScalarRange, IsScalar, is_digit}
+use Rattle.std.proofs.Common.{ℕ, zero, suc, ◌≡◌, ◌≢◌, ◌<◌, ◌≤◌, ◌+◌, ◌^◌, ◌==◌, ◌&&◌, ◌||◌, Bool, true, false, if◌then◌else◌, List, [], ◌∷◌, ◌++◌, Option, Some, None, IsUtf8, bytes_eq, codes, length, take, drop, encode_utf8, refl, ap, ◌∙◌, ⊎_elim, arith, append-nil, append_assoc}
+use Rattle.std.specs.Char.{IsScalar, is_digit}
 use Rattle.std.specs.Int.{is_in_range}
 use Rattle.std.specs.Prelude.{⊤}
 use Rattle.std.specs.List.{list_all, position_from}
 use Rattle.std.specs.Str.Parse.{AllDigits, digits_value}
-use Rattle.std.proofs.lemmas.Bool.{and_parts, cases_Bool, cases_lt, eqb-true, ltb-true}
+use Rattle.std.proofs.lemmas.Bool.{and_parts, cases_Bool, eqb-true, ltb-true}
 use Rattle.std.proofs.lemmas.Bool.Decides.{nat_tests}
 use Rattle.std.proofs.lemmas.Int.Digits.{digits_value-lt}
 use Rattle.std.proofs.lemmas.List.{length-drop}

@@ -3,22 +3,14 @@ use Rattle.std.proofs.Common.{ℕ, ◌+◌, ◌≤◌, List, length, arith, leng
 use Rattle.html_escape.specs.Encoders.{encoded}
 use Rattle.html_escape.specs.declared.encoder.Encoder.{Encoder}
 use Rattle.hesc_grammars.specs.declared.place.Place.{Place}
-use Rattle.hesc_grammars.specs.declared.place.Place.TheVariants.{Text, DoubleAttribute, SingleAttribute, UnquotedAttribute, ScriptSingle, ScriptDouble, StyleSingle, StyleDouble, ScriptBody, StyleBody}
+use Rattle.hesc_grammars.specs.declared.place.Place.TheVariants.{Text}
 use Rattle.hesc_places.specs.Places.Enclosed.{enclosed}
 use Rattle.hesc_places.specs.Places.Marks.{closing, opening}
 
 -- the longest are those of a script
 few_marks : (place : Place) → length (opening place) + length (closing place) ≤ 17
 few_marks Text = omega arith
-few_marks DoubleAttribute = omega arith
-few_marks SingleAttribute = omega arith
-few_marks (UnquotedAttribute end) = omega arith
-few_marks ScriptSingle = omega arith
-few_marks ScriptDouble = omega arith
-few_marks StyleSingle = omega arith
-few_marks StyleDouble = omega arith
-few_marks ScriptBody = omega arith
-few_marks StyleBody = omega arith
+few_marks other = omega arith
 
 pub most_enclosed : (encoder : Encoder) (place : Place) (text : List ℕ) (most : ℕ) → length (encoded encoder text) ≤ most → length (enclosed encoder place text) ≤ most + 17
 most_enclosed encoder place text most short =

@@ -9,7 +9,7 @@ use Rattle.hesc_specs.specs.declared.classes.Class.TheVariants.{UnquotedAttribut
 use Rattle.hesc_specs.proofs.Html.Images.{in_class_is_ascii, kept_is_other}
 use Rattle.hesc_grammars.specs.declared.step.Mode.TheVariants.{Empty, Plain}
 use Rattle.hesc_grammars.specs.declared.place.End.{End}
-use Rattle.hesc_grammars.specs.declared.place.End.TheVariants.{Tab, LineFeed, FormFeed, Space, Greater}
+use Rattle.hesc_grammars.specs.declared.place.End.TheVariants.{Tab}
 use Rattle.hesc_grammars.specs.Html.{unquoted_step}
 use Rattle.hesc_grammars.specs.Places.{end_byte}
 use Rattle.hesc_grammars.specs.Reading.{reading_after}
@@ -48,10 +48,7 @@ unquoted_closes : (end : End) (rest : List ℕ) →
     reading_after (unquoted_step (end_byte end)) 0 Plain (end_byte end ∷ rest) ≡ Some ([], 0)
 unfolding unquoted_step
 unquoted_closes Tab rest = refl
-unquoted_closes LineFeed rest = refl
-unquoted_closes FormFeed rest = refl
-unquoted_closes Space rest = refl
-unquoted_closes Greater rest = refl
+unquoted_closes other rest = refl
 
 -- the first image is the item that stands before the ending
 unquoted_takes : (end : ℕ) (text : List ℕ) → length text ≢ 0 →

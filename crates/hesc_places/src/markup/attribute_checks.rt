@@ -73,7 +73,7 @@ fn fault_where(stood: bool, place: usize, attribute: Attribute) -> Option<FormFa
     None
 }
 
-#[tactic(auto, using(crate::proofs::Pages::NamesOfLetters::letters_to_the_end))]
+#[tactic(auto, using(crate::proofs::Pages::ParserLaws::letters_to_the_end))]
 fn is_name(name: &str) -> bool
     ensures { result ≡ is_name name.now }
 {

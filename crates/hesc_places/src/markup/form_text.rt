@@ -136,7 +136,7 @@ fn put_value<S: Sink>(quoting: Quoting, value: &str, sink: &mut S) -> Result<(),
 }
 
 /// What stands after the last attribute.
-#[tactic(auto, using(crate::proofs::Pages::LastGaps::gap_of_last, crate::proofs::Pages::LastGaps::gap_of_none))]
+#[tactic(auto, using(crate::proofs::Pages::FormBounds::gap_of_last, crate::proofs::Pages::FormBounds::gap_of_none))]
 pub(crate) fn gap(attributes: &[Attribute]) -> &'static str
     ensures { result.now ≡ gap (map written attributes.now) }
 {

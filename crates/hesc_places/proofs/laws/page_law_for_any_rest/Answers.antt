@@ -1,4 +1,4 @@
-use Rattle.hesc_places.proofs.Pages.PageLaw.{page_again}
+use Rattle.hesc_places.proofs.Pages.FormLaw.{page_again}
 use Rattle.hesc_places.proofs.laws.page_law_for_any_rest.Goals as goal
 
 pub returns : goal.returns

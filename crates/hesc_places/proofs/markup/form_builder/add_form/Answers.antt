@@ -1,6 +1,6 @@
 use Rattle.std.proofs.Common.{rules, map}
 use Rattle.hesc_places.specs.Pages.FormTexts.{written}
-use Rattle.hesc_places.proofs.Pages.AnsweredFaults.{answered, good, not_good}
+use Rattle.hesc_places.proofs.Pages.GoodAttributes.{answered, good, not_good}
 use Rattle.hesc_places.proofs.Pages.FormLaw.{form_again}
 use Rattle.hesc_places.proofs.markup.form_builder.add_form.Goals as goal
 

@@ -1,7 +1,7 @@
 use Rattle.std.proofs.Common.{◌≢◌, arith, ◌++◌, ap, ◌∙◌, length}
 use Rattle.std.specs.String.{string_bytes}
 use Rattle.std.proofs.lemmas.Grind.{common_steps}
-use Rattle.hesc_places.proofs.Pages.PageLaw.{page_again, page_is_form}
+use Rattle.hesc_places.proofs.Pages.FormLaw.{page_again, page_is_form}
 use Rattle.hesc_places.proofs.markup.page_builder.add_page.Goals as goal
 
 pub returns-clause-appended : goal.returns-clause-appended

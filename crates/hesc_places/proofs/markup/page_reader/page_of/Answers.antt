@@ -1,6 +1,6 @@
 use Rattle.std.proofs.Common.{rules, arith}
 use Rattle.hesc_places.specs.Pages.AttributeReadings.{entry}
-use Rattle.hesc_places.proofs.Pages.PageLaw.{no_page}
+use Rattle.hesc_places.proofs.Pages.FormLaw.{no_page}
 use Rattle.hesc_places.proofs.markup.page_reader.page_of.Goals as goal
 
 pub returns-then-len-ne2 : goal.returns-then-len-ne2

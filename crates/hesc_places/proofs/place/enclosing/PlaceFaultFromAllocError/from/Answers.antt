@@ -1,5 +1,0 @@
-use Rattle.std.proofs.Common.{rules}
-use Rattle.hesc_places.proofs.place.enclosing.PlaceFaultFromAllocError.from.Goals as goal
-
-pub returns : goal.returns
-returns c = search rules
