@@ -1,7 +1,4 @@
-pub mod Readings
 pub mod Values
-pub mod QuotedValues
-pub mod UnquotedValues
+pub mod HtmlValues
 pub mod Strings
-pub mod ScriptEscapes
-pub mod StyleEscapes
+pub mod Escapes

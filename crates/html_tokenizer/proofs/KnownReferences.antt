@@ -1,5 +1,5 @@
 -- A reference that the grammars of places read, by one of six names or a number, is read by the tokenizer as the same character.
-use Rattle.std.proofs.Common.{ℕ, ◌≡◌, Bool, true, false, not, ◌&&◌, ◌||◌, length, List, [], ◌∷◌, ◌++◌, ◌==◌, Option, Some, None, if◌then◌else◌, bytes_eq, codes, encode_utf8, refl, arith, ⊎_elim}
+use Rattle.std.proofs.Common.{ℕ, ◌≡◌, Bool, true, false, ◌&&◌, ◌||◌, List, [], ◌∷◌, ◌++◌, ◌==◌, Option, Some, None, if◌then◌else◌, bytes_eq, codes, encode_utf8, refl, arith, ⊎_elim}
 use Rattle.std.specs.Char.{is_ascii_alphanumeric, is_digit}
 use Rattle.std.specs.List.{list_all}
 use Rattle.std.proofs.lemmas.Bool.{and_parts, cases_Bool, eqb-true}
@@ -7,7 +7,7 @@ use Rattle.std.proofs.lemmas.Bool.Decides.{nat_tests}
 use Rattle.std.proofs.lemmas.Slice.Eq.{bytes_eq-Decides}
 use Rattle.hesc_specs.specs.Text.Ascii.{ampersand, double_quote, greater_than, less_than, number_sign, semicolon, single_quote}
 use Rattle.hesc_specs.specs.Text.Words.{begins}
-use Rattle.hesc_grammars.specs.References.{are_digits, body_character, digits_character, named_character, no_break_space}
+use Rattle.hesc_grammars.specs.References.{body_character, digits_character, named_character, no_break_space}
 use Rattle.html_entities.proofs.References.{same_value}
 use Rattle.html_tokenizer.specs.declared.slot_place.SlotPlace.{SlotPlace}
 use Rattle.html_tokenizer.specs.declared.elements.Content.{Content}
@@ -52,12 +52,7 @@ all_letters test is_letter (d ∷ digits) all =
 -- what has a character by digits is made of them
 digits_letters : (base : ℕ) → ((d : ℕ) → is_digit d base ≡ true → is_ascii_alphanumeric d ≡ true) →
     (digits : List ℕ) (c : ℕ) → digits_character base digits ≡ Some c → are_letters digits ≡ true
-digits_letters base is_letter digits c is =
-    ⊎_elim
-    (λ (are : are_digits base digits ≡ true).
-    all_letters (λ d. is_digit d base) is_letter digits (and_parts (not (length digits == 0)) (list_all (λ d. is_digit d base) digits) are).1)
-    (λ (none : are_digits base digits ≡ false). let never : None ≡ Some c = rw none at is in cc)
-    (cases_Bool (are_digits base digits))
+digits_letters base is_letter digits c is = all_letters (λ d. is_digit d base) is_letter digits (grind arith)
 
 -- an `x` before hex digits
 abbrev is_hex_mark : ℕ → Bool
@@ -97,38 +92,26 @@ named_as word name d c others here there is =
     (λ (other : bytes_eq name word ≡ false). there (rw other at is))
     (cases_Bool (bytes_eq name word))
 
-amp : IsNamed (codes "amp") ampersand
+six : IsNamed (codes "amp") ampersand × IsNamed (codes "apos") single_quote × IsNamed (codes "gt") greater_than ×
+    IsNamed (codes "lt") less_than × IsNamed (codes "nbsp") no_break_space × IsNamed (codes "quot") double_quote
 unfolding named_characters lib.Utf8.encode
-amp = record { value = same_value (codes "amp") (codes "&") refl; letters = refl }
-
-apos : IsNamed (codes "apos") single_quote
-unfolding named_characters lib.Utf8.encode
-apos = record { value = same_value (codes "apos") (codes "'") refl; letters = refl }
-
-gt : IsNamed (codes "gt") greater_than
-unfolding named_characters lib.Utf8.encode
-gt = record { value = same_value (codes "gt") (codes ">") refl; letters = refl }
-
-lt : IsNamed (codes "lt") less_than
-unfolding named_characters lib.Utf8.encode
-lt = record { value = same_value (codes "lt") (codes "<") refl; letters = refl }
-
-nbsp : IsNamed (codes "nbsp") no_break_space
-unfolding named_characters lib.Utf8.encode
-nbsp = record { value = same_value (codes "nbsp") (encode_utf8 no_break_space) refl; letters = refl }
-
-quot : IsNamed (codes "quot") double_quote
-unfolding named_characters lib.Utf8.encode
-quot = record { value = same_value (codes "quot") (double_quote ∷ []) refl; letters = refl }
+six = (
+  record { value = same_value (codes "amp") (codes "&") refl; letters = refl },
+  record { value = same_value (codes "apos") (codes "'") refl; letters = refl },
+  record { value = same_value (codes "gt") (codes ">") refl; letters = refl },
+  record { value = same_value (codes "lt") (codes "<") refl; letters = refl },
+  record { value = same_value (codes "nbsp") (encode_utf8 no_break_space) refl; letters = refl },
+  record { value = same_value (codes "quot") (double_quote ∷ []) refl; letters = refl },
+)
 
 named : (name : List ℕ) (c : ℕ) → named_character name ≡ Some c → IsNamed name c
 named name c =
-    named_as (codes "amp") name ampersand c _ amp
-    (named_as (codes "apos") name single_quote c _ apos
-    (named_as (codes "gt") name greater_than c _ gt
-    (named_as (codes "lt") name less_than c _ lt
-    (named_as (codes "nbsp") name no_break_space c _ nbsp
-    (named_as (codes "quot") name double_quote c _ quot (λ (never : None ≡ Some c). cc))))))
+    named_as (codes "amp") name ampersand c _ six.0
+    (named_as (codes "apos") name single_quote c _ six.1
+    (named_as (codes "gt") name greater_than c _ six.2
+    (named_as (codes "lt") name less_than c _ six.3
+    (named_as (codes "nbsp") name no_break_space c _ six.4
+    (named_as (codes "quot") name double_quote c _ six.5 (λ (never : None ≡ Some c). cc))))))
 
 name_known : (first : ℕ) (rest : List ℕ) (c : ℕ) → (first == number_sign) ≡ false → body_character (first ∷ rest) ≡ Some c → IsKnown (first ∷ rest) c
 name_known first rest c other is =

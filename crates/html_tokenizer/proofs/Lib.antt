@@ -4,9 +4,7 @@ pub mod KnownReferences
 pub mod Passing
 pub mod SettledWords
 pub mod ShortNames
-pub mod Staying
 pub mod Stretches
 pub mod Slots
 pub mod Agreement
 pub mod UrlValues
-pub mod Same

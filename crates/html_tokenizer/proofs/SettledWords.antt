@@ -1,6 +1,6 @@
 -- The words of a script, over bytes that are no marks and begin neither `import` nor `from`.
-use Rattle.std.proofs.Common.{ℕ, ◌≡◌, Bool, true, false, not, ◌||◌, ◌==◌, refl, ap, sym, ◌∙◌, if◌then◌else◌, arith, ⊎_elim}
-use Rattle.std.proofs.lemmas.Bool.{cases_Bool, eqb-true, or_parts}
+use Rattle.std.proofs.Common.{inl, inr, ℕ, ◌≡◌, Bool, true, false, not, ◌||◌, ◌==◌, refl, ap, sym, ◌∙◌, if◌then◌else◌, arith, ⊎_elim}
+use Rattle.std.proofs.lemmas.Bool.{cases_Bool, eqb-true}
 use Rattle.std.proofs.lemmas.Bool.Decides.{nat_tests}
 use Rattle.hesc_specs.specs.Text.Ascii.{number_sign, double_quote, single_quote, slash, less_than, backslash, backtick}
 use Rattle.html_tokenizer.specs.declared.states.Code.TheVariants.{Name, Plain}
@@ -27,38 +27,24 @@ begins_named b begins =
 
 module _ (content : Content) (b : ℕ) (unmarked : is_mark b ≡ false) where
   -- after a byte that is of no name
-  script_settles : (is : Bool) → is_name_byte b ≡ is → begins_word b ≡ false →
-      script_byte content b ≡ stays (if is then Name else Plain) content b
-  script_settles is named begins =
-      let double : (b == double_quote) ≡ false = grind (arith, nat_tests) in
-      let single : (b == single_quote) ≡ false = grind (arith, nat_tests) in
-      let reverse : (b == backslash) ≡ false = grind (arith, nat_tests) in
-      let tick : (b == backtick) ≡ false = grind (arith, nat_tests) in
-      let number : (b == number_sign) ≡ false = grind (arith, nat_tests) in
-      let solidus : (b == slash) ≡ false = grind (arith, nat_tests) in
-      let hyphen : (b == dash) ≡ false = grind (arith, nat_tests) in
-      let parts = or_parts (b == lower_i) (b == lower_f) begins in
-      elim is as (λ k. is_name_byte b ≡ k → script_byte content b ≡ stays (if k then Name else Plain) content b) [
-        | true ↦ λ h. rw (single, double, reverse, tick, number, solidus, hyphen, parts.0, parts.1, h) refl
-        | false ↦ λ h. rw (single, double, reverse, tick, number, solidus, hyphen, parts.0, parts.1, h) refl
-      ] named
-
-  -- after a byte that is of one
-  name_settles : (is : Bool) → is_name_byte b ≡ is → name_byte content b ≡ stays (if is then Name else Plain) content b
-  name_settles true named = rw named refl
-  name_settles false named =
-      let begins : begins_word b ≡ false =
-      ⊎_elim
-      (λ (does : begins_word b ≡ true). let both : true ≡ false = sym (begins_named b does) ∙ named in cc)
-      (λ (does_not : begins_word b ≡ false). does_not)
-      (cases_Bool (begins_word b)) in
-      let unnamed : name_byte content b ≡ script_byte content b = rw named refl in
-      unnamed ∙ script_settles false named begins
+  script_settles : begins_word b ≡ false → script_byte content b ≡ (if is_name_byte b then stays Name content b else stays Plain content b)
+  script_settles begins =
+      let marks : (b == double_quote || b == single_quote || b == backslash || b == backtick || b == number_sign || b == slash || b == dash || b == less_than) ≡ false = unmarked in
+      grind (arith, nat_tests)
 
   code_settles : (last is : Bool) → is_name_byte b ≡ is → (last ≡ false → begins_word b ≡ false) →
       script_code_byte (if last then Name else Plain) content b ≡ stays (if is then Name else Plain) content b
-  code_settles true is named begins = name_settles is named
-  code_settles false is named begins = script_settles is named (begins refl)
+  code_settles true true named begins = rw named refl
+  code_settles true false named begins =
+      let unbegun : begins_word b ≡ false =
+      elim (cases_Bool (begins_word b)) [
+        | inl does ↦ let both : true ≡ false = sym (begins_named b does) ∙ named in cc
+        | inr does_not ↦ does_not
+      ] in
+      let unnamed : name_byte content b ≡ script_byte content b = rw named refl in
+      unnamed ∙ script_settles unbegun ∙ rw named refl
+  code_settles false true named begins = script_settles (begins refl) ∙ rw named refl
+  code_settles false false named begins = script_settles (begins refl) ∙ rw named refl
 
 split : (named marked begins : Bool) → (if named then not marked else not (marked || begins)) ≡ true →
     (marked ≡ false) × (named ≡ false → begins ≡ false)

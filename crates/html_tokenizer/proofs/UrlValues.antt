@@ -3,7 +3,6 @@ pub mod Appending
 pub mod Attributes
 pub mod Bytes
 pub mod Ends
-pub mod FirstBytes
 pub mod Following
 pub mod Names
 pub mod Opening

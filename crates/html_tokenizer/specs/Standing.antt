@@ -1,5 +1,5 @@
 -- Where a slot stands in what was read, and where a page may end.
-use Rattle.std.specs.Prelude.{◌≡◌, ⊤, Bool, true, false, ◌&&◌, ◌==◌, if◌then◌else◌}
+use Rattle.std.specs.Prelude.{◌≡◌, Bool, true, false, ◌&&◌, ◌==◌, if◌then◌else◌}
 use Rattle.html_tokenizer.specs.declared.reader.Standing.{Standing}
 use Rattle.html_tokenizer.specs.declared.reader.Standing.TheVariants.{Stands, InUrl, InLink, InScript, Nowhere, Barred}
 use Rattle.html_tokenizer.specs.declared.slot_place.SlotPlace.{SlotPlace}
@@ -76,13 +76,20 @@ stands p other = false
 abbrev pub state_after_slot : SlotPlace → Tokenizer → Tokenizer
 state_after_slot p t = if stands p (standing t) then at_value (state.In p) t.content t.attribute else refused
 
--- where the tokenizer goes at a slot
+-- where the tokenizer goes at a slot: into a value that may begin there, and else it stays
 abbrev pub AfterStanding : Standing → Tokenizer → Tokenizer → Type 0
 AfterStanding (Stands p) old new = new ≡ state_after_slot p old
 AfterStanding (InUrl p) old new = new ≡ state_after_slot p old
 AfterStanding (InLink p) old new = new ≡ state_after_slot p old
-AfterStanding InScript old new = new ≡ old
-AfterStanding other old new = ⊤
+AfterStanding other old new = new ≡ old
+
+-- in a start tag, where behind a blank an attribute may begin: 13.2.5.32 Before attribute name state, 13.2.5.34 After attribute name
+-- state, 13.2.5.39 After attribute value (quoted) state
+abbrev pub is_between_attributes : State → Bool
+is_between_attributes state.BeforeName = true
+is_between_attributes (state.AfterName name) = true
+is_between_attributes state.AfterValue = true
+is_between_attributes other = false
 
 abbrev pub is_refused : State → Bool
 is_refused state.Refused = true

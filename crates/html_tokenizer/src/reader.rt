@@ -4,7 +4,7 @@ pub(crate) mod same;
 pub(crate) mod stretches;
 
 ghost use Rattle.std.specs.Prelude.{◌≡◌, ◌≤◌, ◌↔◌, [], IfOk, OnOk, IsTrue, length};
-ghost use Rattle.html_tokenizer.specs.Standing.{AfterStanding, is_refused, may_end, standing};
+ghost use Rattle.html_tokenizer.specs.Standing.{AfterStanding, is_between_attributes, is_refused, may_end, standing};
 ghost use Rattle.html_tokenizer.specs.Tokenizer.Attributes.{reference_read};
 ghost use Rattle.html_tokenizer.specs.Tokenizer.Code.Strings.{script_escape_byte};
 ghost use Rattle.html_tokenizer.specs.Tokenizer.Phases.{HoldsLetters, IsBeforeName, IsNoScriptEscape, IsTextOrValue, ReadsOn, attribute_in, moved, tokenizer_of};
@@ -431,6 +431,18 @@ impl<A: Allocator> Reader<A> {
         }
     }
 
+    /// Whether an attribute of a start tag may begin here, behind a blank.
+    ///
+    /// After `<p ` it is `true`, and after `<p` it is `false`.
+    pub fn is_between_attributes(&self) -> bool
+        ensures { result ≡ is_between_attributes (tokenizer_of self.now).state }
+    {
+        matches!(
+            self.phase,
+            Phase::BeforeName | Phase::AfterName | Phase::AfterValue
+        )
+    }
+
     /// Whether what was read has no reading.
     ///
     /// After `<xmp>` it is `true`, and after `<p>` it is `false`.
@@ -458,8 +470,8 @@ impl<A: Allocator> Reader<A> {
         }
     }
 
-    /// Where a slot stands that comes now; the tokenizer goes on after it, if it is a place. In the code of a
-    /// script it stays where it is, as behind a string literal.
+    /// Where a slot stands that comes now; the tokenizer goes on after it, if it is a place. Else it stays where
+    /// it is, as in the code of a script behind a string literal.
     ///
     /// After `<p>` it is `Standing::Stands(SlotPlace::Text)`, and after `<p` it is `Standing::Nowhere`.
     pub fn slot(&mut self) -> Standing

@@ -1,29 +1,51 @@
--- Values with references: where a place has a reading, the tokenizer stays in the value up to its end, and
--- its actions are at the same value, unless a byte stands there that the two read in different ways.
-use Rattle.std.proofs.Common.{ℕ, zero, suc, ◌≡◌, ◌≤◌, ◌+◌, Bool, true, false, List, [], ◌∷◌, ◌++◌, ◌==◌, ◌⊎◌, inl, inr, Option, Some, None, length, map, encode_utf8, refl, subst, sym, ap, ◌∙◌, ⊎_elim, arith, append_assoc, length-append}
+-- Where a reading ends: at the mark, or after a piece where it ends after the bytes behind the piece. And values with references: where a
+-- place has a reading, the tokenizer stays in the value up to its end, and its actions are at the same value, unless a byte stands there
+-- that the two read in different ways.
+use Rattle.std.proofs.Common.{ℕ, ◌≡◌, ◌+◌, List, [], ◌∷◌, ◌++◌, Option, Some, None, length, refl, sym, ap, ◌∙◌, append_assoc, length-append, subst, zero, suc, ◌≤◌, Bool, true, false, ◌==◌, ◌⊎◌, inl, inr, encode_utf8, ⊎_elim, arith}
+use Rattle.hesc_grammars.specs.Reading.{after, reading_after}
+use Rattle.html_tokenizer.specs.Agreement.{Ends}
 use Rattle.std.specs.List.{position_from}
 use Rattle.std.proofs.lemmas.Bool.{cases_Bool, eqb-true}
-use Rattle.std.proofs.lemmas.List.{map-append}
 use Rattle.hesc_specs.specs.Text.Ascii.{ampersand, semicolon}
-use Rattle.hesc_specs.specs.declared.classes.Class.{Class}
 use Rattle.hesc_grammars.specs.declared.step.Mode.{Mode}
 use Rattle.hesc_grammars.specs.declared.step.Mode.TheVariants.{Plain}
 use Rattle.hesc_grammars.specs.declared.step.Step.{Step}
 use Rattle.hesc_grammars.specs.declared.step.Step.TheVariants.{Close, Byte, Nothing}
-use Rattle.hesc_grammars.specs.Reading.{reading_after}
 use Rattle.hesc_grammars.specs.References.{body_character, reference}
+use Rattle.hesc_grammars.proofs.HtmlPieces.{takes_reference}
 use Rattle.hesc_grammars.proofs.ReferenceBodies.{HasNoSemicolon, reference-body}
-use Rattle.hesc_grammars.proofs.Takes.{Takes, takes_character}
 use Rattle.html_tokenizer.specs.declared.elements.Content.{Content}
 use Rattle.html_tokenizer.specs.declared.slot_place.SlotPlace.{SlotPlace}
 use Rattle.html_tokenizer.specs.Tokenizer.Actions.{read_byte}
 use Rattle.html_tokenizer.specs.Tokenizer.States.{State, In, Ordinary, at}
 use Rattle.html_tokenizer.specs.Tokenizer.Tokenization.{consume}
 use Rattle.html_tokenizer.specs.Tokenizer.Transitions.{keeps}
-use Rattle.html_tokenizer.specs.Agreement.{Ends}
-use Rattle.html_tokenizer.proofs.Passing.{Passes, passes_none, passes_both, passes_byte}
-use Rattle.html_tokenizer.proofs.Slots.Html.{ReadsHtml, passes_character}
-use Rattle.html_tokenizer.proofs.Agreement.Readings.{Following, after_some, ends_following, ends_here}
+use Rattle.html_tokenizer.proofs.Passing.{passes_none, passes_one, passes_texts}
+use Rattle.html_tokenizer.proofs.Slots.Html.{ReadsReferences, Stays, reference_stays}
+
+pub ends_here : {Read : List ℕ → List ℕ → Type 0} {mark : ℕ} (bytes : List ℕ) (found : List ℕ × ℕ) →
+    Some ([], 0) ≡ Some found → Read [] [] → Ends Read mark (mark ∷ bytes) found
+ends_here {Read} {mark} bytes found closed read =
+    let same : ([], 0) ≡ found = cc in
+    subst (Ends Read mark (mark ∷ bytes)) same (record { front = []; rest = bytes; parts = refl; end = refl; read = read })
+
+pub ends_after : {Old New : List ℕ → List ℕ → Type 0} {mark : ℕ} (piece value bytes : List ℕ) (found : List ℕ × ℕ) (reading : Option (List ℕ × ℕ)) →
+    after value (length piece) reading ≡ Some found → ((f : List ℕ × ℕ) → reading ≡ Some f → Ends Old mark bytes f) →
+    ((front more rest : List ℕ) → bytes ≡ front ++ mark ∷ rest → Old front more → New (piece ++ front) (value ++ more)) →
+    Ends New mark (piece ++ bytes) found
+ends_after piece value bytes found None is ends read = cc
+ends_after {New = New} {mark = mark} piece value bytes found (Some f) is ends read =
+    let same : (value ++ f.0, length piece + f.1) ≡ found = cc in
+    let behind = ends f refl in
+    subst (Ends New mark (piece ++ bytes)) same (record {
+      front = piece ++ behind.front;
+      rest = behind.rest;
+      parts = ap (λ x. piece ++ x) behind.parts ∙ sym (append_assoc piece behind.front (mark ∷ behind.rest));
+      end = length-append piece behind.front ∙ ap (λ n. length piece + n) behind.end;
+      read = read behind.front f.0 behind.rest behind.parts behind.read;
+    })
+
+-- ---- values with references
 
 -- bytes up to the first `;`
 record Split (bytes : List ℕ) : Type 0 where
@@ -31,14 +53,6 @@ record Split (bytes : List ℕ) : Type 0 where
   rest : List ℕ
   parts : bytes ≡ body ++ semicolon ∷ rest
   none : HasNoSemicolon body
-
-one_more : (b : ℕ) (bytes : List ℕ) → (b == semicolon) ≡ false → Split bytes → Split (b ∷ bytes)
-one_more b bytes other found = record {
-  body = b ∷ found.body;
-  rest = found.rest;
-  parts = ap (λ x. b ∷ x) found.parts;
-  none = rw other found.none;
-}
 
 split : (bytes : List ℕ) (start k : ℕ) → position_from (λ b. b == semicolon) start bytes ≡ Some k → Split bytes
 split [] start k found = cc
@@ -50,7 +64,9 @@ split (b ∷ bytes) start k found =
       parts = ap (λ x. x ∷ bytes) (eqb-true b semicolon is);
       none = refl;
     })
-    (λ (other : (b == semicolon) ≡ false). one_more b bytes other (split bytes (start + 1) k (rw other at found)))
+    (λ (other : (b == semicolon) ≡ false).
+    let more : Split bytes = split bytes (start + 1) k (rw other at found) in
+    record { body = b ∷ more.body; rest = more.rest; parts = ap (λ x. b ∷ x) more.parts; none = rw other more.none })
     (cases_Bool (b == semicolon))
 
 -- a byte that passes the test stands in the bytes
@@ -80,78 +96,64 @@ pub data AtByte (start : State) (p : SlotPlace) (content : Content) (mark : ℕ)
 
 -- the state and the mode in which a value begins or goes on
 pub record ReadsValue (start : State) (mode : Mode) (p : SlotPlace) (content : Content) (mark : ℕ) (odd : ℕ → Bool)
-    (step : Mode → List ℕ → Step) (class : Class) : Type 0 where
-  pub html : ReadsHtml Ordinary start p content class
-  pub references : (bytes : List ℕ) → step mode (ampersand ∷ bytes) ≡ reference bytes
+    (step : Mode → List ℕ → Step) : Type 0 where
+  pub tokenizer : ReadsReferences Ordinary start p content
+  pub grammar : (bytes : List ℕ) → step mode (ampersand ∷ bytes) ≡ reference bytes
   pub others : (b : ℕ) → (b == ampersand) ≡ false → AtByte start p content mark odd (step mode) b
 
 -- the tokenizer is in the value after the bytes, or one stands there at which the two differ
 abbrev pub Reads : State → SlotPlace → Content → (ℕ → Bool) → List ℕ → List ℕ → Type 0
-Reads start p content odd front value =
-    Passes (at start content) front (map (read_byte p) value) (at (In p) content) ⊎ Has odd front
+Reads start p content odd front value = Stays Ordinary p start content front value ⊎ Has odd front
 
-module _ {start : State} {mode : Mode} {p : SlotPlace} {content : Content} {mark : ℕ} {odd : ℕ → Bool} {step : Mode → List ℕ → Step} {class : Class}
-    (reads : ReadsValue start mode p content mark odd step class) where
-  -- a piece that both take, before bytes that both read
-  goes_on : (piece value bytes : List ℕ) (found : List ℕ × ℕ) →
-      Passes (at start content) piece (map (read_byte p) value) (at (In p) content) →
-      (following : Following value (length piece) (reading_after step 0 Plain bytes) found) →
-      Ends (Reads (In p) p content odd) mark bytes following.rest → Ends (Reads start p content odd) mark (piece ++ bytes) found
-  goes_on piece value bytes found passes following ends =
-      ends_following piece value bytes found following ends
-      (⊎_elim
-      (λ (more : Passes (at (In p) content) ends.front (map (read_byte p) following.rest.0) (at (In p) content)).
-      inl (rw (following.value_is, map-append (read_byte p) value following.rest.0) (passes_both passes more)))
-      (λ (has : Has odd ends.front). inr (has_following piece ends.front has))
-      ends.read)
-
-  takes_reference : (body : List ℕ) (c : ℕ) → HasNoSemicolon body → body_character body ≡ Some c →
-      Takes step mode (ampersand ∷ (body ++ semicolon ∷ [])) (encode_utf8 c) Plain
-  takes_reference body c none is =
-      takes_character c (λ rest. reads.references ((body ++ semicolon ∷ []) ++ rest)
-      ∙ rw (append_assoc body (semicolon ∷ []) rest, reference-body body rest none, is, length-append body (semicolon ∷ [])) refl)
-
-  no_reference_none : (bytes : List ℕ) → position_from (λ b. b == semicolon) 0 bytes ≡ None →
-      reading_after step 0 mode (ampersand ∷ bytes) ≡ None
-  no_reference_none bytes none = rw (reads.references bytes, none) refl
-
-  no_character_none : (body rest : List ℕ) → HasNoSemicolon body → body_character body ≡ None →
-      reading_after step 0 mode (ampersand ∷ (body ++ semicolon ∷ rest)) ≡ None
-  no_character_none body rest none is = rw (reads.references (body ++ semicolon ∷ rest), reference-body body rest none, is) refl
-
-  -- what both read of the bytes after a reference, they read of all
+module _ {start : State} {mode : Mode} {p : SlotPlace} {content : Content} {mark : ℕ} {odd : ℕ → Bool} {step : Mode → List ℕ → Step}
+    (reads : ReadsValue start mode p content mark odd step) where
+  -- what both read of the bytes after an item, they read of all
   abbrev GoesOn : ℕ → Type 0
   GoesOn n = (rest : List ℕ) (f : List ℕ × ℕ) → length rest ≤ n → reading_after step 0 Plain rest ≡ Some f → Ends (Reads (In p) p content odd) mark rest f
 
-  by_character : (n : ℕ) → GoesOn n → (bytes : List ℕ) (found : List ℕ × ℕ) → length bytes ≤ n →
-      reading_after step 0 mode (ampersand ∷ bytes) ≡ Some found → (s : Split bytes) (character : Option ℕ) → body_character s.body ≡ character →
-      Ends (Reads start p content odd) mark (ampersand ∷ bytes) found
-  by_character n go bytes found enough is s None none =
-      let nothing : None ≡ Some found =
-      sym (no_character_none s.body s.rest s.none none)
-      ∙ sym (ap (λ x. reading_after step 0 mode (ampersand ∷ x)) s.parts) ∙ is in
-      cc
-  by_character n go bytes found enough is s (Some c) read =
-      let piece : List ℕ = ampersand ∷ (s.body ++ semicolon ∷ []) in
-      let whole : ampersand ∷ bytes ≡ piece ++ s.rest =
-      ap (λ x. ampersand ∷ x) (s.parts ∙ sym (append_assoc s.body (semicolon ∷ []) s.rest)) in
-      let following : Following (encode_utf8 c) (length piece) (reading_after step 0 Plain s.rest) found =
-      after_some (encode_utf8 c) (length piece) (reading_after step 0 Plain s.rest) found
-      (sym ((takes_reference s.body c s.none read).goes_on s.rest)
-      ∙ sym (ap (λ x. reading_after step 0 mode x) whole) ∙ is) in
-      let long : length bytes ≡ length s.body + length (semicolon ∷ s.rest) = ap length s.parts ∙ length-append s.body (semicolon ∷ s.rest) in
-      let fewer : length s.rest ≤ n = omega arith in
-      subst (λ x. Ends (Reads start p content odd) mark x found) (sym whole)
-      (goes_on piece (encode_utf8 c) s.rest found (passes_character reads.html s.body c read) following (go s.rest following.rest fewer following.is))
+  -- a piece that both take
+  goes_on : (n : ℕ) → GoesOn n → (piece value bytes : List ℕ) (found : List ℕ × ℕ) → length bytes ≤ n → Reads start p content odd piece value →
+      after value (length piece) (reading_after step 0 Plain bytes) ≡ Some found → Ends (Reads start p content odd) mark (piece ++ bytes) found
+  goes_on n go piece value bytes found enough (inl stays) is =
+      ends_after piece value bytes found (reading_after step 0 Plain bytes) is (λ f rest_is. go bytes f enough rest_is)
+      (λ front more rest parts read.
+      ⊎_elim
+      (λ (stays_more : Stays Ordinary p (In p) content front more). inl (passes_texts (read_byte p) value more stays stays_more))
+      (λ (has : Has odd front). inr (has_following piece front has))
+      read)
+  goes_on n go piece value bytes found enough (inr has) is =
+      ends_after piece value bytes found (reading_after step 0 Plain bytes) is (λ f rest_is. go bytes f enough rest_is)
+      (λ front more rest parts read. inr (record {
+        before = has.before;
+        byte = has.byte;
+        following = has.following ++ front;
+        parts = ap (λ x. x ++ front) has.parts ∙ append_assoc has.before (has.byte ∷ has.following) front;
+        is = has.is;
+      }))
+
+  by_character : (n : ℕ) → GoesOn n → (body rest : List ℕ) (found : List ℕ × ℕ) → length rest ≤ n → HasNoSemicolon body →
+      reading_after step 0 mode (ampersand ∷ (body ++ semicolon ∷ rest)) ≡ Some found → (character : Option ℕ) → body_character body ≡ character →
+      Ends (Reads start p content odd) mark (ampersand ∷ (body ++ semicolon ∷ rest)) found
+  by_character n go body rest found enough none is None read =
+      let never : None ≡ Some found = rw (reads.grammar (body ++ semicolon ∷ rest), reference-body body rest none, read) at is in cc
+  by_character n go body rest found enough none is (Some c) read =
+      let piece : List ℕ = ampersand ∷ (body ++ semicolon ∷ []) in
+      let whole : piece ++ rest ≡ ampersand ∷ (body ++ semicolon ∷ rest) = ap (λ x. ampersand ∷ x) (append_assoc body (semicolon ∷ []) rest) in
+      subst (λ x. Ends (Reads start p content odd) mark x found) whole
+      (goes_on n go piece (encode_utf8 c) rest found enough (inl (reference_stays reads.tokenizer body c read))
+      (sym ((takes_reference {step = step} {mode = mode} reads.grammar body c none read).goes_on rest) ∙ ap (reading_after step 0 mode) whole ∙ is))
 
   by_semicolon : (n : ℕ) → GoesOn n → (bytes : List ℕ) (found : List ℕ × ℕ) → length bytes ≤ n →
       reading_after step 0 mode (ampersand ∷ bytes) ≡ Some found → (place : Option ℕ) → position_from (λ b. b == semicolon) 0 bytes ≡ place →
       Ends (Reads start p content odd) mark (ampersand ∷ bytes) found
   by_semicolon n go bytes found enough is None none =
-      let nothing : None ≡ Some found = sym (no_reference_none bytes none) ∙ is in cc
+      let never : None ≡ Some found = rw (reads.grammar bytes, none) at is in cc
   by_semicolon n go bytes found enough is (Some k) first =
       let s : Split bytes = split bytes 0 k first in
-      by_character n go bytes found enough is s (body_character s.body) refl
+      let long : length bytes ≡ length s.body + length (semicolon ∷ s.rest) = ap length s.parts ∙ length-append s.body (semicolon ∷ s.rest) in
+      subst (λ x. Ends (Reads start p content odd) mark (ampersand ∷ x) found) (sym s.parts)
+      (by_character n go s.body s.rest found (omega arith) s.none
+      (subst (λ x. reading_after step 0 mode (ampersand ∷ x) ≡ Some found) s.parts is) (body_character s.body) refl)
 
   -- at a byte that begins no reference
   at_byte : (n : ℕ) → GoesOn n → (b : ℕ) (bytes : List ℕ) (found : List ℕ × ℕ) → length bytes ≤ n →
@@ -162,15 +164,10 @@ module _ {start : State} {mode : Mode} {p : SlotPlace} {content : Content} {mark
       rw (at_mark, within) (ends_here bytes found closed (inl passes_none))
   at_byte n go b bytes found enough is (nothing none) = let never : None ≡ Some found = rw (none bytes) at is in cc
   at_byte n go b bytes found enough is (kept takes keeps_it) =
-      let following : Following (b ∷ []) 1 (reading_after step 0 Plain bytes) found =
-      after_some (b ∷ []) 1 (reading_after step 0 Plain bytes) found (rw (takes bytes) at is) in
-      goes_on (b ∷ []) (b ∷ []) bytes found (passes_byte keeps_it passes_none) following (go bytes following.rest enough following.is)
+      goes_on n go (b ∷ []) (b ∷ []) bytes found enough (inl (passes_one (read_byte p b ∷ []) keeps_it)) (rw (takes bytes) at is)
   at_byte n go b bytes found enough is (differs takes odd_is) =
-      let following : Following (b ∷ []) 1 (reading_after step 0 Plain bytes) found =
-      after_some (b ∷ []) 1 (reading_after step 0 Plain bytes) found (rw (takes bytes) at is) in
-      let ends : Ends (Reads (In p) p content odd) mark bytes following.rest = go bytes following.rest enough following.is in
-      ends_following (b ∷ []) (b ∷ []) bytes found following ends
-      (inr (record { before = []; byte = b; following = ends.front; parts = refl; is = odd_is }))
+      goes_on n go (b ∷ []) (b ∷ []) bytes found enough
+      (inr (record { before = []; byte = b; following = []; parts = refl; is = odd_is })) (rw (takes bytes) at is)
 
   -- where what follows one item is read by both, so are all the bytes
   pub from_first : (n : ℕ) → GoesOn n → (bytes : List ℕ) (found : List ℕ × ℕ) → length bytes ≤ suc n →
@@ -185,8 +182,8 @@ module _ {start : State} {mode : Mode} {p : SlotPlace} {content : Content} {mark
       (λ (other : (b == ampersand) ≡ false). at_byte n go b bytes found (omega arith) is (reads.others b other))
       (cases_Bool (b == ampersand))
 
-module _ {p : SlotPlace} {content : Content} {mark : ℕ} {odd : ℕ → Bool} {step : Mode → List ℕ → Step} {class : Class}
-    (reads : ReadsValue (In p) Plain p content mark odd step class) where
+module _ {p : SlotPlace} {content : Content} {mark : ℕ} {odd : ℕ → Bool} {step : Mode → List ℕ → Step}
+    (reads : ReadsValue (In p) Plain p content mark odd step) where
   pub both_read : (n : ℕ) (bytes : List ℕ) (found : List ℕ × ℕ) → length bytes ≤ n →
       reading_after step 0 Plain bytes ≡ Some found → Ends (Reads (In p) p content odd) mark bytes found
   both_read n [] found enough is = cc

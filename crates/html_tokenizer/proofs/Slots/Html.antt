@@ -1,19 +1,19 @@
 -- What an HTML encoder writes stays in the value, and is read as the text.
-use Rattle.std.proofs.Common.{ℕ, ◌≡◌, ◌≢◌, ◌<◌, true, false, List, [], ◌∷◌, ◌++◌, ◌==◌, Some, length, flat_map, map, encode_utf8, refl, subst, sym, ap, ◌∙◌, ⊎_elim, append_assoc, append-nil, ne_eqb}
-use Rattle.std.proofs.lemmas.Bool.{cases_Bool, and_parts}
-use Rattle.std.proofs.lemmas.Str.{encode_ascii}
-use Rattle.std.proofs.lemmas.List.{map-append}
-use Rattle.hesc_specs.specs.Text.Ascii.{tab, line_feed, form_feed, carriage_return, space, double_quote, ampersand, single_quote, semicolon, less_than, equals_sign, greater_than, backtick}
+use Rattle.std.proofs.Common.{ℕ, ◌≡◌, ◌≢◌, true, false, List, [], ◌∷◌, ◌++◌, ◌==◌, Some, length, map, flat_map, encode_utf8, refl, subst, sym, ap, ◌∙◌, append_assoc, append-nil, arith, ne_eqb}
+use Rattle.std.proofs.lemmas.Bool.{and_parts, or_parts}
+use Rattle.std.proofs.lemmas.Bool.Decides.{nat_tests}
+use Rattle.hesc_specs.specs.Text.Ascii.{carriage_return, double_quote, ampersand, single_quote, semicolon, less_than, equals_sign, greater_than, backtick}
 use Rattle.hesc_specs.specs.Text.Classes.{in_class, IsHtml}
-use Rattle.hesc_specs.specs.Html.{encoding, image, reference_to}
-use Rattle.hesc_specs.specs.Text.Nul.{nul, nul_image}
+use Rattle.hesc_specs.specs.Html.{encoding}
+use Rattle.hesc_specs.specs.Text.Nul.{nul}
 use Rattle.hesc_specs.specs.declared.classes.Class.{Class}
 use Rattle.hesc_specs.specs.declared.classes.Class.TheVariants as class
-use Rattle.hesc_specs.proofs.Html.Images.{in_class_is_ascii, kept_is_other}
+use Rattle.hesc_specs.proofs.Html.Images.{in_class-ampersand, kept_is_other}
+use Rattle.hesc_grammars.specs.Html.{ends_unquoted, is_unquoted_error}
 use Rattle.hesc_grammars.specs.References.{body_character}
-use Rattle.hesc_grammars.proofs.HtmlPieces.{read_image}
+use Rattle.hesc_grammars.specs.Words.{is_white_space}
+use Rattle.hesc_grammars.proofs.HtmlPieces.{ReadsPieces, read_image, encoding_reads, image_reads}
 use Rattle.hesc_grammars.proofs.ReadBacks.{read_back-text, read_back-nul}
-use Rattle.hesc_grammars.proofs.ReferenceImages.{IsRead, reference_to_is_read, body_to, character_to}
 use Rattle.html_tokenizer.specs.declared.slot_place.SlotPlace.{SlotPlace}
 use Rattle.html_tokenizer.specs.declared.slot_place.SlotPlace.TheVariants as place
 use Rattle.html_tokenizer.specs.declared.elements.Content.{Content}
@@ -23,8 +23,11 @@ use Rattle.html_tokenizer.specs.Tokenizer.States.{Attribute, State, In, Within, 
 use Rattle.html_tokenizer.specs.Tokenizer.Tokenization.{consume, value_byte}
 use Rattle.html_tokenizer.specs.Tokenizer.Transitions.{moves}
 use Rattle.html_tokenizer.specs.Tokenizer.Values.References.{behind_word, goes_on, reference_byte}
+use Rattle.html_tokenizer.specs.Tokenizer.Stretches.{leaves_value}
+use Rattle.html_tokenizer.specs.Tokenizer.Tags.{is_space}
+use Rattle.html_tokenizer.proofs.Stretches.{byte_kept}
 use Rattle.html_tokenizer.proofs.KnownReferences.{IsKnown, is_held, known}
-use Rattle.html_tokenizer.proofs.Passing.{Passes, passes_none, passes_both, passes_byte, passes_one}
+use Rattle.html_tokenizer.proofs.Passing.{Passes, passes_none, passes_both, passes_byte, passes_one, passes_texts}
 
 -- no byte of its value and no reference changes the attribute
 pub record Remains (attribute : Attribute) : Type 0 where
@@ -34,231 +37,167 @@ pub record Remains (attribute : Attribute) : Type 0 where
 pub ordinary_remains : Remains Ordinary
 ordinary_remains = record { bytes = λ b. refl; references = refl }
 
--- in the state a value begins or goes on that has references, and each byte outside of the class is kept
-pub record ReadsHtml (attribute : Attribute) (state : State) (p : SlotPlace) (content : Content) (class : Class) : Type 0 where
-  pub html : IsHtml class
-  pub references : consume (at_value state content attribute) ampersand ≡ moves (at_value (Within p []) content attribute) []
-  pub within : (word : List ℕ) (b : ℕ) → consume (at_value (Within p word) content attribute) b
-      ≡ reference_byte p content attribute word b (value_byte p content (behind_word word attribute) b)
-  pub others : (b : ℕ) → in_class class b ≡ false → consume (at_value state content attribute) b
-      ≡ moves (at_value (In p) content attribute) (read_byte p b ∷ [])
-
--- the body of a reference is read on
-passes_body : {attribute : Attribute} {state : State} {p : SlotPlace} {content : Content} {class : Class} → ReadsHtml attribute state p content class →
-    (word body : List ℕ) → is_held word body ≡ true →
-    Passes (at_value (Within p word) content attribute) body [] (at_value (Within p (word ++ body)) content attribute)
-passes_body reads word [] held = rw (append-nil word) passes_none
-passes_body {attribute} {p = p} {content} reads word (b ∷ body) held =
-    let parts = and_parts (goes_on word b) (is_held (word ++ b ∷ []) body) held in
-    let is : consume (at_value (Within p word) content attribute) b ≡ moves (at_value (Within p (word ++ b ∷ [])) content attribute) [] =
-    reads.within word b ∙ rw parts.0 refl in
-    rw (sym (append_assoc word (b ∷ []) body)) (passes_byte is (passes_body reads (word ++ b ∷ []) body parts.1))
-
-encode_utf8-character_to : (b : ℕ) → b < 128 → encode_utf8 (character_to b) ≡ nul_image b
-encode_utf8-character_to b small =
-    ⊎_elim
-    (λ (is_nul : (b == 0) ≡ true). rw is_nul refl)
-    (λ (other : (b == 0) ≡ false). rw other (encode_ascii b small))
-    (cases_Bool (b == 0))
-
--- a reference whose body stands for a character
-pub passes_character : {attribute : Attribute} {state : State} {p : SlotPlace} {content : Content} {class : Class} →
-    ReadsHtml attribute state p content class → (body : List ℕ) (c : ℕ) → body_character body ≡ Some c →
-    Passes (at_value state content attribute) (ampersand ∷ (body ++ semicolon ∷ [])) (map (read_byte p) (encode_utf8 c)) (at_value (In p) content attribute)
-passes_character {attribute} {p = p} {content} reads body c is =
-    let reference : IsKnown body c = known body c is in
-    let ends : consume (at_value (Within p body) content attribute) semicolon ≡ moves (at_value (In p) content attribute) (map (read_byte p) (encode_utf8 c)) =
-    reads.within body semicolon ∙ reference.read p content attribute (value_byte p content (behind_word body attribute) semicolon) in
-    passes_byte reads.references
-    (passes_both (passes_body reads [] body reference.held) (passes_one (map (read_byte p) (encode_utf8 c)) ends))
-
-passes_reference : {attribute : Attribute} {state : State} {p : SlotPlace} {content : Content} {class : Class} →
-    ReadsHtml attribute state p content class → (b : ℕ) → b < 128 →
-    Passes (at_value state content attribute) (reference_to b) (map (read_byte p) (nul_image b)) (at_value (In p) content attribute)
-passes_reference reads b small =
-    let is : IsRead b = reference_to_is_read b small in
-    rw (is.parts, ← encode_utf8-character_to b small) (passes_character reads (body_to b) (character_to b) is.character)
-
-passes_image : {attribute : Attribute} {state : State} {p : SlotPlace} {content : Content} {class : Class} →
-    ReadsHtml attribute state p content class → (b : ℕ) →
-    Passes (at_value state content attribute) (image class b) (map (read_byte p) (read_image class b)) (at_value (In p) content attribute)
-passes_image {class = class} reads b =
-    ⊎_elim
-    (λ (replaced : in_class class b ≡ true).
-    rw replaced (passes_reference reads b (in_class_is_ascii class b reads.html replaced)))
-    (λ (kept : in_class class b ≡ false). rw kept (passes_byte (reads.others b kept) passes_none))
-    (cases_Bool (in_class class b))
-
-passes_encoding : {attribute : Attribute} {p : SlotPlace} {content : Content} {class : Class} → ReadsHtml attribute (In p) p content class →
-    (text : List ℕ) → Passes (at_value (In p) content attribute) (encoding class text) (map (read_byte p) (flat_map (read_image class) text)) (at_value (In p) content attribute)
-passes_encoding reads [] = passes_none
-passes_encoding {p = p} {class = class} reads (b ∷ text) =
-    rw (map-append (read_byte p) (read_image class b) (flat_map (read_image class) text))
-    (passes_both (passes_image reads b) (passes_encoding reads text))
-
--- a byte that the encoder keeps is none that it replaces
-differs : (class : Class) (b : ℕ) → in_class class b ≡ false →
-    (c : ℕ) → in_class class c ≡ true → (b == c) ≡ false
-differs class b kept c replaced = ne_eqb b c (kept_is_other class b c kept replaced)
-
-module _ {attribute : Attribute} (remains : Remains attribute) where
-  -- in a reference it is the same attribute
-  read_within : (p : SlotPlace) (content : Content) (word : List ℕ) (b : ℕ) →
-      reference_byte p content (reference_read attribute) word b (value_byte p content (behind_word word (reference_read attribute)) b)
-      ≡ reference_byte p content attribute word b (value_byte p content (behind_word word attribute) b)
-  read_within p content word b = ap (λ a. reference_byte p content a word b (value_byte p content (behind_word word a) b)) remains.references
-
-  pub text_reads_in : (content : Content) → ReadsHtml attribute (In place.Text) place.Text content class.Text
-  unfolding consume
-  text_reads_in content = record {
-    html = refl;
-    references = rw remains.references refl;
-    within = read_within place.Text content;
-    others = λ b kept. rw (differs class.Text b kept less_than refl, differs class.Text b kept ampersand refl, remains.bytes b) refl;
-  }
-
-  pub double_reads_in : (content : Content) → ReadsHtml attribute (In place.DoubleQuoted) place.DoubleQuoted content class.DoubleQuotedAttribute
-  unfolding consume
-  double_reads_in content = record {
-    html = refl;
-    references = rw remains.references refl;
-    within = read_within place.DoubleQuoted content;
-    others = λ b kept.
-        rw (differs class.DoubleQuotedAttribute b kept double_quote refl, differs class.DoubleQuotedAttribute b kept ampersand refl, remains.bytes b) refl;
-  }
-
-  pub single_reads_in : (content : Content) → ReadsHtml attribute (In place.SingleQuoted) place.SingleQuoted content class.SingleQuotedAttribute
-  unfolding consume
-  single_reads_in content = record {
-    html = refl;
-    references = rw remains.references refl;
-    within = read_within place.SingleQuoted content;
-    others = λ b kept.
-        rw (differs class.SingleQuotedAttribute b kept single_quote refl, differs class.SingleQuotedAttribute b kept ampersand refl, remains.bytes b) refl;
-  }
-
-  pub unquoted_reads_in : (content : Content) → ReadsHtml attribute (In place.Unquoted) place.Unquoted content class.UnquotedAttribute
-  unfolding consume
-  unquoted_reads_in content = record {
-    html = refl;
-    references = rw remains.references refl;
-    within = read_within place.Unquoted content;
-    others = λ b kept.
-        let no : (c : ℕ) → in_class class.UnquotedAttribute c ≡ true → (b == c) ≡ false = differs class.UnquotedAttribute b kept in
-        rw (
-          no tab refl,
-          no line_feed refl,
-          no form_feed refl,
-          no carriage_return refl,
-          no space refl,
-          no greater_than refl,
-          no ampersand refl,
-          no double_quote refl,
-          no single_quote refl,
-          no less_than refl,
-          no equals_sign refl,
-          no backtick refl,
-          remains.bytes b,
-        ) refl;
-  }
-
-  pub first_reads_in : (content : Content) → ReadsHtml attribute BeforeValue place.Unquoted content class.UnquotedAttribute
-  unfolding consume
-  first_reads_in content = record {
-    html = refl;
-    references = rw remains.references refl;
-    within = read_within place.Unquoted content;
-    others = λ b kept.
-        let no : (c : ℕ) → in_class class.UnquotedAttribute c ≡ true → (b == c) ≡ false = differs class.UnquotedAttribute b kept in
-        rw (
-          no tab refl,
-          no line_feed refl,
-          no form_feed refl,
-          no carriage_return refl,
-          no space refl,
-          no greater_than refl,
-          no ampersand refl,
-          no double_quote refl,
-          no single_quote refl,
-          no less_than refl,
-          no equals_sign refl,
-          no backtick refl,
-          remains.bytes b,
-        ) refl;
-  }
-
--- the same of an ordinary attribute
-pub text_reads : (content : Content) → ReadsHtml Ordinary (In place.Text) place.Text content class.Text
-text_reads content = text_reads_in ordinary_remains content
-
-pub double_reads : (content : Content) → ReadsHtml Ordinary (In place.DoubleQuoted) place.DoubleQuoted content class.DoubleQuotedAttribute
-double_reads content = double_reads_in ordinary_remains content
-
-pub single_reads : (content : Content) → ReadsHtml Ordinary (In place.SingleQuoted) place.SingleQuoted content class.SingleQuotedAttribute
-single_reads content = single_reads_in ordinary_remains content
-
-pub unquoted_reads : (content : Content) → ReadsHtml Ordinary (In place.Unquoted) place.Unquoted content class.UnquotedAttribute
-unquoted_reads content = unquoted_reads_in ordinary_remains content
-
-pub first_reads : (content : Content) → ReadsHtml Ordinary BeforeValue place.Unquoted content class.UnquotedAttribute
-first_reads content = first_reads_in ordinary_remains content
-
+-- the bytes are read as the text, from the state in which a value begins or goes on
 abbrev pub Stays : Attribute → SlotPlace → State → Content → List ℕ → List ℕ → Type 0
 Stays attribute p state content bytes text =
     Passes (at_value state content attribute) bytes (map (read_byte p) text) (at_value (In p) content attribute)
 
-module _ {attribute : Attribute} (remains : Remains attribute) (content : Content) (text : List ℕ) where
-  pub text_stays_in : Stays attribute place.Text (In place.Text) content (encoding class.Text text) text
-  text_stays_in =
-      subst (Stays attribute place.Text (In place.Text) content (encoding class.Text text))
-      (read_back-text class.Text refl text) (passes_encoding (text_reads_in remains content) text)
+-- ---- references
 
-  pub double_stays_in : Stays attribute place.DoubleQuoted (In place.DoubleQuoted) content (encoding class.DoubleQuotedAttribute text) text
-  double_stays_in =
-      subst (Stays attribute place.DoubleQuoted (In place.DoubleQuoted) content (encoding class.DoubleQuotedAttribute text))
-      (read_back-text class.DoubleQuotedAttribute refl text) (passes_encoding (double_reads_in remains content) text)
+pub record ReadsReferences (attribute : Attribute) (state : State) (p : SlotPlace) (content : Content) : Type 0 where
+  pub begins : consume (at_value state content attribute) ampersand ≡ moves (at_value (Within p []) content attribute) []
+  pub within : (word : List ℕ) (b : ℕ) → consume (at_value (Within p word) content attribute) b
+      ≡ reference_byte p content attribute word b (value_byte p content (behind_word word attribute) b)
 
-  pub single_stays_in : Stays attribute place.SingleQuoted (In place.SingleQuoted) content (encoding class.SingleQuotedAttribute text) text
-  single_stays_in =
-      subst (Stays attribute place.SingleQuoted (In place.SingleQuoted) content (encoding class.SingleQuotedAttribute text))
-      (read_back-text class.SingleQuotedAttribute refl text) (passes_encoding (single_reads_in remains content) text)
+module _ {attribute : Attribute} {state : State} {p : SlotPlace} {content : Content} (reads : ReadsReferences attribute state p content) where
+  -- the body of a reference is read on
+  passes_body : (word body : List ℕ) → is_held word body ≡ true →
+      Passes (at_value (Within p word) content attribute) body [] (at_value (Within p (word ++ body)) content attribute)
+  passes_body word [] held = rw (append-nil word) passes_none
+  passes_body word (b ∷ body) held =
+      let parts = and_parts (goes_on word b) (is_held (word ++ b ∷ []) body) held in
+      let is : consume (at_value (Within p word) content attribute) b ≡ moves (at_value (Within p (word ++ b ∷ [])) content attribute) [] =
+      reads.within word b ∙ rw parts.0 refl in
+      rw (sym (append_assoc word (b ∷ []) body)) (passes_byte is (passes_body (word ++ b ∷ []) body parts.1))
 
-  pub unquoted_stays_in : Stays attribute place.Unquoted (In place.Unquoted) content (encoding class.UnquotedAttribute text) (nul text)
-  unquoted_stays_in =
-      subst (Stays attribute place.Unquoted (In place.Unquoted) content (encoding class.UnquotedAttribute text))
-      (read_back-nul class.UnquotedAttribute refl text) (passes_encoding (unquoted_reads_in remains content) text)
+  -- a reference whose body stands for a character
+  pub reference_stays : (body : List ℕ) (c : ℕ) → body_character body ≡ Some c →
+      Stays attribute p state content (ampersand ∷ (body ++ semicolon ∷ [])) (encode_utf8 c)
+  reference_stays body c is =
+      let reference : IsKnown body c = known body c is in
+      let ends : consume (at_value (Within p body) content attribute) semicolon ≡ moves (at_value (In p) content attribute) (map (read_byte p) (encode_utf8 c)) =
+      reads.within body semicolon ∙ reference.read p content attribute (value_byte p content (behind_word body attribute) semicolon) in
+      passes_byte reads.begins
+      (passes_both (passes_body [] body reference.held) (passes_one (map (read_byte p) (encode_utf8 c)) ends))
 
--- after `=` the first image begins the value
-passes_first : {attribute : Attribute} → Remains attribute → (content : Content) (text : List ℕ) → length text ≢ 0 →
-    Passes (at_value BeforeValue content attribute) (encoding class.UnquotedAttribute text)
-    (map (read_byte place.Unquoted) (flat_map (read_image class.UnquotedAttribute) text)) (at_value (In place.Unquoted) content attribute)
-passes_first remains content [] full = absurd (full refl)
-passes_first remains content (b ∷ text) full =
-    rw (map-append (read_byte place.Unquoted) (read_image class.UnquotedAttribute b) (flat_map (read_image class.UnquotedAttribute) text))
-    (passes_both (passes_image (first_reads_in remains content) b) (passes_encoding (unquoted_reads_in remains content) text))
+  -- where each byte outside of the class is kept, so is what the encoder writes
+  pieces_stay : {class : Class} → IsHtml class → ((b : ℕ) → in_class class b ≡ false →
+      consume (at_value state content attribute) b ≡ moves (at_value (In p) content attribute) (read_byte p b ∷ [])) →
+      ReadsPieces class (Stays attribute p state content)
+  pieces_stay html kept = record {
+    html = html;
+    reference = λ body c none is. reference_stays body c is;
+    kept = λ b outside. passes_one (read_byte p b ∷ []) (kept b outside);
+  }
 
-pub first_stays_in : {attribute : Attribute} → Remains attribute → (content : Content) (text : List ℕ) → length text ≢ 0 →
-    Stays attribute place.Unquoted BeforeValue content (encoding class.UnquotedAttribute text) (nul text)
-first_stays_in {attribute} remains content text full =
-    subst (Stays attribute place.Unquoted BeforeValue content (encoding class.UnquotedAttribute text))
-    (read_back-nul class.UnquotedAttribute refl text) (passes_first remains content text full)
+-- ---- text and values in quotes, which a mark ends
+
+pub record ReadsMarked (attribute : Attribute) (p : SlotPlace) (content : Content) (mark : ℕ) : Type 0 where
+  pub references : ReadsReferences attribute (In p) p content
+  pub no_reference : (ampersand == mark) ≡ false
+  pub kept : (b : ℕ) → (b == mark) ≡ false → (b == ampersand) ≡ false →
+      consume (at_value (In p) content attribute) b ≡ moves (at_value (In p) content attribute) (read_byte p b ∷ [])
+
+marked_stays : {attribute : Attribute} {p : SlotPlace} {content : Content} {mark : ℕ} → ReadsMarked attribute p content mark →
+    (class : Class) → IsHtml class → in_class class mark ≡ true → in_class class 0 ≡ false →
+    (text : List ℕ) → Stays attribute p (In p) content (encoding class text) text
+marked_stays {attribute} {p} {content} {mark} reads class html has keeps text =
+    let no : (b c : ℕ) → in_class class b ≡ false → in_class class c ≡ true → (b == c) ≡ false =
+    λ b c kept replaced. ne_eqb b c (kept_is_other class b c kept replaced) in
+    subst (Stays attribute p (In p) content (encoding class text)) (read_back-text class keeps text)
+    (encoding_reads (pieces_stay reads.references html
+    (λ b kept. reads.kept b (no b mark kept has) (no b ampersand kept (in_class-ampersand class html))))
+    passes_none (λ first v second w. passes_texts (read_byte p) v w) text)
+
+module _ {attribute : Attribute} (remains : Remains attribute) (content : Content) where
+  -- in a reference it is the same attribute
+  read_within : (p : SlotPlace) (word : List ℕ) (b : ℕ) →
+      reference_byte p content (reference_read attribute) word b (value_byte p content (behind_word word (reference_read attribute)) b)
+      ≡ reference_byte p content attribute word b (value_byte p content (behind_word word attribute) b)
+  read_within p word b = ap (λ a. reference_byte p content a word b (value_byte p content (behind_word word a) b)) remains.references
+
+  pub text_reads : ReadsMarked attribute place.Text content less_than
+  unfolding consume
+  text_reads = record {
+    references = record { begins = rw remains.references refl; within = read_within place.Text };
+    no_reference = refl;
+    kept = λ b no_mark no_reference. rw (no_mark, no_reference, remains.bytes b) refl;
+  }
+
+  pub double_reads : ReadsMarked attribute place.DoubleQuoted content double_quote
+  unfolding consume
+  double_reads = record {
+    references = record { begins = rw remains.references refl; within = read_within place.DoubleQuoted };
+    no_reference = refl;
+    kept = λ b no_mark no_reference. rw (no_mark, no_reference, remains.bytes b) refl;
+  }
+
+  pub single_reads : ReadsMarked attribute place.SingleQuoted content single_quote
+  unfolding consume
+  single_reads = record {
+    references = record { begins = rw remains.references refl; within = read_within place.SingleQuoted };
+    no_reference = refl;
+    kept = λ b no_mark no_reference. rw (no_mark, no_reference, remains.bytes b) refl;
+  }
+
+  pub unquoted_references : ReadsReferences attribute (In place.Unquoted) place.Unquoted content
+  unfolding consume
+  unquoted_references = record { begins = rw remains.references refl; within = read_within place.Unquoted }
+
+  pub double_stays_in : (text : List ℕ) → Stays attribute place.DoubleQuoted (In place.DoubleQuoted) content (encoding class.DoubleQuotedAttribute text) text
+  double_stays_in text = marked_stays double_reads class.DoubleQuotedAttribute refl refl refl text
+
+  pub single_stays_in : (text : List ℕ) → Stays attribute place.SingleQuoted (In place.SingleQuoted) content (encoding class.SingleQuotedAttribute text) text
+  single_stays_in text = marked_stays single_reads class.SingleQuotedAttribute refl refl refl text
 
 -- the same of an ordinary attribute
-pub text_stays : (content : Content) (text : List ℕ) → Stays Ordinary place.Text (In place.Text) content (encoding class.Text text) text
-text_stays content text = text_stays_in ordinary_remains content text
+module _ (content : Content) (text : List ℕ) where
+  pub text_stays : Stays Ordinary place.Text (In place.Text) content (encoding class.Text text) text
+  text_stays = marked_stays (text_reads ordinary_remains content) class.Text refl refl refl text
 
-pub double_stays : (content : Content) (text : List ℕ) →
-    Stays Ordinary place.DoubleQuoted (In place.DoubleQuoted) content (encoding class.DoubleQuotedAttribute text) text
-double_stays content text = double_stays_in ordinary_remains content text
+  pub double_stays : Stays Ordinary place.DoubleQuoted (In place.DoubleQuoted) content (encoding class.DoubleQuotedAttribute text) text
+  double_stays = double_stays_in ordinary_remains content text
 
-pub single_stays : (content : Content) (text : List ℕ) →
-    Stays Ordinary place.SingleQuoted (In place.SingleQuoted) content (encoding class.SingleQuotedAttribute text) text
-single_stays content text = single_stays_in ordinary_remains content text
+  pub single_stays : Stays Ordinary place.SingleQuoted (In place.SingleQuoted) content (encoding class.SingleQuotedAttribute text) text
+  single_stays = single_stays_in ordinary_remains content text
+
+-- ---- values without quotes
+
+-- a byte that neither ends the value nor begins something in it is kept, where a value begins or goes on
+pub record ReadsUnquoted (state : State) (content : Content) : Type 0 where
+  pub references : ReadsReferences Ordinary state place.Unquoted content
+  pub kept : (b : ℕ) → leaves_value place.Unquoted b ≡ false →
+      consume (at_value state content Ordinary) b ≡ moves (at_value (In place.Unquoted) content Ordinary) (read_byte place.Unquoted b ∷ [])
+
+pub unquoted_reads : (content : Content) → ReadsUnquoted (In place.Unquoted) content
+unquoted_reads content = record {
+  references = unquoted_references ordinary_remains content;
+  kept = λ b remains. byte_kept place.Unquoted content Ordinary b refl remains;
+}
+
+-- but for white space, quotes and `>` the first byte of a value without quotes is read as another one
+pub first_as_other : (content : Content) (attribute : Attribute) (b : ℕ) → is_space b ≡ false → (b == double_quote) ≡ false →
+    (b == single_quote) ≡ false → (b == greater_than) ≡ false →
+    consume (at_value BeforeValue content attribute) b ≡ consume (at_value (In place.Unquoted) content attribute) b
+unfolding consume
+first_as_other content attribute b no_space no_double no_single no_greater = rw (no_space, no_double, no_single, no_greater) refl
+
+pub first_reads : (content : Content) → ReadsUnquoted BeforeValue content
+unfolding consume
+first_reads content = record {
+  references = record { begins = refl; within = λ word b. refl };
+  kept = λ b remains.
+      first_as_other content Ordinary b (grind (arith, nat_tests)) (grind (arith, nat_tests)) (grind (arith, nat_tests)) (grind (arith, nat_tests))
+      ∙ byte_kept place.Unquoted content Ordinary b refl remains;
+}
+
+unquoted_pieces : {state : State} {content : Content} → ReadsUnquoted state content → ReadsPieces class.UnquotedAttribute (Stays Ordinary place.Unquoted state content)
+unquoted_pieces reads = pieces_stay reads.references refl (λ b kept. reads.kept b (grind (arith, nat_tests)))
+
+unquoted_images_stay : (content : Content) (text : List ℕ) →
+    Stays Ordinary place.Unquoted (In place.Unquoted) content (encoding class.UnquotedAttribute text) (flat_map (read_image class.UnquotedAttribute) text)
+unquoted_images_stay content text =
+    encoding_reads (unquoted_pieces (unquoted_reads content)) passes_none (λ first v second w. passes_texts (read_byte place.Unquoted) v w) text
 
 pub unquoted_stays : (content : Content) (text : List ℕ) →
     Stays Ordinary place.Unquoted (In place.Unquoted) content (encoding class.UnquotedAttribute text) (nul text)
-unquoted_stays content text = unquoted_stays_in ordinary_remains content text
+unquoted_stays content text = rw (← read_back-nul class.UnquotedAttribute refl text) (unquoted_images_stay content text)
 
+-- after `=` the first image begins the value
 pub first_stays : (content : Content) (text : List ℕ) → length text ≢ 0 →
     Stays Ordinary place.Unquoted BeforeValue content (encoding class.UnquotedAttribute text) (nul text)
-first_stays content text full = first_stays_in ordinary_remains content text full
+first_stays content [] full = absurd (full refl)
+first_stays content (b ∷ text) full =
+    rw (← read_back-nul class.UnquotedAttribute refl (b ∷ text))
+    (passes_texts (read_byte place.Unquoted) (read_image class.UnquotedAttribute b) (flat_map (read_image class.UnquotedAttribute) text)
+    (image_reads (unquoted_pieces (first_reads content)) b) (unquoted_images_stay content text))

@@ -1,4 +1,3 @@
 pub mod Bytes
-pub mod NewAttributes
 pub mod OneByte
 pub mod Texts

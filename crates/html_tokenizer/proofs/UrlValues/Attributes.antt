@@ -27,8 +27,6 @@ ends_settled content other is = absurd (false≢true is)
 
 fixed_url : (attribute : Attribute) → is_url (fixed attribute) ≡ is_url attribute
 fixed_url Ordinary = refl
-fixed_url Link = refl
-fixed_url Url = refl
 fixed_url other = refl
 
 either_url : (test : Bool) (attribute : Attribute) → is_url (if test then fixed attribute else attribute) ≡ is_url attribute

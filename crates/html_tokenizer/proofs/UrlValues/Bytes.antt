@@ -1,7 +1,7 @@
 -- What a byte does where a URL is open.
 use Rattle.std.proofs.Common.{ℕ, ◌≡◌, Bool, true, false, [], ◌==◌, refl, sym, subst, ⊎_elim}
-use Rattle.std.proofs.lemmas.Bool.{cases_Bool, eqb-true, false≢true}
-use Rattle.hesc_specs.specs.Text.Ascii.{double_quote, greater_than, single_quote}
+use Rattle.std.proofs.lemmas.Bool.{cases_Bool, false≢true, or_right}
+use Rattle.hesc_specs.specs.Text.Ascii.{double_quote, equals_sign, greater_than, single_quote}
 use Rattle.html_tokenizer.specs.declared.elements.Content.{Content}
 use Rattle.html_tokenizer.specs.declared.slot_place.SlotPlace.{SlotPlace}
 use Rattle.html_tokenizer.specs.declared.slot_place.SlotPlace.TheVariants.{DoubleQuoted, SingleQuoted, Unquoted}
@@ -10,7 +10,7 @@ use Rattle.html_tokenizer.specs.Tokenizer.Tags.{is_space}
 use Rattle.html_tokenizer.specs.Tokenizer.Tokenization.{byte_in, consume}
 use Rattle.html_tokenizer.specs.Tokenizer.Transitions.{Transition}
 use Rattle.html_tokenizer.specs.Tokenizer.Values.{before_value_byte, unquoted_byte}
-use Rattle.html_tokenizer.specs.UrlValues.{is_url}
+use Rattle.html_tokenizer.specs.UrlValues.{begins_value, is_url}
 use Rattle.html_tokenizer.proofs.UrlValues.Places.{is_value_place}
 use Rattle.html_tokenizer.proofs.UrlValues.Following.{StaysAt, in_value, same_place, unquoted_follows, value_follows, within_follows}
 
@@ -26,31 +26,34 @@ may_hold_url (In p) = is_value_place p
 may_hold_url (Within p word) = is_value_place p
 may_hold_url other = false
 
+-- where the value at a place begins
+abbrev pub start_state : SlotPlace → State
+start_state Unquoted = BeforeValue
+start_state p = In p
+
 -- what a byte does before a value
 pub data Begins (b : ℕ) (x : Transition) : Type 0 where
-  blank : is_space b ≡ true → x.next.state ≡ BeforeValue → x.actions ≡ [] → Begins b x
-  double : b ≡ double_quote → x.next.state ≡ In DoubleQuoted → x.actions ≡ [] → Begins b x
-  single : b ≡ single_quote → x.next.state ≡ In SingleQuoted → x.actions ≡ [] → Begins b x
+  starts : (q : SlotPlace) → is_value_place q ≡ true → begins_value q b ≡ true → x.next.state ≡ start_state q → x.actions ≡ [] → Begins b x
   unquoted : StaysAt Unquoted b x.next.state → Begins b x
 
 begins : (content : Content) (attribute : Attribute) (b : ℕ) → is_url attribute ≡ true → is_url (before_value_byte content attribute b).next.attribute ≡ true →
     Begins b (before_value_byte content attribute b)
 begins content attribute b url is =
     ⊎_elim
-    (λ (space : is_space b ≡ true). blank space (rw space refl) (rw space refl))
+    (λ (space : is_space b ≡ true). starts Unquoted refl (or_right (b == equals_sign) (is_space b) space) (rw space refl) (rw space refl))
     (λ (no_space : is_space b ≡ false).
     ⊎_elim
-    (λ (mark : (b == double_quote) ≡ true). double (eqb-true b double_quote mark) (rw (no_space, mark) refl) (rw (no_space, mark) refl))
+    (λ (mark : (b == double_quote) ≡ true). starts DoubleQuoted refl mark (rw (no_space, mark) refl) (rw (no_space, mark) refl))
     (λ (no_double : (b == double_quote) ≡ false).
     ⊎_elim
-    (λ (mark : (b == single_quote) ≡ true). single (eqb-true b single_quote mark) (rw (no_space, no_double, mark) refl) (rw (no_space, no_double, mark) refl))
+    (λ (mark : (b == single_quote) ≡ true). starts SingleQuoted refl mark (rw (no_space, no_double, mark) refl) (rw (no_space, no_double, mark) refl))
     (λ (no_single : (b == single_quote) ≡ false).
     ⊎_elim
     (λ (greater : (b == greater_than) ≡ true). absurd (false≢true (rw (no_space, no_double, no_single, greater) at is)))
     (λ (no_greater : (b == greater_than) ≡ false).
     let same : before_value_byte content attribute b ≡ unquoted_byte content attribute b = rw (no_space, no_double, no_single, no_greater) refl in
     let goes : is_url (unquoted_byte content attribute b).next.attribute ≡ true = subst (λ (x : Transition). is_url x.next.attribute ≡ true) same is in
-    unquoted (subst (λ (x : Transition). StaysAt Unquoted b x.next.state) (sym same) ((unquoted_follows content attribute b url no_space no_greater).stays goes)))
+    unquoted (subst (λ (x : Transition). StaysAt Unquoted b x.next.state) (sym same) ((unquoted_follows content attribute b no_space no_greater).stays goes)))
     (cases_Bool (b == greater_than)))
     (cases_Bool (b == single_quote)))
     (cases_Bool (b == double_quote)))

@@ -2,7 +2,7 @@
 use Rattle.std.proofs.Common.{◌≡◌, Bool, true, false, refl}
 use Rattle.std.proofs.lemmas.Bool.{true≢false}
 use Rattle.html_tokenizer.specs.declared.elements.OpenElement.{OpenElement}
-use Rattle.html_tokenizer.specs.declared.elements.OpenElement.TheVariants.{Script, DataBlock, Style, Frame, SvgStyle, NoScriptStyle, NoScriptFrame}
+use Rattle.html_tokenizer.specs.declared.elements.OpenElement.TheVariants.{Script}
 use Rattle.html_tokenizer.specs.Tokenizer.Elements.{content_state}
 use Rattle.html_tokenizer.specs.Tokenizer.States.{AfterName, Attribute, Name, State}
 use Rattle.html_tokenizer.specs.UrlValues.{is_url}
@@ -37,10 +37,4 @@ opens_no_url other attribute none = none
 -- the content of no element begins in a name
 pub content_unnamed : (element : OpenElement) → is_named (content_state element) ≡ false
 content_unnamed Script = refl
-content_unnamed DataBlock = refl
-content_unnamed Style = refl
-content_unnamed Frame = refl
-content_unnamed SvgStyle = refl
-content_unnamed NoScriptStyle = refl
-content_unnamed NoScriptFrame = refl
 content_unnamed other = refl

@@ -1,4 +1,3 @@
 pub mod AllStates
-pub mod Code
-pub mod Tags
+pub mod Markup
 pub mod Values

@@ -18,12 +18,15 @@ use Rattle.html_tokenizer.specs.Tokenizer.Tokenization.{consume, state_after, va
 use Rattle.html_tokenizer.specs.Tokenizer.Transitions.{Transition, moves}
 use Rattle.html_tokenizer.specs.Tokenizer.Values.References.{behind_word, flushes, goes_on}
 use Rattle.html_tokenizer.specs.UrlValues.{ends_value, is_url, url_text, url_text_from, value_bytes}
+use Rattle.html_tokenizer.proofs.Stretches.{value_consumed}
 use Rattle.html_tokenizer.proofs.UrlValues.Attributes.{behind_url}
 use Rattle.html_tokenizer.proofs.UrlValues.Ends.{Ends, ends_at}
 use Rattle.html_tokenizer.proofs.UrlValues.Places.{is_value_place}
 use Rattle.html_tokenizer.proofs.UrlValues.Slots.Refusals.{goes_to, not_refused}
 use Rattle.html_tokenizer.proofs.UrlValues.Rules.{ReadsUrl, amp_named, are_letters, letters_more, reads_url, word_flushed}
-use Rattle.html_tokenizer.proofs.UrlValues.Staying.{StaysUrl, stays_byte, stays_none}
+use Rattle.html_tokenizer.proofs.Passing.{Passes, passes_none, passes_one, passes_texts}
+use Rattle.html_tokenizer.proofs.UrlValues.Apart.OneByte.{value_bytes-append, value_bytes-map}
+use Rattle.html_tokenizer.proofs.UrlValues.Staying.{StaysUrl, stays_url}
 
 -- a state of the value, and the letters and digits after a `&` that are held in it
 abbrev pub held_at : SlotPlace → Content → Attribute → Option (List ℕ) → Tokenizer
@@ -47,7 +50,7 @@ pub record ReachesIn (p : SlotPlace) (content : Content) (is_ended : Bool) (star
   pub none : is_ended ≡ false → held ≡ None
   pub added : List ℕ
   pub whole : text ≡ added ++ held_text held
-  pub stays : StaysUrl start raw added (held_at p content attribute held)
+  pub passes : Passes start raw (map ValueByte added) (held_at p content attribute held)
 
 record Mapped (f : List ℕ → List ℕ) (found : Option (List ℕ)) (text : List ℕ) : Type 0 where
   rest : List ℕ
@@ -67,7 +70,7 @@ module _ (p : SlotPlace) (content : Content) (is_ended : Bool) (place : is_value
   GoesOn start raw = is_refused (state_after start raw).state ≡ false
 
   nothing_left : (attribute : Attribute) → is_url attribute ≡ true → Reaches (held_at p content attribute None) [] []
-  nothing_left attribute url = record { attribute = attribute; url = url; held = None; letters = refl; none = λ is. refl; added = []; whole = refl; stays = stays_none }
+  nothing_left attribute url = record { attribute = attribute; url = url; held = None; letters = refl; none = λ is. refl; added = []; whole = refl; passes = passes_none }
 
   word_left : (attribute : Attribute) (word text : List ℕ) → is_url attribute ≡ true → are_letters word ≡ true → (if is_ended then Some (ampersand ∷ word) else None) ≡ Some text →
       Reaches (held_at p content attribute (Some word)) [] text
@@ -76,14 +79,14 @@ module _ (p : SlotPlace) (content : Content) (is_ended : Bool) (place : is_value
       (λ (ended : is_ended ≡ true).
       let found : Some (ampersand ∷ word) ≡ Some text = rw ended at is in
       let same : ampersand ∷ word ≡ text = cc in
-      record { attribute = attribute; url = url; held = Some word; letters = letters; none = λ other. let clash : true ≡ false = sym ended ∙ other in cc; added = []; whole = sym same; stays = stays_none })
+      record { attribute = attribute; url = url; held = Some word; letters = letters; none = λ other. let clash : true ≡ false = sym ended ∙ other in cc; added = []; whole = sym same; passes = passes_none })
       (λ (other : is_ended ≡ false). let never : None ≡ Some text = rw other at is in absurd (cc))
       (cases_Bool is_ended)
 
   -- one byte, and then others
   reaches_byte : {t u : Tokenizer} {b : ℕ} {raw text : List ℕ} (first : List ℕ) → consume t b ≡ moves u (map ValueByte first) →
-      is_url t.attribute ≡ true → is_url u.attribute ≡ true → Reaches u raw text → Reaches t (b ∷ raw) (first ++ text)
-  reaches_byte first is here there later = record {
+      Reaches u raw text → Reaches t (b ∷ raw) (first ++ text)
+  reaches_byte first is later = record {
     attribute = later.attribute;
     url = later.url;
     held = later.held;
@@ -91,7 +94,7 @@ module _ (p : SlotPlace) (content : Content) (is_ended : Bool) (place : is_value
     none = later.none;
     added = first ++ later.added;
     whole = ap (λ x. first ++ x) later.whole ∙ sym (append_assoc first later.added (held_text later.held));
-    stays = stays_byte first is here there later.stays;
+    passes = passes_texts ValueByte first later.added (passes_one (map ValueByte first) is) later.passes;
   }
 
   module _ (attribute : Attribute) (url : is_url attribute ≡ true) where
@@ -101,34 +104,38 @@ module _ (p : SlotPlace) (content : Content) (is_ended : Bool) (place : is_value
     abbrev here : Option (List ℕ) → Tokenizer
     here held = held_at p content attribute held
 
+    -- the tokenizer reads what follows in this state
+    abbrev Later : Tokenizer → List ℕ → List ℕ → Type 0
+    Later start raw text = GoesOn start raw → Reaches start raw text
+
     kept_on : (b : ℕ) (raw text : List ℕ) → ends_value p b ≡ false → (b == ampersand) ≡ false → GoesOn (here None) (b ∷ raw) →
-        (GoesOn (here None) raw → Reaches (here None) raw text) → Reaches (here None) (b ∷ raw) (b ∷ text)
+        Later (here None) raw text → Reaches (here None) (b ∷ raw) (b ∷ text)
     kept_on b raw text inner no_reference unrefused others =
         let still : is_refused (value_byte p content attribute b).next.state ≡ false =
-        rw reads.here at (not_refused (consume (at_value (In p) content attribute) b).next raw unrefused) in
+        subst (λ (x : Transition). is_refused x.next.state ≡ false) (value_consumed p content attribute b) (not_refused (consume (at_value (In p) content attribute) b).next raw unrefused) in
         let is : consume (at_value (In p) content attribute) b ≡ moves (at_value (In p) content attribute) (ValueByte b ∷ []) =
-        reads.here b ∙ reads.kept b inner no_reference still in
-        reaches_byte (b ∷ []) is url url (others (goes_to _ b raw is unrefused))
+        value_consumed p content attribute b ∙ reads.kept b inner no_reference still in
+        reaches_byte (b ∷ []) is (others (goes_to _ b raw is unrefused))
 
-    begun : (b : ℕ) (raw text : List ℕ) → b ≡ ampersand → GoesOn (here None) (b ∷ raw) → (GoesOn (here (Some [])) raw → Reaches (here (Some [])) raw text) →
+    begun : (b : ℕ) (raw text : List ℕ) → b ≡ ampersand → GoesOn (here None) (b ∷ raw) → Later (here (Some [])) raw text →
         Reaches (here None) (b ∷ raw) text
     begun b raw text same unrefused others =
-        let is : consume (at_value (In p) content attribute) b ≡ moves (at_value (Within p []) content attribute) [] = rw same reads.references in
-        reaches_byte [] is url url (others (goes_to _ b raw is unrefused))
+        let is : consume (at_value (In p) content attribute) b ≡ moves (at_value (Within p []) content attribute) [] = rw same reads.references.begins in
+        reaches_byte [] is (others (goes_to _ b raw is unrefused))
 
     letter_held : (word : List ℕ) (b : ℕ) (raw text : List ℕ) → is_ascii_alphanumeric b ≡ true → GoesOn (here (Some word)) (b ∷ raw) →
-        (GoesOn (here (Some (word ++ b ∷ []))) raw → Reaches (here (Some (word ++ b ∷ []))) raw text) → Reaches (here (Some word)) (b ∷ raw) text
+        Later (here (Some (word ++ b ∷ []))) raw text → Reaches (here (Some word)) (b ∷ raw) text
     letter_held word b raw text letter unrefused others =
         let is : consume (at_value (Within p word) content attribute) b ≡ moves (at_value (Within p (word ++ b ∷ [])) content attribute) [] =
-        reads.within word b ∙ rw letter refl in
-        reaches_byte [] is url url (others (goes_to _ b raw is unrefused))
+        reads.references.within word b ∙ rw letter refl in
+        reaches_byte [] is (others (goes_to _ b raw is unrefused))
 
     amp_read : (word : List ℕ) (b : ℕ) (raw text : List ℕ) → word ≡ codes "amp" → b ≡ semicolon → GoesOn (here (Some word)) (b ∷ raw) →
-        (GoesOn (here None) raw → Reaches (here None) raw text) → Reaches (here (Some word)) (b ∷ raw) (ampersand ∷ text)
+        Later (here None) raw text → Reaches (here (Some word)) (b ∷ raw) (ampersand ∷ text)
     amp_read word b raw text name ends unrefused others =
         let is : consume (at_value (Within p word) content attribute) b ≡ moves (at_value (In p) content attribute) (ValueByte ampersand ∷ []) =
-        reads.within word b ∙ rw (name, ends, amp_named, reads.reads) refl in
-        reaches_byte (ampersand ∷ []) is url url (others (goes_to _ b raw is unrefused))
+        reads.references.within word b ∙ rw (name, ends, amp_named, reads.reads) refl in
+        reaches_byte (ampersand ∷ []) is (others (goes_to _ b raw is unrefused))
 
     -- a byte at which the word stands for itself, as it would be read without the word
     abbrev behind : List ℕ → Attribute
@@ -141,13 +148,13 @@ module _ (p : SlotPlace) (content : Content) (is_ended : Bool) (place : is_value
         is_refused (consume (at_value (Within p word) content attribute) b).next.state ≡ false →
         consume (at_value (Within p word) content attribute) b ≡ flushes p word (value_byte p content (behind word) b)
     flushed word b letters ends no_end unrefused =
-        reads.within word b
+        reads.references.within word b
         ∙ word_flushed reads word b (value_byte p content (behind word) b) letters ends no_end
-        (subst (λ (x : Transition). is_refused x.next.state ≡ false) (reads.within word b) unrefused)
+        (subst (λ (x : Transition). is_refused x.next.state ≡ false) (reads.references.within word b) unrefused)
 
     word_stands : (word : List ℕ) (b : ℕ) (raw text : List ℕ) → are_letters word ≡ true → goes_on word b ≡ false → (b == semicolon) ≡ false →
         ends_value p b ≡ false → (b == ampersand) ≡ false → GoesOn (here (Some word)) (b ∷ raw) →
-        (GoesOn (held_at p content (behind word) None) raw → Reaches (held_at p content (behind word) None) raw text) →
+        Later (held_at p content (behind word) None) raw text →
         Reaches (here (Some word)) (b ∷ raw) (ampersand ∷ word ++ b ∷ text)
     word_stands word b raw text letters ends no_end inner no_reference unrefused others =
         let next : Transition = value_byte p content (behind word) b in
@@ -159,22 +166,22 @@ module _ (p : SlotPlace) (content : Content) (is_ended : Bool) (place : is_value
         first ∙ ap (flushes p word) (later.kept b inner no_reference still)
         ∙ ap (λ (f : ℕ → Action). moves (at_value (In p) content (behind word)) (map f (ampersand ∷ word) ++ ValueByte b ∷ [])) reads.reads in
         rw (← append_assoc word (b ∷ []) text)
-        (reaches_byte (ampersand ∷ word ++ b ∷ []) (is ∙ ap (moves (at_value (In p) content (behind word))) (sym (map-append ValueByte (ampersand ∷ word) (b ∷ [])))) url (behind_is word)
+        (reaches_byte (ampersand ∷ word ++ b ∷ []) (is ∙ ap (moves (at_value (In p) content (behind word))) (sym (map-append ValueByte (ampersand ∷ word) (b ∷ []))))
         (others (goes_to _ b raw is unrefused)))
 
     next_begun : (word : List ℕ) (b : ℕ) (raw text : List ℕ) → are_letters word ≡ true → b ≡ ampersand → GoesOn (here (Some word)) (b ∷ raw) →
-        (GoesOn (held_at p content (behind word) (Some [])) raw → Reaches (held_at p content (behind word) (Some [])) raw text) →
+        Later (held_at p content (behind word) (Some [])) raw text →
         Reaches (here (Some word)) (b ∷ raw) (ampersand ∷ word ++ text)
     next_begun word b raw text letters same unrefused others =
         let later : ReadsUrl p content (behind word) = reads_url p content (behind word) place (behind_is word) in
         let first = flushed word b letters (rw same refl) (rw same refl) (not_refused (consume (at_value (Within p word) content attribute) b).next raw unrefused) in
         let begins : value_byte p content (behind word) b ≡ moves (at_value (Within p []) content (behind word)) [] =
-        ap (value_byte p content (behind word)) same ∙ sym (later.here ampersand) ∙ later.references in
+        ap (value_byte p content (behind word)) same ∙ sym (value_consumed p content (behind word) ampersand) ∙ later.references.begins in
         let is : consume (at_value (Within p word) content attribute) b ≡ moves (at_value (Within p []) content (behind word)) (map ValueByte (ampersand ∷ word)) =
         first ∙ ap (flushes p word) begins
         ∙ ap (λ (f : ℕ → Action). moves (at_value (Within p []) content (behind word)) (map f (ampersand ∷ word) ++ [])) reads.reads
         ∙ ap (moves (at_value (Within p []) content (behind word))) (append-nil (map ValueByte (ampersand ∷ word))) in
-        reaches_byte (ampersand ∷ word) is url (behind_is word) (others (goes_to _ b raw is unrefused))
+        reaches_byte (ampersand ∷ word) is (others (goes_to _ b raw is unrefused))
 
   reads_held : (attribute : Attribute) (held : Option (List ℕ)) (raw text : List ℕ) → is_url attribute ≡ true → letters_in held ≡ true →
       url_text_from is_ended held raw ≡ Some text → list_any (ends_value p) raw ≡ false → GoesOn (held_at p content attribute held) raw →
@@ -187,7 +194,7 @@ module _ (p : SlotPlace) (content : Content) (is_ended : Bool) (place : is_value
       (λ (reference : (b == ampersand) ≡ true).
       begun attribute url b raw text (eqb-true b ampersand reference) unrefused (reads_held attribute (Some []) raw text url refl (rw reference at is) parts.1))
       (λ (other : (b == ampersand) ≡ false).
-      let more : Mapped (λ text. b ∷ text) (url_text_from is_ended None raw) text = mapped (λ text. b ∷ text) (url_text_from is_ended None raw) text (rw other at is) in
+      let more = mapped (λ text. b ∷ text) (url_text_from is_ended None raw) text (rw other at is) in
       rw (← more.whole) (kept_on attribute url b raw more.rest parts.0 other unrefused (reads_held attribute None raw more.rest url refl more.is parts.1)))
       (cases_Bool (b == ampersand))
   reads_held attribute (Some word) (b ∷ raw) text url letters is inner unrefused =
@@ -203,7 +210,7 @@ module _ (p : SlotPlace) (content : Content) (is_ended : Bool) (place : is_value
       let both = and_parts (b == semicolon) (bytes_eq word (codes "amp")) amp in
       let ends : b ≡ semicolon = eqb-true b semicolon both.0 in
       let name : word ≡ codes "amp" = (bytes_eq-Decides word (codes "amp")).0 both.1 in
-      let more : Mapped (λ text. ampersand ∷ text) (url_text_from is_ended None raw) text = mapped (λ text. ampersand ∷ text) (url_text_from is_ended None raw) text (rw (no_letter, amp) at is) in
+      let more = mapped (λ text. ampersand ∷ text) (url_text_from is_ended None raw) text (rw (no_letter, amp) at is) in
       rw (← more.whole) (amp_read attribute url word b raw more.rest name ends unrefused (reads_held attribute None raw more.rest url refl more.is parts.1)))
       (λ (no_amp : (b == semicolon && bytes_eq word (codes "amp")) ≡ false).
       ⊎_elim
@@ -212,12 +219,10 @@ module _ (p : SlotPlace) (content : Content) (is_ended : Bool) (place : is_value
       let both = or_parts (b == semicolon) (goes_on word b) stands in
       ⊎_elim
       (λ (reference : (b == ampersand) ≡ true).
-      let more : Mapped (λ text. ampersand ∷ word ++ text) (url_text_from is_ended (Some []) raw) text =
-      mapped (λ text. ampersand ∷ word ++ text) (url_text_from is_ended (Some []) raw) text (rw (no_letter, no_amp, (rw no_letter at stands), reference) at is) in
+      let more = mapped (λ text. ampersand ∷ word ++ text) (url_text_from is_ended (Some []) raw) text (rw (no_letter, no_amp, (rw no_letter at stands), reference) at is) in
       rw (← more.whole) (next_begun attribute url word b raw more.rest letters (eqb-true b ampersand reference) unrefused (reads_held behind (Some []) raw more.rest url_behind refl more.is parts.1)))
       (λ (other : (b == ampersand) ≡ false).
-      let more : Mapped (λ text. ampersand ∷ word ++ b ∷ text) (url_text_from is_ended None raw) text =
-      mapped (λ text. ampersand ∷ word ++ b ∷ text) (url_text_from is_ended None raw) text (rw (no_letter, no_amp, (rw no_letter at stands), other) at is) in
+      let more = mapped (λ text. ampersand ∷ word ++ b ∷ text) (url_text_from is_ended None raw) text (rw (no_letter, no_amp, (rw no_letter at stands), other) at is) in
       rw (← more.whole) (word_stands attribute url word b raw more.rest letters both.1 both.0 parts.0 other unrefused (reads_held behind None raw more.rest url_behind refl more.is parts.1)))
       (cases_Bool (b == ampersand)))
       (cases_Bool (b == semicolon || goes_on word b)))
@@ -242,15 +247,12 @@ reads_on p content attribute raw text place url inner is unrefused =
     record {
       attribute = found.attribute;
       url = found.url;
-      stays = subst (λ (x : List ℕ). StaysUrl start raw x (at_value (In p) content found.attribute)) (sym all)
-          (subst (λ h. StaysUrl start raw found.added (held_at p content found.attribute h)) none found.stays);
+      stays = stays_url (λ (_ : is_url attribute ≡ true). place) url found.url
+          (subst (λ (x : List ℕ). Passes start raw (map ValueByte x) (at_value (In p) content found.attribute)) (sym all)
+          (subst (λ h. Passes start raw (map ValueByte found.added) (held_at p content found.attribute h)) none found.passes));
     }
 
 -- ---- markup, and the byte that ends the value
-
-value_bytes-append : (first : List ℕ) (actions : List Action) → value_bytes (map ValueByte first ++ actions) ≡ first ++ value_bytes actions
-value_bytes-append [] actions = refl
-value_bytes-append (b ∷ first) actions = ap (λ more. b ∷ more) (value_bytes-append first actions)
 
 record NoWord (word : List ℕ) (b : ℕ) : Type 0 where
   ends : goes_on word b ≡ false
@@ -273,12 +275,13 @@ held_ends p content attribute (Some word) b place url letters ends unrefused =
     let later : ReadsUrl p content behind = reads_url p content behind place url_behind in
     let whole = ends_at p content behind b place url_behind ends in
     let is : consume (at_value (Within p word) content attribute) b ≡ flushes p word (consume (at_value (In p) content behind) b) =
-    flushed p content false place attribute url word b letters none.ends none.no_end unrefused ∙ ap (flushes p word) (sym (later.here b)) in
+    flushed p content false place attribute url word b letters none.ends none.no_end unrefused ∙ ap (flushes p word) (sym (value_consumed p content behind b)) in
     record {
       no_url = ap (λ (x : Transition). is_url x.next.attribute) is ∙ whole.no_url;
       adds = ap (λ (x : Transition). value_bytes x.actions) is
           ∙ ap (λ (f : ℕ → Action). value_bytes (map f (ampersand ∷ word) ++ (consume (at_value (In p) content behind) b).actions)) later.reads
-          ∙ value_bytes-append (ampersand ∷ word) (consume (at_value (In p) content behind) b).actions
+          ∙ value_bytes-append (map ValueByte (ampersand ∷ word)) (consume (at_value (In p) content behind) b).actions
+          ∙ ap (λ x. x ++ value_bytes (consume (at_value (In p) content behind) b).actions) (value_bytes-map (ampersand ∷ word))
           ∙ ap (λ x. ampersand ∷ word ++ x) whole.adds ∙ append-nil (ampersand ∷ word);
     }
 
@@ -305,13 +308,13 @@ reads_to_end p content attribute raw text b place url inner ends is unrefused =
     let found = reads_held p content true place attribute None raw text url refl is inner before in
     let there : Tokenizer = held_at p content found.attribute found.held in
     let still : is_refused (consume there b).next.state ≡ false =
-    subst (λ (x : Tokenizer). is_refused (consume x b).next.state ≡ false) found.stays.passes.after unrefused in
+    subst (λ (x : Tokenizer). is_refused (consume x b).next.state ≡ false) found.passes.after unrefused in
     record {
       there = there;
       url = held_url p content found.attribute found.held found.url;
       first = found.added;
       added = held_text found.held;
       whole = found.whole;
-      stays = found.stays;
+      stays = stays_url (λ (_ : is_url attribute ≡ true). place) url (held_url p content found.attribute found.held found.url) found.passes;
       ends = held_ends p content found.attribute found.held b place found.url found.letters ends still;
     }

@@ -1,5 +1,5 @@
 -- What a byte does in the value of a URL, and where letters and digits after a `&` end.
-use Rattle.std.proofs.Common.{ℕ, ◌≡◌, Bool, true, false, List, [], ◌∷◌, ◌++◌, ◌==◌, Some, if◌then◌else◌, codes, not, ◌&&◌, refl, ap, ◌∙◌, subst, ⊎_elim, arith}
+use Rattle.std.proofs.Common.{ℕ, ◌≡◌, Bool, true, false, List, [], ◌∷◌, ◌++◌, ◌==◌, Some, if◌then◌else◌, codes, not, ◌&&◌, refl, ◌∙◌, subst, ⊎_elim, arith}
 use Rattle.std.specs.Char.{is_ascii_alphanumeric}
 use Rattle.std.specs.List.{list_all}
 use Rattle.std.proofs.lemmas.Bool.{and_parts, cases_Bool, false≢true, or_parts, true≢false}
@@ -13,12 +13,13 @@ use Rattle.html_tokenizer.specs.declared.slot_place.SlotPlace.{SlotPlace}
 use Rattle.html_tokenizer.specs.declared.slot_place.SlotPlace.TheVariants.{DoubleQuoted, SingleQuoted, Unquoted}
 use Rattle.html_tokenizer.specs.Standing.{is_refused}
 use Rattle.html_tokenizer.specs.Tokenizer.Actions.{ValueByte, read_byte}
-use Rattle.html_tokenizer.specs.Tokenizer.States.{Attribute, In, Within, at_value}
+use Rattle.html_tokenizer.specs.Tokenizer.States.{Attribute, In, at_value}
 use Rattle.html_tokenizer.specs.Tokenizer.Tags.{is_space}
-use Rattle.html_tokenizer.specs.Tokenizer.Tokenization.{consume, value_byte}
+use Rattle.html_tokenizer.specs.Tokenizer.Tokenization.{value_byte}
 use Rattle.html_tokenizer.specs.Tokenizer.Transitions.{Transition, moves, refuses}
-use Rattle.html_tokenizer.specs.Tokenizer.Values.References.{begins_with_legacy, behind_word, flushes, goes_on, is_legacy, legacy_end, named_characters, reference_byte, unnamed_end}
+use Rattle.html_tokenizer.specs.Tokenizer.Values.References.{begins_with_legacy, flushes, goes_on, is_legacy, legacy_end, named_characters, reference_byte, unnamed_end}
 use Rattle.html_tokenizer.specs.UrlValues.{ends_value, is_url}
+use Rattle.html_tokenizer.proofs.Slots.Html.{ReadsReferences, Remains, double_reads, single_reads, unquoted_references}
 use Rattle.html_tokenizer.proofs.UrlValues.Attributes.{byte_settled, reference_settled}
 use Rattle.html_tokenizer.proofs.UrlValues.Places.{is_value_place}
 
@@ -35,38 +36,8 @@ pub amp_named : named_characters (codes "amp") ≡ Some (ampersand ∷ [])
 unfolding named_characters lib.Utf8.encode
 amp_named = same_value (codes "amp") (codes "&") refl
 
--- what a URL is read by at this place
-pub record ReadsUrl (p : SlotPlace) (content : Content) (attribute : Attribute) : Type 0 where
-  pub references : consume (at_value (In p) content attribute) ampersand ≡ moves (at_value (Within p []) content attribute) []
-  pub within : (word : List ℕ) (b : ℕ) →
-      consume (at_value (Within p word) content attribute) b ≡ reference_byte p content attribute word b (value_byte p content (behind_word word attribute) b)
-  pub here : (b : ℕ) → consume (at_value (In p) content attribute) b ≡ value_byte p content attribute b
-  pub kept : (b : ℕ) → ends_value p b ≡ false → (b == ampersand) ≡ false → is_refused (value_byte p content attribute b).next.state ≡ false →
-      value_byte p content attribute b ≡ moves (at_value (In p) content attribute) (ValueByte b ∷ [])
-  pub legacy : (word : List ℕ) (b : ℕ) (again : Transition) → legacy_end p word b again ≡ (if is_legacy word && not (b == equals_sign) then refuses else flushes p word again)
-  pub reads : read_byte p ≡ ValueByte
-
-double_reads : (content : Content) (attribute : Attribute) → is_url attribute ≡ true → ReadsUrl DoubleQuoted content attribute
-unfolding consume
-double_reads content attribute is = record {
-  references = rw (reference_settled attribute is) refl;
-  within = λ word b. ap (λ x. reference_byte DoubleQuoted content x word b (value_byte DoubleQuoted content (behind_word word x) b)) (reference_settled attribute is);
-  here = λ b. refl;
-  kept = λ b inner no_reference unrefused. rw (inner, no_reference, byte_settled attribute b is) refl;
-  legacy = λ word b again. refl;
-  reads = refl;
-}
-
-single_reads : (content : Content) (attribute : Attribute) → is_url attribute ≡ true → ReadsUrl SingleQuoted content attribute
-unfolding consume
-single_reads content attribute is = record {
-  references = rw (reference_settled attribute is) refl;
-  within = λ word b. ap (λ x. reference_byte SingleQuoted content x word b (value_byte SingleQuoted content (behind_word word x) b)) (reference_settled attribute is);
-  here = λ b. refl;
-  kept = λ b inner no_reference unrefused. rw (inner, no_reference, byte_settled attribute b is) refl;
-  legacy = λ word b again. refl;
-  reads = refl;
-}
+url_remains : (attribute : Attribute) → is_url attribute ≡ true → Remains attribute
+url_remains attribute is = record { bytes = λ b. byte_settled attribute b is; references = reference_settled attribute is }
 
 unquoted_kept : (content : Content) (attribute : Attribute) (b : ℕ) → is_url attribute ≡ true →
     ends_value Unquoted b ≡ false → (b == ampersand) ≡ false → is_refused (value_byte Unquoted content attribute b).next.state ≡ false →
@@ -78,16 +49,34 @@ unquoted_kept content attribute b is inner no_reference unrefused =
     (λ (none : is_unquoted_error b ≡ false). rw (parts.0, parts.1, no_reference, none, byte_settled attribute b is) refl)
     (cases_Bool (is_unquoted_error b))
 
-unquoted_reads : (content : Content) (attribute : Attribute) → is_url attribute ≡ true → ReadsUrl Unquoted content attribute
-unfolding consume
-unquoted_reads content attribute is = record {
-  references = rw (reference_settled attribute is) refl;
-  within = λ word b. ap (λ x. reference_byte Unquoted content x word b (value_byte Unquoted content (behind_word word x) b)) (reference_settled attribute is);
-  here = λ b. refl;
+-- what a URL is read by at this place
+pub record ReadsUrl (p : SlotPlace) (content : Content) (attribute : Attribute) : Type 0 where
+  pub references : ReadsReferences attribute (In p) p content
+  pub kept : (b : ℕ) → ends_value p b ≡ false → (b == ampersand) ≡ false → is_refused (value_byte p content attribute b).next.state ≡ false →
+      value_byte p content attribute b ≡ moves (at_value (In p) content attribute) (ValueByte b ∷ [])
+  pub legacy : (word : List ℕ) (b : ℕ) (again : Transition) → legacy_end p word b again ≡ (if is_legacy word && not (b == equals_sign) then refuses else flushes p word again)
+  pub reads : read_byte p ≡ ValueByte
+
+pub reads_url : (p : SlotPlace) (content : Content) (attribute : Attribute) → is_value_place p ≡ true → is_url attribute ≡ true → ReadsUrl p content attribute
+reads_url DoubleQuoted content attribute place is = record {
+  references = (double_reads (url_remains attribute is) content).references;
+  kept = λ b inner no_reference unrefused. rw (inner, no_reference, byte_settled attribute b is) refl;
+  legacy = λ word b again. refl;
+  reads = refl;
+}
+reads_url SingleQuoted content attribute place is = record {
+  references = (single_reads (url_remains attribute is) content).references;
+  kept = λ b inner no_reference unrefused. rw (inner, no_reference, byte_settled attribute b is) refl;
+  legacy = λ word b again. refl;
+  reads = refl;
+}
+reads_url Unquoted content attribute place is = record {
+  references = unquoted_references (url_remains attribute is) content;
   kept = λ b inner no_reference unrefused. unquoted_kept content attribute b is inner no_reference unrefused;
   legacy = λ word b again. refl;
   reads = refl;
 }
+reads_url other content attribute place is = absurd (false≢true place)
 
 -- letters and digits, and a byte that goes on with no reference and ends none, stand for themselves
 module _ {p : SlotPlace} {content : Content} {attribute : Attribute} (reads : ReadsUrl p content attribute) where
@@ -111,9 +100,3 @@ module _ {p : SlotPlace} {content : Content} {attribute : Attribute} (reads : Re
       let named : reference_byte p content attribute (first ∷ word) b again ≡ unnamed_end p (first ∷ word) b again =
       rw (ends, no_number_sign first parts.0, no_end) refl in
       named ∙ named_flushed (first ∷ word) b again no_end (subst (λ (x : Transition). is_refused x.next.state ≡ false) named unrefused)
-
-pub reads_url : (p : SlotPlace) (content : Content) (attribute : Attribute) → is_value_place p ≡ true → is_url attribute ≡ true → ReadsUrl p content attribute
-reads_url DoubleQuoted content attribute place is = double_reads content attribute is
-reads_url SingleQuoted content attribute place is = single_reads content attribute is
-reads_url Unquoted content attribute place is = unquoted_reads content attribute is
-reads_url other content attribute place is = absurd (false≢true place)

@@ -1,6 +1,5 @@
 pub mod AtSlots
 pub mod Components
-pub mod LookingBack
 pub mod Marks
 pub mod Refusals
 pub mod Tame

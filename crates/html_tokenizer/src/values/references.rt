@@ -50,12 +50,14 @@ fn is_one(names: &[&[u8]], word: &[u8]) -> bool
     names.iter().any(|name| *name == word)
 }
 
+#[tactic(auto, unfolding(crate::specs::Tokenizer::Values::References::begins_with_legacy))]
 fn begins_with_legacy(word: &[u8]) -> bool
     ensures { result ≡ begins_with_legacy word.now }
 {
     begins_with_one(&LEGACY_NAMES, word)
 }
 
+#[tactic(auto, unfolding(crate::specs::Tokenizer::Values::References::is_legacy))]
 fn is_legacy(word: &[u8]) -> bool
     ensures { result ≡ is_legacy word.now }
 {

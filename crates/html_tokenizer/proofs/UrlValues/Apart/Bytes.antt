@@ -5,8 +5,7 @@ use Rattle.html_tokenizer.specs.Tokenizer.Actions.{Action}
 use Rattle.html_tokenizer.specs.Tokenizer.States.{Tokenizer}
 use Rattle.html_tokenizer.specs.Tokenizer.Tokenization.{actions_of, consume, state_after}
 use Rattle.html_tokenizer.specs.UrlValues.{is_url, open_url, urls_from, value_bytes}
-use Rattle.html_tokenizer.proofs.UrlValues.Apart.NewAttributes.{BeginsNone, neither_begins, value_bytes-append}
-use Rattle.html_tokenizer.proofs.UrlValues.Apart.OneByte.{IsApart, apart_at_end, apart_next}
+use Rattle.html_tokenizer.proofs.UrlValues.Apart.OneByte.{BeginsNone, neither_begins, value_bytes-append, IsApart, apart_at_end, apart_next}
 use Rattle.html_tokenizer.proofs.UrlValues.Slots.Tame.{IsTame, tame_next}
 
 -- no URL opens or ends in the bytes, which lead to that state

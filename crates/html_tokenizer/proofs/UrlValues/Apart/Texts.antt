@@ -7,8 +7,7 @@ use Rattle.html_tokenizer.specs.Tokenizer.Tokenization.{actions_of, state_after}
 use Rattle.html_tokenizer.specs.UrlValues.{is_url, value_bytes}
 use Rattle.html_tokenizer.proofs.Passing.{Passes}
 use Rattle.html_tokenizer.proofs.UrlValues.Apart.Bytes.{KeepsUrl, StaysApart, keeps_url, stays_apart}
-use Rattle.html_tokenizer.proofs.UrlValues.Apart.NewAttributes.{BeginsNone, literal_begins_none, text_begins_none, text_in_value}
-use Rattle.html_tokenizer.proofs.UrlValues.Apart.OneByte.{IsApart}
+use Rattle.html_tokenizer.proofs.UrlValues.Apart.OneByte.{BeginsNone, literal_begins_none, text_begins_none, text_in_value, IsApart}
 use Rattle.html_tokenizer.proofs.UrlValues.Places.{is_value_place}
 use Rattle.html_tokenizer.proofs.UrlValues.Slots.Tame.{IsTame}
 

@@ -1,24 +1,22 @@
 -- A URL opens after the `=` of an attribute alone.
-use Rattle.std.proofs.Common.{ℕ, ◌≡◌, Bool, true, false, List, [], ◌∷◌, ◌++◌, ◌==◌, codes, if◌then◌else◌, refl, ◌∙◌, sym, ⊎_elim, arith}
+use Rattle.std.proofs.Common.{ℕ, ◌≡◌, Bool, true, false, List, [], ◌∷◌, ◌++◌, ◌==◌, inl, inr, codes, if◌then◌else◌, refl, ◌∙◌, sym, ⊎_elim, arith}
 use Rattle.std.proofs.lemmas.Bool.{cases_Bool, eqb-true, true≢false}
 use Rattle.hesc_specs.specs.Text.Ascii.{equals_sign, slash}
 use Rattle.html_tokenizer.specs.declared.elements.Content.{Content}
 use Rattle.html_tokenizer.specs.declared.elements.OpenElement.{OpenElement}
-use Rattle.html_tokenizer.specs.declared.elements.OpenElement.TheVariants.{ResourceTag, DataBlock, EmbedTag, MathEmbedTag, Meta, MetaContent, MetaPragma, MetaType, NoScript, NoScriptFrame, NoScriptStyle, Script, SelectEmbedTag, SvgEmbedTag}
+use Rattle.html_tokenizer.specs.declared.elements.OpenElement.TheVariants.{Script}
 use Rattle.html_tokenizer.specs.Tokenizer.Actions.{read_byte, value_end}
 use Rattle.html_tokenizer.specs.Tokenizer.Attributes.{raw_value, value_but_of, value_in, value_of, reference_read}
 use Rattle.html_tokenizer.specs.Tokenizer.Elements.{beside}
 use Rattle.html_tokenizer.specs.Tokenizer.States.{AfterName, AfterValue, Attribute, BeforeName, BeforeValue, CodeEndTag, CodeLess, CodeWord, EndTagName, EndTagOpen, In, InCode, Name, Ordinary, SelfClosing, State, StringLess, TagName, TagOpen, ValueEndTag, Within, Tokenizer, at_value}
-use Rattle.html_tokenizer.specs.Tokenizer.Transitions.{Transition, goes, moves}
+use Rattle.html_tokenizer.specs.Tokenizer.Transitions.{Transition, moves}
 use Rattle.html_tokenizer.specs.declared.slot_place.SlotPlace.TheVariants.{Text}
-use Rattle.html_tokenizer.specs.Tokenizer.Tags.{end_tag_open_byte, first_name_byte, in_tag, name_byte, tag_open_byte}
+use Rattle.html_tokenizer.specs.Tokenizer.Tags.{first_name_byte, in_tag, name_byte}
 use Rattle.html_tokenizer.specs.Tokenizer.Tags.EndTags.{is_rcdata}
 use Rattle.html_tokenizer.specs.Tokenizer.Tokenization.{byte_in, consume, value_byte}
 use Rattle.html_tokenizer.specs.UrlValues.{is_url, value_bytes}
-use Rattle.html_tokenizer.specs.Tokenizer.Values.{rcdata_end_tag_open_byte, rcdata_less_byte}
 use Rattle.html_tokenizer.proofs.UrlValues.Names.{is_named, opens_no_url}
-use Rattle.html_tokenizer.proofs.UrlValues.Opening.Code.{code_end_opens_none, code_less_opens_none, code_word_opens_none, in_code_opens_none}
-use Rattle.html_tokenizer.proofs.UrlValues.Opening.Tags.{HoldsNone, OpensNone, closed_opens_none, either_opens_none, end_name_opens_none, first_name_holds_none, held_opens_none, in_tag_holds_none, in_tag_opens_none, name_holds_none, tag_name_opens_none, tag_open_opens_none}
+use Rattle.html_tokenizer.proofs.UrlValues.Opening.Markup.{code_end_opens_none, code_less_opens_none, code_word_opens_none, in_code_opens_none, HoldsNone, OpensNone, closed_opens_none, end_name_opens_none, first_name_holds_none, held_opens_none, in_tag_holds_none, in_tag_opens_none, name_holds_none, tag_name_opens_none, tag_open_opens_none}
 use Rattle.html_tokenizer.proofs.UrlValues.Opening.Values.{before_value_opens_none, reference_opens_none, string_less_opens_none, value_opens_none, within_opens_none}
 
 -- a value that begins, after `=`
@@ -32,24 +30,21 @@ abbrev pub may_be_named : State → Bool
 may_be_named BeforeName = true
 may_be_named s = is_named s
 
-rcdata_end_opens_none : (content : Content) (b : ℕ) → OpensNone (rcdata_end_tag_open_byte content b)
-rcdata_end_opens_none content b = grind (arith, value_opens_none Text content Ordinary b refl)
-
-end_open_opens_none : (content : Content) (b : ℕ) → OpensNone (end_tag_open_byte content b)
-end_open_opens_none content b = grind arith
-
 pub others_open_none : (s : State) (content : Content) (attribute : Attribute) (b : ℕ) → may_be_named s ≡ false → is_url attribute ≡ false →
     OpensNone (byte_in s content attribute b)
 others_open_none (In p) content attribute b name is = value_opens_none p content attribute b is
 others_open_none (Within p word) content attribute b name is = within_opens_none p content (reference_read attribute) word b (reference_opens_none attribute is)
 others_open_none (StringLess p) content attribute b name is = string_less_opens_none p content attribute b is
 others_open_none TagOpen content attribute b name is =
-    let other : Transition = if is_rcdata content.element then rcdata_less_byte content b else tag_open_byte content b in
-    either_opens_none (b == slash) (goes EndTagOpen content []) other refl
-    (either_opens_none (is_rcdata content.element) (rcdata_less_byte content b) (tag_open_byte content b) (value_opens_none Text content Ordinary b refl) (tag_open_opens_none content b))
+    elim (cases_Bool (b == slash)) [
+      | inl solidus ↦ rw solidus refl
+      | inr other ↦ rw other (grind (arith, value_opens_none Text content Ordinary b refl, tag_open_opens_none content b))
+    ]
 others_open_none EndTagOpen content attribute b name is =
-    either_opens_none (is_rcdata content.element) (rcdata_end_tag_open_byte content b) (end_tag_open_byte content b)
-    (rcdata_end_opens_none content b) (end_open_opens_none content b)
+    elim (cases_Bool (is_rcdata content.element)) [
+      | inl text ↦ rw text (grind (arith, value_opens_none Text content Ordinary b refl))
+      | inr markup ↦ rw markup (grind arith)
+    ]
 others_open_none (TagName word) content attribute b name is = tag_name_opens_none content word b
 others_open_none BeforeName content attribute b name is = absurd (true≢false name)
 others_open_none AfterValue content attribute b name is = in_tag_opens_none BeforeName content b _ refl refl
@@ -78,20 +73,8 @@ but_of_begins barred content name = grind arith
 value_begins : (element : OpenElement) (content : Content) (name : List ℕ) → is_url (value_in element content name).attribute ≡ true →
     (value_in element content name).state ≡ BeforeValue
 value_begins Script content name is = grind (arith, but_of_begins (codes "for") content name)
-value_begins DataBlock content name is = grind (arith, but_of_begins (codes "for") content name)
-value_begins EmbedTag content name is = but_of_begins (codes "type") content name
-value_begins SvgEmbedTag content name is = but_of_begins (codes "type") content name
-value_begins MathEmbedTag content name is = but_of_begins (codes "type") content name
-value_begins SelectEmbedTag content name is = but_of_begins (codes "type") content name
-value_begins Meta content name is = grind arith
-value_begins MetaContent content name is = grind arith
-value_begins MetaPragma content name is = grind arith
-value_begins MetaType content name is = grind arith
-value_begins ResourceTag content name is = grind arith
-value_begins NoScript content name is = absurd (true≢false (sym is ∙ raw_is_none content name))
-value_begins NoScriptStyle content name is = absurd (true≢false (sym is ∙ raw_is_none content name))
-value_begins NoScriptFrame content name is = absurd (true≢false (sym is ∙ raw_is_none content name))
-value_begins other content name is = refl
+value_begins other content name is =
+    grind (arith, but_of_begins (codes "for") content name, but_of_begins (codes "type") content name, raw_is_none content name)
 
 name_opens : (content : Content) (name : List ℕ) (b : ℕ) (other : Transition) → HoldsNone other →
     is_url (if b == equals_sign then moves (value_of content name) [] else other).next.attribute ≡ true →

@@ -16,8 +16,7 @@ use Rattle.html_tokenizer.specs.Tokenizer.Values.{before_value_byte, character_r
 use Rattle.html_tokenizer.specs.Tokenizer.Values.References.{behind_word, characters_read, named_characters, reference_byte, unnamed_end}
 use Rattle.html_tokenizer.specs.UrlValues.{is_url}
 use Rattle.html_tokenizer.proofs.UrlValues.Attributes.{behind_url}
-use Rattle.html_tokenizer.proofs.UrlValues.Opening.Code.{in_code_opens_none}
-use Rattle.html_tokenizer.proofs.UrlValues.Opening.Tags.{OpensNone, opened_opens_none}
+use Rattle.html_tokenizer.proofs.UrlValues.Opening.Markup.{in_code_opens_none, OpensNone, opened_opens_none}
 
 pub byte_opens_none : (attribute : Attribute) (b : ℕ) → is_url attribute ≡ false → is_url (value_byte_read attribute b) ≡ false
 byte_opens_none Url b is = is
@@ -58,10 +57,7 @@ value_opens_none Unquoted content attribute b is =
     let at_space = ended_opens_none (content_after content attribute) (λ inner. goes BeforeName inner []) (λ inner. refl) in
     let at_greater = ended_opens_none (content_after content attribute) opened (λ inner. opened_opens_none inner) in
     grind (arith, byte_opens_none attribute b is, reference_opens_none attribute is, at_space, at_greater)
-value_opens_none ScriptSingle content attribute b is = grind (arith, byte_opens_none attribute b is, reference_opens_none attribute is)
-value_opens_none ScriptDouble content attribute b is = grind (arith, byte_opens_none attribute b is, reference_opens_none attribute is)
-value_opens_none StyleSingle content attribute b is = grind (arith, byte_opens_none attribute b is, reference_opens_none attribute is)
-value_opens_none StyleDouble content attribute b is = grind (arith, byte_opens_none attribute b is, reference_opens_none attribute is)
+value_opens_none other content attribute b is = grind (arith, byte_opens_none attribute b is, reference_opens_none attribute is)
 
 pub before_value_opens_none : (content : Content) (attribute : Attribute) (b : ℕ) → is_url attribute ≡ false →
     OpensNone (before_value_byte content attribute b)

@@ -1,37 +1,17 @@
 -- The byte after which the value of a URL begins, from where the value stands open.
-use Rattle.std.proofs.Common.{ℕ, ◌≡◌, true, false, List, [], ◌∷◌, ◌++◌, ◌==◌, refl, ◌∙◌, sym, subst, ⊎_elim}
+use Rattle.std.proofs.Common.{ℕ, ◌≡◌, true, false, List, [], ◌∷◌, ◌++◌, refl, ap, ◌∙◌, sym, subst, ⊎_elim}
 use Rattle.std.specs.List.{list_any}
-use Rattle.std.proofs.lemmas.Bool.{cases_Bool, false≢true, or_parts, or_right, true≢false}
-use Rattle.hesc_specs.specs.Text.Ascii.{double_quote, equals_sign, single_quote}
+use Rattle.std.proofs.lemmas.Bool.{cases_Bool, or_parts, true≢false}
 use Rattle.html_tokenizer.specs.declared.slot_place.SlotPlace.{SlotPlace}
-use Rattle.html_tokenizer.specs.declared.slot_place.SlotPlace.TheVariants.{DoubleQuoted, SingleQuoted, Unquoted}
-use Rattle.html_tokenizer.specs.Tokenizer.States.{BeforeValue, In, State, Tokenizer}
-use Rattle.html_tokenizer.specs.Tokenizer.Tags.{is_space}
+use Rattle.html_tokenizer.specs.declared.slot_place.SlotPlace.TheVariants.{Unquoted}
+use Rattle.html_tokenizer.specs.Tokenizer.States.{BeforeValue, State, Tokenizer}
 use Rattle.html_tokenizer.specs.Tokenizer.Tokenization.{consume, state_after}
 use Rattle.html_tokenizer.specs.Tokenizer.Transitions.{Transition}
 use Rattle.html_tokenizer.specs.UrlValues.{begins_value, ends_value, is_url, url_after, value_bytes}
-use Rattle.html_tokenizer.proofs.UrlValues.Bytes.{Begins, OpenUrl, before, blank, double, is_at, single, stays_open, unquoted, within}
+use Rattle.html_tokenizer.proofs.UrlValues.Bytes.{Begins, OpenUrl, before, is_at, start_state, starts, stays_open, unquoted, within}
 use Rattle.html_tokenizer.proofs.UrlValues.Following.{StaysAt}
 use Rattle.html_tokenizer.proofs.UrlValues.Opening.AllStates.{opens_at_equals}
-use Rattle.html_tokenizer.proofs.UrlValues.Slots.Tame.{IsFresh, IsTame, inside_at, one_place, tame_next}
-
--- ---- what the bytes that begin a value at a place are
-
-blank_begins : (p : SlotPlace) (b : ℕ) (s : State) → s ≡ BeforeValue → is_at p s ≡ true → is_space b ≡ true → begins_value p b ≡ true
-blank_begins Unquoted b s is at space = or_right (b == equals_sign) (is_space b) space
-blank_begins p b s is at space = absurd (false≢true (rw is at at))
-
-equals_begins : (p : SlotPlace) (b : ℕ) (s : State) → s ≡ BeforeValue → is_at p s ≡ true → b ≡ equals_sign → begins_value p b ≡ true
-equals_begins Unquoted b s is at equals = rw equals refl
-equals_begins p b s is at equals = absurd (false≢true (rw is at at))
-
-double_begins : (p : SlotPlace) (b : ℕ) (s : State) → s ≡ In DoubleQuoted → is_at p s ≡ true → b ≡ double_quote → begins_value p b ≡ true
-double_begins DoubleQuoted b s is at mark = rw mark refl
-double_begins p b s is at mark = absurd (false≢true (rw is at at))
-
-single_begins : (p : SlotPlace) (b : ℕ) (s : State) → s ≡ In SingleQuoted → is_at p s ≡ true → b ≡ single_quote → begins_value p b ≡ true
-single_begins SingleQuoted b s is at mark = rw mark refl
-single_begins p b s is at mark = absurd (false≢true (rw is at at))
+use Rattle.html_tokenizer.proofs.UrlValues.Slots.Tame.{IsFresh, IsTame, inside_at, one_place, one_start, tame_next}
 
 -- ---- back over bytes that begin no value at the place
 
@@ -42,9 +22,8 @@ record Stood (p : SlotPlace) (b : ℕ) (s : State) : Type 0 where
 
 begins_back : {s : State} {b : ℕ} {x : Transition} (p : SlotPlace) → s ≡ BeforeValue → Begins b x → is_at p x.next.state ≡ true →
     begins_value p b ≡ false → Stood p b s
-begins_back {b = b} {x = x} p here (blank space next actions) at none = absurd (true≢false (sym (blank_begins p b x.next.state next at space) ∙ none))
-begins_back {b = b} {x = x} p here (double mark next actions) at none = absurd (true≢false (sym (double_begins p b x.next.state next at mark) ∙ none))
-begins_back {b = b} {x = x} p here (single mark next actions) at none = absurd (true≢false (sym (single_begins p b x.next.state next at mark) ∙ none))
+begins_back {b = b} {x = x} p here (starts q place mark next actions) at none =
+    absurd (true≢false (sym mark ∙ subst (λ r. begins_value r b ≡ false) (one_start p q x.next.state next at) none))
 begins_back {s} {b} {x} p here (unquoted stays) at none =
     subst (λ q. Stood q b s) (one_place Unquoted p x.next.state stays.inside at) (record { at = rw here refl; no_end = stays.no_end })
 
@@ -71,26 +50,11 @@ walks_back p t (b ∷ bytes) tame url at none =
     record { url = here; at = stood.at; inner = rw (stood.no_end, rest.inner) refl })
     (λ (no_url : is_url t.attribute ≡ false).
     let opened = opens_at_equals t b no_url rest.url in
-    absurd (true≢false (sym (equals_begins p b (consume t b).next.state opened.before_value rest.at opened.equals) ∙ parts.0)))
+    let mark : begins_value Unquoted b ≡ true = rw opened.equals refl in
+    absurd (true≢false (sym mark ∙ subst (λ r. begins_value r b ≡ false) (one_start p Unquoted (consume t b).next.state opened.before_value rest.at) parts.0)))
     (cases_Bool (is_url t.attribute))
 
 -- ---- the byte that begins the value
-
-abbrev pub start_state : SlotPlace → State
-start_state Unquoted = BeforeValue
-start_state p = In p
-
-blank_starts : (p : SlotPlace) (s : State) → s ≡ BeforeValue → is_at p s ≡ true → s ≡ start_state p
-blank_starts Unquoted s is at = is
-blank_starts p s is at = absurd (false≢true (rw is at at))
-
-double_starts : (p : SlotPlace) (s : State) → s ≡ In DoubleQuoted → is_at p s ≡ true → s ≡ start_state p
-double_starts DoubleQuoted s is at = is
-double_starts p s is at = absurd (false≢true (rw is at at))
-
-single_starts : (p : SlotPlace) (s : State) → s ≡ In SingleQuoted → is_at p s ≡ true → s ≡ start_state p
-single_starts SingleQuoted s is at = is
-single_starts p s is at = absurd (false≢true (rw is at at))
 
 -- after the byte the value at this place begins, and holds nothing
 record StartsAfter (p : SlotPlace) (value : List ℕ) (x : Transition) : Type 0 where
@@ -103,9 +67,8 @@ no_start {q} {b} {s} p stays at mark =
 
 begins_starts : {b : ℕ} {x : Transition} (p : SlotPlace) (value : List ℕ) → value ≡ [] → Begins b x → is_at p x.next.state ≡ true →
     begins_value p b ≡ true → StartsAfter p value x
-begins_starts {x = x} p value fresh (blank space next actions) at mark = record { start = blank_starts p x.next.state next at; nothing = rw (fresh, actions) refl }
-begins_starts {x = x} p value fresh (double quote next actions) at mark = record { start = double_starts p x.next.state next at; nothing = rw (fresh, actions) refl }
-begins_starts {x = x} p value fresh (single quote next actions) at mark = record { start = single_starts p x.next.state next at; nothing = rw (fresh, actions) refl }
+begins_starts {x = x} p value fresh (starts q place mark next actions) at begins =
+    record { start = next ∙ ap start_state (sym (one_start p q x.next.state next at)); nothing = rw (fresh, actions) refl }
 begins_starts p value fresh (unquoted stays) at mark = no_start p stays at mark
 
 open_starts : {s : State} {b : ℕ} {x : Transition} (p : SlotPlace) (value : List ℕ) → (s ≡ BeforeValue → value ≡ []) → OpenUrl s b x →
@@ -126,5 +89,5 @@ mark_starts p t value b tame fresh url at mark =
     record { start = starts.start; nothing = rw here starts.nothing })
     (λ (no_url : is_url t.attribute ≡ false).
     let opened = opens_at_equals t b no_url url in
-    record { start = blank_starts p (consume t b).next.state opened.before_value at; nothing = rw (no_url, opened.nothing) refl })
+    record { start = opened.before_value ∙ ap start_state (sym (one_start p Unquoted (consume t b).next.state opened.before_value at)); nothing = rw (no_url, opened.nothing) refl })
     (cases_Bool (is_url t.attribute))

@@ -8,7 +8,7 @@ use Rattle.html_tokenizer.specs.Tokenizer.States.{BeforeValue, In, State, Tokeni
 use Rattle.html_tokenizer.specs.Tokenizer.Tokenization.{consume, state_after}
 use Rattle.html_tokenizer.specs.Tokenizer.Transitions.{Transition}
 use Rattle.html_tokenizer.specs.UrlValues.{is_url, open_url, url_after, value_bytes}
-use Rattle.html_tokenizer.proofs.UrlValues.Bytes.{Begins, OpenUrl, before, blank, double, is_at, may_hold_url, single, stays_open, unquoted, within}
+use Rattle.html_tokenizer.proofs.UrlValues.Bytes.{Begins, OpenUrl, before, is_at, may_hold_url, start_state, starts, stays_open, unquoted, within}
 use Rattle.html_tokenizer.proofs.UrlValues.Following.{in_value}
 use Rattle.html_tokenizer.proofs.UrlValues.Opening.AllStates.{opens_at_equals}
 use Rattle.html_tokenizer.proofs.UrlValues.Places.{is_value_place}
@@ -47,16 +47,25 @@ one_place p q (In r) inside at = same_places p r inside ∙ sym (same_places q r
 one_place p q (Within r word) inside at = same_places p r inside ∙ sym (same_places q r at)
 one_place p q other inside at = absurd (false≢true inside)
 
+-- nor does a value begin at two places
+pub one_start : (p q : SlotPlace) (s : State) → s ≡ start_state q → is_at p s ≡ true → p ≡ q
+one_start Unquoted Unquoted s is at = refl
+one_start Unquoted q s is at = same_places Unquoted q (rw is at at)
+one_start p Unquoted s is at = absurd (false≢true (rw is at at))
+one_start p q s is at = same_places p q (rw is at at)
+
 pub inside_at : (p : SlotPlace) (s : State) → in_value p s ≡ true → is_at p s ≡ true
 inside_at Unquoted (In r) inside = inside
 inside_at Unquoted (Within r word) inside = inside
 inside_at Unquoted other inside = absurd (false≢true inside)
 inside_at p s inside = inside
 
+start_holds : (q : SlotPlace) → is_value_place q ≡ true → may_hold_url (start_state q) ≡ true
+start_holds Unquoted place = refl
+start_holds q place = place
+
 begins_holds : {b : ℕ} {x : Transition} → Begins b x → may_hold_url x.next.state ≡ true
-begins_holds (blank space next actions) = rw next refl
-begins_holds (double mark next actions) = rw next refl
-begins_holds (single mark next actions) = rw next refl
+begins_holds (starts q place mark next actions) = rw next (start_holds q place)
 begins_holds {x = x} (unquoted stays) = inside_holds Unquoted x.next.state refl stays.inside
 
 open_holds : {s : State} {b : ℕ} {x : Transition} → OpenUrl s b x → may_hold_url x.next.state ≡ true
@@ -83,9 +92,7 @@ not_before : (p : SlotPlace) (s : State) → in_value p s ≡ true → s ≡ Bef
 not_before p s inside is = false≢true (rw is at inside)
 
 begins_fresh : {b : ℕ} {x : Transition} (value : List ℕ) → value ≡ [] → Begins b x → x.next.state ≡ BeforeValue → value ++ value_bytes x.actions ≡ []
-begins_fresh value fresh (blank space next actions) is = rw (fresh, actions) refl
-begins_fresh value fresh (double mark next actions) is = rw (fresh, actions) refl
-begins_fresh value fresh (single mark next actions) is = rw (fresh, actions) refl
+begins_fresh value fresh (starts q place mark next actions) is = rw (fresh, actions) refl
 begins_fresh {x = x} value fresh (unquoted stays) is = absurd (not_before Unquoted x.next.state stays.inside is)
 
 open_fresh : {s : State} {b : ℕ} {x : Transition} (value : List ℕ) → (s ≡ BeforeValue → value ≡ []) → OpenUrl s b x → x.next.state ≡ BeforeValue →

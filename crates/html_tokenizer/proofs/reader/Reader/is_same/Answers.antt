@@ -1,5 +1,5 @@
 use Rattle.std.proofs.Common.{rules}
-use Rattle.html_tokenizer.proofs.Same.{same_reader, same_word}
+use Rattle.html_tokenizer.proofs.HeldWords.{same_reader, same_word}
 use Rattle.html_tokenizer.proofs.reader.Reader.is_same.Goals as goal
 
 pub returns-then-not-holds_word : goal.returns-then-not-holds_word

@@ -1,7 +1,6 @@
 use Rattle.std.proofs.Common.{arith, refl, sym, ◌∙◌}
 use Rattle.html_tokenizer.specs.Tokenizer.Phases.{tokenizer_of}
-use Rattle.html_tokenizer.proofs.Passing.{refuses_rest}
-use Rattle.html_tokenizer.proofs.Staying.{reads_longer}
+use Rattle.html_tokenizer.proofs.Passing.{refuses_rest, reads_longer}
 use Rattle.html_tokenizer.proofs.reader.Reader.read.Goals as goal
 
 pub returns-in-Refused : goal.returns-in-Refused

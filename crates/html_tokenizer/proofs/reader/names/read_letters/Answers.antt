@@ -2,7 +2,7 @@ use Rattle.std.proofs.Common.{◌≡◌, ◌+◌, set, ◌++◌, ◌∷◌, [], 
 use Rattle.std.proofs.lemmas.List.{take_more_set}
 use Rattle.html_tokenizer.specs.Tokenizer.Phases.{state_of}
 use Rattle.html_tokenizer.specs.Tokenizer.States.{at_value}
-use Rattle.html_tokenizer.proofs.Staying.{reads_longer}
+use Rattle.html_tokenizer.proofs.Passing.{reads_longer}
 use Rattle.html_tokenizer.proofs.reader.names.read_letters.Goals as goal
 
 pub letters-preserved : goal.letters-preserved

@@ -1,6 +1,6 @@
 use Rattle.std.proofs.Common.{◌+◌, arith, sym}
 use Rattle.html_tokenizer.specs.Tokenizer.States.{InCode, at}
-use Rattle.html_tokenizer.proofs.Staying.{reads_longer, reads_more}
+use Rattle.html_tokenizer.proofs.Passing.{reads_longer, reads_more}
 use Rattle.html_tokenizer.proofs.reader.stretches.script_words.Goals as goal
 
 pub returns-in_default-clause-read : goal.returns-in_default-clause-read

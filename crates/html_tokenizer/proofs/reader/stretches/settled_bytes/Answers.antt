@@ -2,7 +2,7 @@ use Rattle.std.proofs.Common.{◌∙◌, arith, slice_index, sym}
 use Rattle.html_tokenizer.specs.Tokenizer.States.{InCode, at}
 use Rattle.html_tokenizer.specs.Tokenizer.Stretches.{settled}
 use Rattle.html_tokenizer.proofs.SettledWords.{words_settle}
-use Rattle.html_tokenizer.proofs.Staying.{reads_longer}
+use Rattle.html_tokenizer.proofs.Passing.{reads_longer}
 use Rattle.html_tokenizer.proofs.reader.stretches.settled_bytes.Goals as goal
 
 pub settled-preserved : goal.settled-preserved

@@ -1,5 +1,0 @@
-use Rattle.std.proofs.Common.{rules}
-use Rattle.html_tokenizer.proofs.code.styles.url_open_byte.Goals as goal
-
-pub returns : goal.returns
-returns c = search rules
