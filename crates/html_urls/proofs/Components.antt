@@ -1,5 +1,5 @@
 -- What a component's bytes are, and that it decodes to its text.
-use Rattle.std.proofs.Common.{◌≡◌, ◌↔◌, subst, ◌≤◌, ◌+◌, ◌*◌, ℕ, true, false, not, List, [], ◌∷◌, ◌++◌, length, if◌then◌else◌, length-append, take, drop, take-append-drop, sym, All, refl, ap, ◌∙◌, ⊎_elim, arith}
+use Rattle.std.proofs.Common.{◌≡◌, ◌↔◌, subst, ◌≤◌, ◌+◌, ◌*◌, ℕ, true, false, not, List, [], ◌∷◌, ◌++◌, length, if◌then◌else◌, length-append, take, drop, take-append-drop, sym, All, refl, ap, ◌∙◌, arith, inl, inr}
 use Rattle.std.proofs.lemmas.Bool.{cases_Bool, cond-true, cond-false}
 use Rattle.std.proofs.lemmas.Bool.Decides.{nat_tests}
 use Rattle.std.proofs.lemmas.List.Elements.{All-append, All-drop, All-take, All-weaker}
@@ -28,8 +28,7 @@ component_visible text =
 
 -- no byte that the test refuses is in a component
 pub component_without : (mark : ℕ) → is_component_byte mark ≡ false → (text : List ℕ) → All (IsNot mark) (component text)
-component_without mark other text =
-    All-weaker (Passes is_component_byte) (IsNot mark) (λ b passes same. let clash = rw (same, other) at passes in cc) (component text) (component_bytes text)
+component_without mark other text = grind (arith, nat_tests, component_bytes)
 
 -- decoding gives the text back
 pub decode-component : (text : List ℕ) → All IsByte text → percent_decode (component text) ≡ text
@@ -52,11 +51,10 @@ pub length-component : (text : List ℕ) → length (component text) ≤ length 
 length-component [] = rw (percent_encode-nil COMPONENT) (omega arith)
 length-component (b ∷ text) =
     let later = length-component text in
-    ⊎_elim
-    (λ (escaped : should_percent_encode COMPONENT b ≡ true).
-    rw (percent_encode_escaped COMPONENT b text escaped) (omega (arith, later, length-append (percent_encode_byte b) (component text), length-percent_encode_byte b)))
-    (λ (plain : should_percent_encode COMPONENT b ≡ false). rw (percent_encode_kept COMPONENT b text plain) (omega (arith, later)))
-    (cases_Bool (should_percent_encode COMPONENT b))
+    elim (cases_Bool (should_percent_encode COMPONENT b)) [
+      | inl escaped ↦ rw (percent_encode_escaped COMPONENT b text escaped) (omega (arith, later, length-append (percent_encode_byte b) (component text), length-percent_encode_byte b))
+      | inr plain ↦ rw (percent_encode_kept COMPONENT b text plain) (omega (arith, later))
+    ]
 
 -- ---- how many bytes are encoded
 
@@ -66,14 +64,12 @@ component_length_is [] = rw (percent_encode-nil COMPONENT) refl
 component_length_is (b ∷ text) =
     let later = component_length_is text in
     let counted = sum_by-cons (λ c. if is_encoded c then 1 else 0) b text in
-    ⊎_elim
-    (λ (escaped : should_percent_encode COMPONENT b ≡ true).
-    let one : encoded_count (b ∷ text) ≡ 1 + encoded_count text = counted ∙ ap (λ n. n + encoded_count text) (cond-true _ _ _ escaped) in
-    ap length (percent_encode_escaped COMPONENT b text escaped) ∙ omega (arith, one, later, length-append (percent_encode_byte b) (component text), length-percent_encode_byte b))
-    (λ (plain : should_percent_encode COMPONENT b ≡ false).
-    let none : encoded_count (b ∷ text) ≡ 0 + encoded_count text = counted ∙ ap (λ n. n + encoded_count text) (cond-false _ _ _ plain) in
-    ap length (percent_encode_kept COMPONENT b text plain) ∙ omega (arith, none, later))
-    (cases_Bool (should_percent_encode COMPONENT b))
+    elim (cases_Bool (should_percent_encode COMPONENT b)) [
+      | inl escaped ↦ let one : encoded_count (b ∷ text) ≡ 1 + encoded_count text = counted ∙ ap (λ n. n + encoded_count text) (cond-true _ _ _ escaped) in
+          ap length (percent_encode_escaped COMPONENT b text escaped) ∙ omega (arith, one, later, length-append (percent_encode_byte b) (component text), length-percent_encode_byte b)
+      | inr plain ↦ let none : encoded_count (b ∷ text) ≡ 0 + encoded_count text = counted ∙ ap (λ n. n + encoded_count text) (cond-false _ _ _ plain) in
+          ap length (percent_encode_kept COMPONENT b text plain) ∙ omega (arith, none, later)
+    ]
 
 -- the component of a text in two parts
 pub component_parts : (text front back : List ℕ) (n : ℕ) → front ≡ take n text → back ≡ drop n text → component text ≡ component front ++ component back

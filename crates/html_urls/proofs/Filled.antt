@@ -3,3 +3,4 @@ pub mod OpenSegments
 pub mod LaterSlots
 pub mod FirstSlot
 pub mod MayFill
+pub mod Told

@@ -1,5 +1,6 @@
 -- Markup whose last bytes are no part of an escape with what follows.
 use Rattle.std.proofs.Common.{◌≡◌, ℕ, suc, ◌-◌, Bool, true, false, not, ◌&&◌, ◌||◌, ◌==◌, List, [], ◌∷◌, ◌++◌, get_or, length, All, refl, arith}
+use Rattle.std.proofs.lemmas.Bool.Decides.{nat_tests}
 use Rattle.std.specs.Char.{is_digit}
 use Rattle.std.specs.List.{list_all}
 use Rattle.std.proofs.lemmas.Bool.{and_parts}
@@ -15,8 +16,7 @@ ends_by_places [] = refl
 ends_by_places (b ∷ []) = one (b == 37) (is_digit b 16)
   where
     one : (x y : Bool) → x ≡ (x || (x && y))
-    one true y = refl
-    one false y = refl
+    one x y = grind (arith, nat_tests)
 ends_by_places (b ∷ c ∷ []) = refl
 ends_by_places (b ∷ c ∷ d ∷ bytes) =
     let last : length (b ∷ c ∷ d ∷ bytes) - 1 ≡ suc (length (c ∷ d ∷ bytes) - 1) = omega arith in
@@ -29,13 +29,7 @@ plain_bytes markup is_last plain = All_from_list_all is_plain_byte markup (and_p
 
 -- the last bytes alone leave no escape open, where all do not
 pub later_closed : (b : ℕ) (bytes : List ℕ) → ends_in_escape (b ∷ bytes) ≡ false → ends_in_escape bytes ≡ false
-later_closed b [] closed = refl
-later_closed b (c ∷ []) closed = first (c == 37) (b == 37 && is_digit c 16) closed
-  where
-    first : (x y : Bool) → (x || y) ≡ false → x ≡ false
-    first true y none = cc
-    first false y none = refl
-later_closed b (c ∷ d ∷ bytes) closed = closed
+later_closed b bytes closed = grind (arith, nat_tests)
 
 pub end_closed : (front bytes : List ℕ) → ends_in_escape (front ++ bytes) ≡ false → ends_in_escape bytes ≡ false
 end_closed [] bytes closed = closed
@@ -64,17 +58,14 @@ abbrev pub ClosesEscapes : List Given → Type 0
 ClosesEscapes parts = closes_escapes parts ≡ true
 
 pub not_true : (x : Bool) → not x ≡ true → x ≡ false
-not_true true is = cc
-not_true false is = refl
+not_true x is = grind (arith, nat_tests)
 
 -- markup before parts, and parts behind markup
 pub closed_before : (bytes : List ℕ) (parts : List Given) → ends_in_escape bytes ≡ false → ClosesEscapes parts → ClosesEscapes (Markup bytes ∷ parts)
-closed_before bytes [] none closed = refl
-closed_before bytes (part ∷ parts) none closed = rw none closed
+closed_before bytes parts none closed = grind (arith, nat_tests)
 
 pub closed_behind : (bytes : List ℕ) (parts : List Given) → ClosesEscapes (Markup bytes ∷ parts) → ClosesEscapes parts
-closed_behind bytes [] closed = refl
-closed_behind bytes (part ∷ parts) closed = (and_parts (not (ends_in_escape bytes)) (closes_escapes (part ∷ parts)) closed).1
+closed_behind bytes parts closed = grind (arith, nat_tests)
 
 pub closed_markup : (bytes : List ℕ) (part : Given) (parts : List Given) → ClosesEscapes (Markup bytes ∷ part ∷ parts) → ends_in_escape bytes ≡ false
 closed_markup bytes part parts closed = not_true (ends_in_escape bytes) (and_parts (not (ends_in_escape bytes)) (closes_escapes (part ∷ parts)) closed).0

@@ -12,5 +12,3 @@ pub mod PlainParts
 pub mod SameCounts
 pub mod ShapeLaw
 pub mod TailShapes
-pub mod Tails
-pub mod UrlPairs

@@ -1,14 +1,14 @@
 -- Splitting joined text, and cleaning visible text.
-use Rattle.std.proofs.Common.{◌≡◌, ℕ, ◌+◌, ◌<◌, ◌-◌, Bool, true, false, cond, not, ◌==◌, List, [], ◌∷◌, ◌++◌, length, get_or, take, drop, reverse, Option, Some, None, is_some, All, sym, refl, ap, ◌∙◌, ⊎_elim, arith, append_assoc, append-nil, one-add, zero-add, suc-add, length-append, drop_of_length-le}
+use Rattle.std.proofs.Common.{◌≡◌, ℕ, ◌+◌, ◌<◌, ◌-◌, Bool, true, false, cond, not, ◌==◌, List, [], ◌∷◌, ◌++◌, length, get_or, take, drop, reverse, Option, Some, is_some, All, sym, refl, ap, ◌∙◌, arith, append_assoc, append-nil, one-add, zero-add, suc-add, length-append, drop_of_length-le, inl, inr}
 use Rattle.std.specs.List.{prefix_len, suffix_len}
 use Rattle.std.proofs.lemmas.Bool.{lt-leb, cond-true, cond-false, cases_Bool, eq-eqb, ne_eqb}
 use Rattle.std.proofs.lemmas.Bool.Decides.{nat_tests}
 use Rattle.std.proofs.lemmas.List.{reverse-append}
-use Rattle.std.proofs.lemmas.List.Elements.{All-get_or, All-head, All-tail, All-weaker}
+use Rattle.std.proofs.lemmas.List.Elements.{All-get_or, All-head, All-tail}
 use Rattle.std.proofs.lemmas.List.Sums.{suffix_len-le-length}
 use Rattle.form_urlencoded.specs.Form.{onto_first, split}
 use Rattle.url.specs.Input.{trim_start, trim_end, is_c0_control_or_space, is_tab_or_new_line, trim_c0_control_and_space, strip_tabs_and_new_lines, split_once}
-use Rattle.url.proofs.InputLemmas.{IsNot, Passes, filter_all, split_around}
+use Rattle.url.proofs.InputLemmas.{IsNot, filter_all, split_around}
 use Rattle.html_urls.specs.Components.{component}
 use Rattle.html_urls.specs.Inputs.{IsVisible, EndsVisibly, kept, kept_rest}
 use Rattle.html_urls.proofs.Components.{component_visible}
@@ -22,15 +22,11 @@ stripped-append : (xs ys : List ℕ) → strip_tabs_and_new_lines (xs ++ ys) ≡
 unfolding strip_tabs_and_new_lines
 stripped-append [] ys = refl
 stripped-append (x ∷ xs) ys =
-    ⊎_elim
-    (λ (keep : not (is_tab_or_new_line x) ≡ true). rw (keep, stripped-append xs ys) refl)
-    (λ (drop_it : not (is_tab_or_new_line x) ≡ false). rw (drop_it, stripped-append xs ys) refl)
-    (cases_Bool (not (is_tab_or_new_line x)))
+    elim (cases_Bool (not (is_tab_or_new_line x))) [ inl keep ↦ rw (keep, stripped-append xs ys) refl | inr drop_it ↦ rw (drop_it, stripped-append xs ys) refl ]
 
 unstripped : (xs : List ℕ) → All IsVisible xs → strip_tabs_and_new_lines xs ≡ xs
 unfolding strip_tabs_and_new_lines
-unstripped xs visible =
-    filter_all _ xs (All-weaker IsVisible (Passes (λ b. not (is_tab_or_new_line b))) (λ b above. grind (arith, nat_tests)) xs visible)
+unstripped xs visible = grind (arith, nat_tests, filter_all, not)
 
 abbrev trims : ℕ → Bool
 trims b = is_c0_control_or_space b
@@ -40,10 +36,7 @@ start_at : (xs : List ℕ) (b : ℕ) → 32 < b → (front : List ℕ) × ((ys :
 start_at [] b above = ([], λ ys. ap (λ n. drop n (b ∷ ys)) (cond-false _ _ _ (lt-leb b 32 above)))
 start_at (x ∷ xs) b above =
     let later = start_at xs b above in
-    ⊎_elim
-    (λ (gone : trims x ≡ true). (later.0, λ ys. ap (λ n. drop n (x ∷ xs ++ b ∷ ys)) (cond-true _ _ _ gone ∙ one-add _) ∙ later.1 ys))
-    (λ (stays : trims x ≡ false). (x ∷ xs, λ ys. ap (λ n. drop n (x ∷ xs ++ b ∷ ys)) (cond-false _ _ _ stays)))
-    (cases_Bool (trims x))
+    elim (cases_Bool (trims x)) [ inl gone ↦ (later.0, λ ys. ap (λ n. drop n (x ∷ xs ++ b ∷ ys)) (cond-true _ _ _ gone ∙ one-add _) ∙ later.1 ys) | inr stays ↦ (x ∷ xs, λ ys. ap (λ n. drop n (x ∷ xs ++ b ∷ ys)) (cond-false _ _ _ stays)) ]
 
 stopped : (xs ys : List ℕ) (b : ℕ) → 32 < b → prefix_len trims (xs ++ b ∷ ys) ≡ prefix_len trims xs
 stopped [] ys b above = cond-false _ _ _ (lt-leb b 32 above)
@@ -114,10 +107,7 @@ pub split_found : (s : ℕ) (xs ys after : List ℕ) → (split_once s xs).1 ≡
 unfolding split_once
 split_found s [] ys after found = cc
 split_found s (x ∷ xs) ys after found =
-    ⊎_elim
-    (λ (here : (x == s) ≡ true). let same : xs ≡ after = cc in rw (here, same) refl)
-    (λ (other : (x == s) ≡ false). let later = split_found s xs ys after (rw other at found) in rw (other, later) refl)
-    (cases_Bool (x == s))
+    elim (cases_Bool (x == s)) [ inl here ↦ let same : xs ≡ after = cc in rw (here, same) refl | inr other ↦ let later = split_found s xs ys after (rw other at found) in rw (other, later) refl ]
 
 -- where it is not, the front goes before what the rest is split to
 pub split_clear : (s : ℕ) (xs ys : List ℕ) → All (IsNot s) xs → split_once s (xs ++ ys) ≡ (xs ++ (split_once s ys).0, (split_once s ys).1)
@@ -131,36 +121,27 @@ pub split_whole : (s : ℕ) (xs ys : List ℕ) → is_some (split_once s xs).1 �
 unfolding split_once
 split_whole s [] ys none = refl
 split_whole s (x ∷ xs) ys none =
-    ⊎_elim
-    (λ (here : (x == s) ≡ true). let clash = rw here at none in cc)
-    (λ (other : (x == s) ≡ false). cond-false _ _ _ other ∙ ap (λ r. (x ∷ r.0, r.1)) (split_whole s xs ys (rw other at none)))
-    (cases_Bool (x == s))
+    elim (cases_Bool (x == s)) [ inl here ↦ let clash = rw here at none in cc | inr other ↦ cond-false _ _ _ other ∙ ap (λ r. (x ∷ r.0, r.1)) (split_whole s xs ys (rw other at none)) ]
 
 pub some_value : (o : Option (List ℕ)) → is_some o ≡ true → (x : List ℕ) × (o ≡ Some x)
-some_value None is = cc
-some_value (Some x) is = (x, refl)
+some_value o is = grind (arith, nat_tests)
 
 -- ---- the pieces of joined bytes
 
 onto_append : (b : ℕ) (first : List (List ℕ)) (others : List (List ℕ)) → 0 < length first → onto_first b first ++ others ≡ onto_first b (first ++ others)
-onto_append b [] others some = absurd (omega arith)
-onto_append b (piece ∷ pieces) others some = refl
+onto_append b first others some = grind (arith, nat_tests)
 
 pub split_some : (s : ℕ) (xs : List ℕ) → 0 < length (split s xs)
 unfolding split
 split_some s [] = omega arith
 split_some s (x ∷ xs) =
-    ⊎_elim (λ (here : (x == s) ≡ true). rw here (omega arith)) (λ (other : (x == s) ≡ false). rw other (onto (split s xs))) (cases_Bool (x == s))
+    elim (cases_Bool (x == s)) [ inl here ↦ rw here (omega arith) | inr other ↦ rw other (onto (split s xs)) ]
   where
     onto : (pieces : List (List ℕ)) → 0 < length (onto_first x pieces)
-    onto [] = omega arith
-    onto (piece ∷ pieces) = omega arith
+    onto pieces = grind (arith, nat_tests)
 
 pub split_joined : (s : ℕ) (xs ys : List ℕ) → split s (xs ++ s ∷ ys) ≡ split s xs ++ split s ys
 unfolding split
 split_joined s [] ys = cond-true _ _ _ (eq-eqb s s refl)
 split_joined s (x ∷ xs) ys =
-    ⊎_elim
-    (λ (here : (x == s) ≡ true). rw (here, split_joined s xs ys) refl)
-    (λ (other : (x == s) ≡ false). rw (other, split_joined s xs ys) (sym (onto_append x (split s xs) (split s ys) (split_some s xs))))
-    (cases_Bool (x == s))
+    elim (cases_Bool (x == s)) [ inl here ↦ rw (here, split_joined s xs ys) refl | inr other ↦ rw (other, split_joined s xs ys) (sym (onto_append x (split s xs) (split s ys) (split_some s xs))) ]

@@ -1,70 +1,46 @@
 -- Texts that fill the parts behind a base fill the parts of the URL, of which the base is the first markup.
-use Rattle.std.proofs.Common.{◌≡◌, ℕ, ◌+◌, ◌-◌, Bool, true, false, not, List, [], ◌∷◌, ◌++◌, Option, Some, None, Ok, Err, IsOkAnd, refl, sym, ap, ◌∙◌, subst, ⊎_elim, append_assoc, append-nil}
-use Rattle.std.proofs.lemmas.Bool.{and_parts, cases_Bool, cond-false, cond-true}
+use Rattle.std.proofs.Common.{◌≡◌, ℕ, ◌+◌, Bool, true, false, List, [], ◌∷◌, ◌++◌, Some, Ok, IsOkAnd, refl, sym, ap, ◌∙◌, subst, append_assoc, append-nil, arith}
+use Rattle.std.proofs.lemmas.Bool.Decides.{nat_tests}
+use Rattle.std.proofs.lemmas.Bool.{cond-true}
 use Rattle.html_urls.specs.declared.base.BehindBase.{BehindBase}
 use Rattle.html_urls.specs.declared.open_part.OpenPart.{OpenPart}
 use Rattle.html_urls.specs.declared.parts.UrlFault.TheVariants as fault
 use Rattle.html_urls.specs.declared.parts.UrlSlot.{UrlSlot}
 use Rattle.html_urls.specs.Bases.{FillBehind, goes_on_so, is_base, open_behind, slots_behind}
-use Rattle.html_urls.specs.OpenParts.{after_markup, after_text, may_be_dots, open_of}
+use Rattle.html_urls.specs.OpenParts.{after_markup, after_text, open_of}
 use Rattle.html_urls.specs.Shapes.{front_of}
-use Rattle.html_urls.specs.Slots.{FillSlots, FillUrl, Given, Markup, Slot, Told, after_slots, are_plain, ends_in_escape, first_slots, is_plain, later_slots, no_parts, slots_of, told_of}
+use Rattle.html_urls.specs.Slots.{FillSlots, FillUrl, Given, Markup, Slot, Told, after_slots, first_slots, is_plain, later_slots, no_parts, slots_of, told_of}
 use Rattle.html_urls.proofs.Bases.Ends.{IsBase, base_is, markup_joined}
 use Rattle.html_urls.proofs.Bases.Opened.{opens}
-use Rattle.html_urls.proofs.Filled.FirstSlot.{both_fill}
-use Rattle.html_urls.proofs.Filled.LaterSlots.{refusal}
-use Rattle.html_urls.proofs.Shapes.PlainParts.{found_slot}
+use Rattle.html_urls.proofs.Bases.GoesAs.{behind_goes}
+use Rattle.html_urls.proofs.Filled.Told.{later_markup, later_nothing, later_slot, told_slots}
 
 -- the slots behind an open part are the same whatever number the first part has
 pub any_number : (parts : List Given) (k n : ℕ) (p : OpenPart) (slots : List UrlSlot) → later_slots k p parts ≡ Ok slots → later_slots n p parts ≡ Ok slots
-any_number [] k n p slots told =
-    ⊎_elim
-    (λ (dots : may_be_dots p ≡ true). let clash : refusal (fault.DotSegment (k - 1)) ≡ Ok slots = rw dots at told in cc)
-    (λ (closed : may_be_dots p ≡ false). let none : Ok [] ≡ Ok slots = rw closed at told in rw closed none)
-    (cases_Bool (may_be_dots p))
+any_number [] k n p slots told = let (closed, none) = later_nothing k p slots told in rw closed (ap Ok (sym none))
 any_number (Markup bytes ∷ parts) k n p slots told =
-    ⊎_elim
-    (λ (plain : is_plain bytes (no_parts parts) ≡ true). rw plain (behind (any_number parts (k + 1) (n + 1)) (after_markup p bytes) (rw plain at told)))
-    (λ (bad : is_plain bytes (no_parts parts) ≡ false). let clash : refusal (fault.NotPlain k) ≡ Ok slots = rw bad at told in cc)
-    (cases_Bool (is_plain bytes (no_parts parts)))
-  where
-    behind : ((q : OpenPart) (slots : List UrlSlot) → later_slots (k + 1) q parts ≡ Ok slots → later_slots (n + 1) q parts ≡ Ok slots) → (o : Option OpenPart) → told_of o (fault.DotSegment k) (λ after. later_slots (k + 1) after parts) ≡ Ok slots → told_of o (fault.DotSegment n) (λ after. later_slots (n + 1) after parts) ≡ Ok slots
-    behind later (Some q) found = later q slots found
-    behind later None found = cc
+    let (q, plain, here, rest) = later_markup k p bytes parts slots told in
+    rw (plain, here) (any_number parts (k + 1) (n + 1) q slots rest)
 any_number (Slot ∷ parts) k n p slots told =
-    let (slot, more, here, rest, are) = found_slot k p parts slots told in
+    let (slot, more, here, rest, are) = later_slot k p parts slots told in
     rw here (ap (after_slots (slot ∷ [])) (any_number parts (k + 1) (n + 1) (after_text p) more rest) ∙ ap Ok (sym are))
 
 -- the parts behind the base, of which this markup was read
 first_from : (behind : BehindBase) (text : List ℕ) (parts : List Given) (k n : ℕ) (done : List ℕ) (q : OpenPart) (slots : List UrlSlot) → IsBase behind text →
     goes_on_so behind (done ++ front_of parts) ≡ true → after_markup (open_behind behind) done ≡ Some q → later_slots k q parts ≡ Ok slots → first_slots n (text ++ done) parts ≡ Ok slots
-first_from behind text [] k n done q slots base goes opened told =
-    ⊎_elim
-    (λ (dots : may_be_dots q ≡ true). let clash : refusal (fault.DotSegment (k - 1)) ≡ Ok slots = rw dots at told in cc)
-    (λ (closed : may_be_dots q ≡ false). let none : Ok [] ≡ Ok slots = rw closed at told in none)
-    (cases_Bool (may_be_dots q))
+first_from behind text [] k n done q slots base goes opened told = ap Ok (sym (later_nothing k q slots told).1)
 first_from behind text (Markup bytes ∷ parts) k n done q slots base goes opened told =
-    ⊎_elim
-    (λ (plain : is_plain bytes (no_parts parts) ≡ true). rw plain (go_on (λ r. first_from behind text parts (k + 1) (n + 1) (done ++ bytes) r slots base) (after_markup q bytes) refl (rw plain at told)))
-    (λ (bad : is_plain bytes (no_parts parts) ≡ false). let clash : refusal (fault.NotPlain k) ≡ Ok slots = rw bad at told in cc)
-    (cases_Bool (is_plain bytes (no_parts parts)))
-  where
-    go_on : ((r : OpenPart) → goes_on_so behind ((done ++ bytes) ++ front_of parts) ≡ true → after_markup (open_behind behind) (done ++ bytes) ≡ Some r → later_slots (k + 1) r parts ≡ Ok slots → first_slots (n + 1) (text ++ (done ++ bytes)) parts ≡ Ok slots) →
-        (o : Option OpenPart) → after_markup q bytes ≡ o → told_of o (fault.DotSegment k) (λ after. later_slots (k + 1) after parts) ≡ Ok slots → first_slots (n + 1) ((text ++ done) ++ bytes) parts ≡ Ok slots
-    go_on later (Some r) is found =
-        ap (λ front. first_slots (n + 1) front parts) (append_assoc text done bytes)
-        ∙ later r
-        (ap (goes_on_so behind) (append_assoc done bytes (front_of parts)) ∙ goes)
-        (markup_joined (open_behind behind) q done bytes opened ∙ is) found
-    go_on later None is found = cc
+    let (r, plain, is, rest) = later_markup k q bytes parts slots told in
+    rw plain
+    (ap (λ front. first_slots (n + 1) front parts) (append_assoc text done bytes)
+    ∙ first_from behind text parts (k + 1) (n + 1) (done ++ bytes) r slots base (ap (goes_on_so behind) (append_assoc done bytes (front_of parts)) ∙ goes) (markup_joined (open_behind behind) q done bytes opened ∙ is) rest)
 first_from behind text (Slot ∷ parts) k n done q slots base goes opened told =
     let here : open_of (text ++ done) ≡ Some q = opens behind text done q base (ap (goes_on_so behind) (sym (append-nil done)) ∙ goes) opened in
     ap (λ o. told_of o (fault.NotFixed n) (λ p. later_slots n p (Slot ∷ parts))) here ∙ any_number (Slot ∷ parts) k n q slots told
 
 -- markup that another part may follow may be the last one
 pub plain_anywhere : (text : List ℕ) (is_last : Bool) → is_plain text false ≡ true → is_plain text is_last ≡ true
-plain_anywhere text true plain = rw (and_parts (are_plain text) (not (ends_in_escape text)) plain).0 refl
-plain_anywhere text false plain = plain
+plain_anywhere text is_last plain = grind (arith, nat_tests)
 
 -- the slots behind a base are those of the URL
 pub slots_told : (behind : BehindBase) (text : List ℕ) (parts : List Given) (k : ℕ) (slots : List UrlSlot) → is_base behind text ≡ true → goes_on_so behind (front_of parts) ≡ true →
@@ -77,12 +53,7 @@ slots_told behind text parts k slots is goes told =
 
 pub fills : (behind : BehindBase) (text : List ℕ) (parts : List Given) (texts : List (List ℕ)) → is_base behind text ≡ true → FillBehind behind parts texts → FillUrl (Markup text ∷ parts) texts
 fills behind text parts texts is full =
-    ⊎_elim
-    (λ (goes : goes_on_so behind (front_of parts) ≡ true).
+    let goes = behind_goes behind parts texts full in
     let told : slots_behind behind parts ≡ later_slots 0 (open_behind behind) parts = cond-true _ _ _ goes in
-    let (slots, found, fill, again) = both_fill (slots_behind behind parts) texts texts full full in
-    subst (λ (t : Told). IsOkAnd t (λ slots. FillSlots slots texts)) (sym (slots_told behind text parts 0 slots is goes (sym told ∙ found))) fill)
-    (λ (stops : goes_on_so behind (front_of parts) ≡ false).
-    let told : slots_behind behind parts ≡ Err (fault.NotFixed 0) = cond-false _ _ _ stops in
-    absurd (subst (λ (t : Told). IsOkAnd t (λ slots. FillSlots slots texts)) told full))
-    (cases_Bool (goes_on_so behind (front_of parts)))
+    let (slots, found, fill) = told_slots (slots_behind behind parts) texts full in
+    subst (λ (t : Told). IsOkAnd t (λ slots. FillSlots slots texts)) (sym (slots_told behind text parts 0 slots is goes (sym told ∙ found))) fill

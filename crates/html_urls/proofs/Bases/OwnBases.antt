@@ -1,6 +1,7 @@
 -- Own bases: the head of the URL of one is that of the page.
-use Rattle.std.proofs.Common.{◌≡◌, ℕ, ◌||◌, ◌==◌, true, false, List, [], ◌∷◌, length, Option, Some, Ok, All, sym, ap, ◌∙◌, arith}
-use Rattle.std.proofs.lemmas.Bool.{and_parts, cond-false, ne_eqb}
+use Rattle.std.proofs.Common.{◌≡◌, ℕ, ◌||◌, ◌==◌, true, false, List, [], length, Option, Some, Ok, All, sym, ap, ◌∙◌, arith}
+use Rattle.std.proofs.lemmas.Bool.Decides.{nat_tests}
+use Rattle.std.proofs.lemmas.Bool.{and_parts, cond-false}
 use Rattle.std.proofs.lemmas.List.Elements.{All-nil}
 use Rattle.url.specs.Head.{head_only}
 use Rattle.url.specs.Input.{split_once}
@@ -30,9 +31,7 @@ empty_head page web =
 
 own_text : (page : Option Parts) (text : List ℕ) → IsWebPage page → All (λ b. is_plain_byte b ≡ true) text → (length text == 0 || is_rooted text) ≡ true →
     head_of (parse_url page text) ≡ head_of (from_base page)
-own_text page [] web plain own = empty_head page web
-own_text page (b ∷ text) web plain own =
-    rooted_text page (b ∷ text) (web_base page web) plain (rw (ne_eqb (length (b ∷ text)) 0 (λ same. omega (arith, same))) at own)
+own_text page text web plain own = grind (arith, nat_tests, empty_head, rooted_text, web_base)
 
 -- the head of the base alone
 own_head : (page : Option Parts) (behind : BehindBase) (text : List ℕ) → IsWebPage page → is_own_base behind text ≡ true →

@@ -1,21 +1,21 @@
 -- Own paths: the head of their URLs is that of the page.
-use Rattle.std.proofs.Common.{◌≡◌, ℕ, true, false, ◌&&◌, ◌==◌, List, [], ◌∷◌, Option, Some, Ok, All, sym, ap, ◌∙◌, ⊎_elim}
-use Rattle.std.proofs.lemmas.Bool.{and_parts, cases_Bool, cond-false}
+use Rattle.std.proofs.Common.{◌≡◌, ℕ, true, List, [], ◌∷◌, Option, Some, Ok, All, sym, ap, ◌∙◌, arith}
+use Rattle.std.proofs.lemmas.Bool.Decides.{nat_tests}
+use Rattle.std.proofs.lemmas.Bool.{cond-false}
 use Rattle.std.proofs.lemmas.List.Elements.{All-nil}
 use Rattle.url.specs.Head.{head_only}
 use Rattle.url.specs.Input.{split_once}
 use Rattle.url.specs.Parser.{parse_url}
 use Rattle.url.specs.Parts.{Parts}
-use Rattle.html_urls.specs.declared.open_part.OpenPart.TheVariants.{NewSegment}
 use Rattle.html_urls.specs.Bases.{IsWebPage}
 use Rattle.html_urls.specs.Heads.{head_of}
 use Rattle.html_urls.specs.Hosts.{IsWebBase}
 use Rattle.html_urls.specs.Inputs.{IsNot}
-use Rattle.html_urls.specs.OpenParts.{after_markup, is_rooted}
-use Rattle.html_urls.specs.OwnPaths.{is_own_path, may_end}
+use Rattle.html_urls.specs.OpenParts.{is_rooted}
+use Rattle.html_urls.specs.OwnPaths.{is_own_path}
 use Rattle.html_urls.specs.Slots.{FillUrl, Markup, is_plain, is_plain_byte}
-use Rattle.html_urls.proofs.Bases.Headings.{parse_is, path_bytes, plain_no_backslash, rooted_head}
-use Rattle.html_urls.proofs.Bases.Opened.{Rooted, below, root, rooted_is}
+use Rattle.html_urls.proofs.Bases.Headings.{path_begins, parse_is, path_bytes, plain_no_backslash, rooted_head}
+use Rattle.html_urls.proofs.Places.FixedHosts.{Rooted, root, rooted_is}
 use Rattle.html_urls.proofs.Filled.FirstSlot.{plain_visible}
 use Rattle.html_urls.proofs.OpenEscapes.{plain_bytes}
 use Rattle.html_urls.proofs.Paths.Opening.{from_base}
@@ -24,26 +24,14 @@ use Rattle.html_urls.proofs.Shapes.Encoded.Splits.{all_halves}
 -- the path of a text that is rooted is rooted
 path_rooted : (text : List ℕ) → Rooted text → Rooted (path_bytes text)
 unfolding split_once
-path_rooted _ root = root
-path_rooted _ (below b rest other) =
-    ⊎_elim
-    (λ (fragment : (b == 35) ≡ true). rw fragment root)
-    (λ (no_fragment : (b == 35) ≡ false).
-    ⊎_elim
-    (λ (query : (b == 63) ≡ true). rw (no_fragment, query) root)
-    (λ (no_query : (b == 63) ≡ false). rw (no_fragment, no_query) (below b (split_once 63 (split_once 35 rest).0).0 other))
-    (cases_Bool (b == 63)))
-    (cases_Bool (b == 35))
+path_rooted _ (root rest other) = root (path_bytes rest) (path_begins rest other)
 
 record IsOwn (text : List ℕ) : Type 0 where
   plain : is_plain text true ≡ true
   rooted : is_rooted text ≡ true
 
 own_is : (text : List ℕ) → is_own_path text ≡ true → IsOwn text
-own_is text is =
-    let both = and_parts (is_plain text true && is_rooted text) (may_end (after_markup NewSegment text)) is in
-    let first = and_parts (is_plain text true) (is_rooted text) both.0 in
-    record { plain = first.0; rooted = first.1 }
+own_is text is = grind (arith, nat_tests)
 
 -- the head of the URL of a plain text that is rooted
 pub rooted_text : (base : Option Parts) (text : List ℕ) → IsWebBase base → All (λ b. is_plain_byte b ≡ true) text → is_rooted text ≡ true →

@@ -1,5 +1,5 @@
 -- A block of a text on the stack: what was stored of its component, byte by byte.
-use Rattle.std.proofs.Common.{◌≡◌, ℕ, ◌+◌, ◌*◌, ◌≤◌, ◌<◌, true, false, List, [], ◌∷◌, ◌++◌, get_or, drop, length, take, take-append-drop, refl, sym, ap, ◌∙◌, subst, ⊎_elim, take_all, append-nil, length-take-le, arith}
+use Rattle.std.proofs.Common.{◌≡◌, ℕ, ◌+◌, ◌*◌, ◌≤◌, ◌<◌, List, [], ◌∷◌, ◌++◌, get_or, drop, length, take, take-append-drop, refl, sym, ap, ◌∙◌, subst, take_all, append-nil, length-take-le, arith, inl, inr}
 use Rattle.std.proofs.lemmas.Bool.{cases_Bool, cond-true, cond-false}
 use Rattle.std.proofs.Math.Seq.{take-add}
 use Rattle.std.proofs.lemmas.List.{take_more}
@@ -30,11 +30,10 @@ stored_row old bytes made place width count long is few within =
 
 component_one : (b : ℕ) → component (b ∷ []) ≡ encode_byte COMPONENT b
 component_one b =
-    ⊎_elim
-    (λ (escaped : should_percent_encode COMPONENT b ≡ true).
-    percent_encode_escaped COMPONENT b [] escaped ∙ ap (λ l. percent_encode_byte b ++ l) (percent_encode-nil COMPONENT) ∙ append-nil (percent_encode_byte b) ∙ sym (cond-true _ _ _ escaped))
-    (λ (plain : should_percent_encode COMPONENT b ≡ false). percent_encode_kept COMPONENT b [] plain ∙ ap (λ l. b ∷ l) (percent_encode-nil COMPONENT) ∙ sym (cond-false _ _ _ plain))
-    (cases_Bool (should_percent_encode COMPONENT b))
+    elim (cases_Bool (should_percent_encode COMPONENT b)) [
+      | inl escaped ↦ percent_encode_escaped COMPONENT b [] escaped ∙ ap (λ l. percent_encode_byte b ++ l) (percent_encode-nil COMPONENT) ∙ append-nil (percent_encode_byte b) ∙ sym (cond-true _ _ _ escaped)
+      | inr plain ↦ percent_encode_kept COMPONENT b [] plain ∙ ap (λ l. b ∷ l) (percent_encode-nil COMPONENT) ∙ sym (cond-false _ _ _ plain)
+    ]
 
 -- the component of one byte more
 component_more : (bytes : List ℕ) (i : ℕ) → i < length bytes → component (take i bytes) ++ encode_byte COMPONENT (get_or bytes i 0) ≡ component (take (i + 1) bytes)
@@ -69,10 +68,6 @@ stored_rest old mid new bytes rest place i middle end is one two =
     let whole : component (take i bytes) ++ component rest ≡ component bytes =
     sym (percent_encode-append COMPONENT (take i bytes) rest) ∙ ap (λ l. component (take i bytes ++ l)) is ∙ ap component (take-append-drop i bytes) in
     subst (λ l. Stored old new place l end) whole (stored_then old mid new (component (take i bytes)) (component rest) place middle end one two)
-
--- after the last byte
-pub stored_all : (old new bytes : List ℕ) (place i end : ℕ) → i ≡ length bytes → Stored old new place (component (take i bytes)) end → Stored old new place (component bytes) end
-stored_all old new bytes place i end is stored = subst (λ l. Stored old new place (component l) end) (take_all i bytes (omega (arith, is))) stored
 
 -- after the last block
 pub all_taken : (old now rest text : List ℕ) → length rest ≡ 0 → Progress old now (component rest) (component text) → now ≡ old ++ component text

@@ -1,5 +1,6 @@
 -- Sixteen bytes in lanes: their digits, and what is stored where all are encoded.
-use Rattle.std.proofs.Common.{◌≡◌, ℕ, zero, suc, ◌+◌, ◌*◌, ◌/◌, ◌%◌, ◌^◌, ◌≤◌, ◌<◌, Bool, true, false, ◌==◌, cond, List, [], ◌∷◌, ◌++◌, count_ones, drop, get_or, length, length-append, length-take-le, map, replicate, take, take_all, refl, sym, ap, ◌∙◌, subst, ⊎_elim, bit_and, w8, arith}
+use Rattle.std.proofs.Common.{◌≡◌, ℕ, zero, suc, ◌+◌, ◌*◌, ◌/◌, ◌%◌, ◌^◌, ◌≤◌, ◌<◌, Bool, true, false, ◌==◌, cond, List, [], ◌∷◌, ◌++◌, count_ones, drop, get_or, length, length-append, length-take-le, map, replicate, take, take_all, refl, sym, ap, ◌∙◌, subst, bit_and, w8, arith, inl, inr}
+use Rattle.std.proofs.lemmas.Bool.Decides.{nat_tests}
 use Rattle.std.proofs.lemmas.Bool.{agree_below, agree_below_at, cases_Bool, eqb-true}
 use Rattle.std.proofs.Math.Nat.{pow-suc}
 use Rattle.std.proofs.Math.Seq.{drop-cons}
@@ -11,7 +12,6 @@ use Rattle.hesc_scan.proofs.Masks.{mask_l-take}
 use Rattle.hesc_sinks.specs.Stores.{Stored}
 use Rattle.hesc_sinks.proofs.Stores.{stored_first, stored_then}
 use Rattle.std.specs.Simd.Lanes.{Each1, mask_l, pick_l, put_chunk, zip2}
-use Rattle.percent_encoding.specs.AsciiSet.{should_percent_encode}
 use Rattle.percent_encoding.specs.Percent.{percent_encode_byte}
 use Rattle.percent_encoding.proofs.PercentLemmas.{percent_encode-nil, percent_encode_escaped, percent_encode_kept}
 use Rattle.html_urls.specs.declared.component.TheConstants.{COMPONENT}
@@ -37,8 +37,7 @@ high_digits v long below =
     by_high_half DIGITS v refl long ∙ same_below _ high_digit v below (λ b lt. eqb-true _ _ (agree_below_at (λ k. get_or DIGITS (k / 16) 0 == high_digit k) (λ k. true) 256 b high_checked lt))
 
 pub low_digits : (v : List ℕ) → length v ≡ 16 → Each1 (λ b. b < 256) v → swz_l w8 16 DIGITS 0 (zip2 bit_and v (replicate 16 15)) ≡ map low_digit v
-low_digits v long below =
-    by_low_half DIGITS v refl long ∙ same_below _ low_digit v below (λ b lt. eqb-true _ _ (agree_below_at (λ k. get_or DIGITS (k % 16) 0 == low_digit k) (λ k. true) 256 b low_checked lt))
+low_digits v long below = grind (arith, nat_tests, by_low_half, same_below, agree_below_at, low_checked)
 
 -- ---- sixteen lanes, one by one
 
@@ -66,11 +65,7 @@ shown false b = b ∷ []
 
 pub component-cons : (b : ℕ) (bytes : List ℕ) → component (b ∷ bytes) ≡ shown (is_encoded b) b ++ component bytes
 unfolding percent_encode_byte
-component-cons b bytes =
-    ⊎_elim
-    (λ (escaped : should_percent_encode COMPONENT b ≡ true). percent_encode_escaped COMPONENT b bytes escaped ∙ ap (λ p. shown p b ++ component bytes) (sym escaped))
-    (λ (plain : should_percent_encode COMPONENT b ≡ false). percent_encode_kept COMPONENT b bytes plain ∙ ap (λ p. shown p b ++ component bytes) (sym plain))
-    (cases_Bool (should_percent_encode COMPONENT b))
+component-cons b bytes = grind (arith, nat_tests, percent_encode_escaped, percent_encode_kept)
 
 -- ---- storing
 
@@ -103,14 +98,12 @@ all_encoded : (v : List ℕ) → mask_l (map is_encoded v) + 1 ≡ 2 ^ length v 
 all_encoded [] full = percent_encode-nil COMPONENT
 all_encoded (b ∷ v) full =
     let double : 2 ^ suc (length v) ≡ 2 ^ length v * 2 = pow-suc 2 (length v) in
-    ⊎_elim
-    (λ (escaped : is_encoded b ≡ true).
-    let now : 1 + 2 * mask_l (map is_encoded v) + 1 ≡ 2 ^ suc (length v) = ap (λ (p : Bool). cond p 1 0 + 2 * mask_l (map is_encoded v) + 1) (sym escaped) ∙ full in
-    component-cons b v ∙ ap (λ p. shown p b ++ component v) escaped ∙ ap (λ l. shown true b ++ l) (all_encoded v (omega (arith, now, double))))
-    (λ (plain : is_encoded b ≡ false).
-    let now : 0 + 2 * mask_l (map is_encoded v) + 1 ≡ 2 ^ suc (length v) = ap (λ (p : Bool). cond p 1 0 + 2 * mask_l (map is_encoded v) + 1) (sym plain) ∙ full in
-    absurd (omega (arith, now, double)))
-    (cases_Bool (is_encoded b))
+    elim (cases_Bool (is_encoded b)) [
+      | inl escaped ↦ let now : 1 + 2 * mask_l (map is_encoded v) + 1 ≡ 2 ^ suc (length v) = ap (λ (p : Bool). cond p 1 0 + 2 * mask_l (map is_encoded v) + 1) (sym escaped) ∙ full in
+          component-cons b v ∙ ap (λ p. shown p b ++ component v) escaped ∙ ap (λ l. shown true b ++ l) (all_encoded v (omega (arith, now, double)))
+      | inr plain ↦ let now : 0 + 2 * mask_l (map is_encoded v) + 1 ≡ 2 ^ suc (length v) = ap (λ (p : Bool). cond p 1 0 + 2 * mask_l (map is_encoded v) + 1) (sym plain) ∙ full in
+          absurd (omega (arith, now, double))
+    ]
 
 abbrev EARLY : List ℕ
 EARLY = 0 ∷ 16 ∷ 1 ∷ 17 ∷ 2 ∷ 18 ∷ 3 ∷ 19 ∷ 4 ∷ 20 ∷ 5 ∷ 21 ∷ 6 ∷ 22 ∷ 7 ∷ 23 ∷ []

@@ -1,5 +1,5 @@
 -- Tables of sixteen that are read by half of each byte.
-use Rattle.std.proofs.Common.{◌≡◌, ℕ, suc, ◌+◌, ◌*◌, ◌/◌, ◌%◌, ◌^◌, ◌≤◌, ◌<◌, leb, cond, List, [], ◌∷◌, get_or, length, map, replicate, ⊎_elim, refl, sym, ap, ◌∙◌, bit_and, w8, arith}
+use Rattle.std.proofs.Common.{◌≡◌, ℕ, suc, ◌+◌, ◌*◌, ◌/◌, ◌%◌, ◌^◌, ◌≤◌, ◌<◌, leb, cond, List, [], ◌∷◌, get_or, length, map, replicate, refl, sym, ap, ◌∙◌, bit_and, w8, arith, inl, inr}
 use Rattle.std.proofs.lemmas.Bool.{cases_lt, cond-false, cond-true, le-leb, lt-leb}
 use Rattle.std.proofs.lemmas.List.{length-map}
 use Rattle.std.proofs.lemmas.Nat.{and_le_r, and_mask}
@@ -28,10 +28,7 @@ pub looked_up : (table picks : List ℕ) (i : ℕ) → length table ≡ 16 → i
 looked_up table [] i long within = refl
 looked_up table (k ∷ picks) i long within =
     let here : cond (leb 128 k) 0 (get_or table (16 * (i / 16) + k) 0) ≡ get_or table k 0 =
-    ⊎_elim
-    (λ (lane : k < 128). cond-false _ _ _ (lt-leb 128 k lane) ∙ ap (λ n. get_or table n 0) (omega (arith, within)))
-    (λ (none : 128 ≤ k). cond-true _ _ _ (le-leb 128 k none) ∙ sym (get_or-eq_default table 0 (omega (arith, long, none))))
-    (cases_lt k 128) in
+    elim (cases_lt k 128) [ inl lane ↦ cond-false _ _ _ (lt-leb 128 k lane) ∙ ap (λ n. get_or table n 0) (omega (arith, within)) | inr none ↦ cond-true _ _ _ (le-leb 128 k none) ∙ sym (get_or-eq_default table 0 (omega (arith, long, none))) ] in
     λ p. here p ∷ looked_up table picks (suc i) long (omega (arith, within)) p
 
 module _ (table v : List ℕ) (whole : length table ≡ 16) (long : length v ≡ 16) where

@@ -1,5 +1,6 @@
 -- Lanes that tell which bytes are percent-encoded.
 use Rattle.std.proofs.Common.{count_ones, ◌≡◌, ◌↔◌, ℕ, ◌+◌, ◌-◌, ◌/◌, ◌%◌, ◌^◌, ◌≤◌, ◌<◌, Bool, true, false, ◌==◌, bit_and, eqb, cond, List, [], ◌∷◌, ◌++◌, drop, get_or, length, length-take-le, map, replicate, take, take_all, take-append-drop, refl, sym, subst, ap, ◌∙◌, w8, arith}
+use Rattle.std.proofs.lemmas.Bool.Decides.{nat_tests}
 use Rattle.std.proofs.lemmas.Bool.{agree_below, agree_below_at}
 use Rattle.std.proofs.lemmas.List.{drop-drop, drop-take, drop_at, length-drop, length-map, length-take, take-take, take_at, take_rest}
 use Rattle.std.proofs.lemmas.List.Elements.{All-append, All-drop, All-from_get_or, All-head, All-tail, All-take}
@@ -93,7 +94,4 @@ pub count_is_within : (bytes : List ℕ) (place n : ℕ) → encoded_count (take
 count_is_within bytes place n = omega (arith, count_by-le-length is_encoded (take n (drop place bytes)), length-take n (drop place bytes))
 
 pub counted_whole : (bytes : List ℕ) (place front back : ℕ) → front ≡ encoded_count (take place bytes) → back ≡ encoded_count (take (length bytes - place) (drop place bytes)) → front + back ≡ encoded_count bytes
-counted_whole bytes place front back is_front is_back =
-    let rest : back ≡ encoded_count (drop place bytes) = is_back ∙ ap encoded_count (take_rest bytes place) in
-    let whole : encoded_count (take place bytes) + encoded_count (drop place bytes) ≡ encoded_count bytes = sum_by-take-drop (λ b. cond (is_encoded b) 1 0) bytes place in
-    omega (arith, is_front, rest, whole)
+counted_whole bytes place front back is_front is_back = grind (arith, nat_tests, take_rest, sum_by-take-drop, cond)

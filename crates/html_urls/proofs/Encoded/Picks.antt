@@ -1,17 +1,18 @@
 -- The component of eight bytes, as the row of their mask picks it.
-use Rattle.std.proofs.Common.{◌≡◌, ℕ, zero, suc, ◌+◌, ◌*◌, ◌/◌, ◌%◌, ◌^◌, ◌≤◌, ◌<◌, Bool, true, false, true≢false, ◌&&◌, ◌||◌, ◌==◌, leb, nat_lt, cond, List, [], ◌∷◌, ◌++◌, count_ones, drop, get_or, length, length-append, length-take-le, map, replicate, take, take-append-drop, take_all, refl, sym, ap, ◌∙◌, subst, ⊎_elim, w8, arith, T, eqb, ltb, lt→ltb}
+use Rattle.std.proofs.Common.{◌≡◌, ℕ, zero, suc, ◌+◌, ◌*◌, ◌/◌, ◌%◌, ◌^◌, ◌≤◌, ◌<◌, Bool, true, false, true≢false, ◌&&◌, ◌||◌, ◌==◌, leb, nat_lt, cond, List, [], ◌∷◌, ◌++◌, count_ones, drop, get_or, length, length-append, length-take-le, map, replicate, take, take-append-drop, take_all, refl, sym, ap, ◌∙◌, subst, w8, arith, T, eqb, ltb, inl, inr}
+use Rattle.std.proofs.lemmas.Bool.Decides.{nat_tests}
 use Rattle.std.specs.Prelude.{max, nat_le}
 use Rattle.std.specs.List.{AllPass, list_all}
 use Rattle.std.specs.Str.{bytes_eq}
 use Rattle.std.specs.Fmt.{digit_glyph}
-use Rattle.std.proofs.lemmas.Bool.{agree_below, agree_below_at, and_parts, cases_lt, eqb-true, le-ltb, leb-true, lt-ltb}
+use Rattle.std.proofs.lemmas.Bool.{agree_below, agree_below_at, and_parts, cases_lt, leb-true}
 use Rattle.std.proofs.lemmas.List.{drop-drop, length-drop, length-map, map-append, take-map}
 use Rattle.std.proofs.lemmas.List.Elements.{All-drop, All-take}
 use Rattle.std.proofs.lemmas.List.Sums.{AllPass-from_list_all}
 use Rattle.std.proofs.lemmas.Nat.{ones-le}
 use Rattle.std.proofs.lemmas.Simd.{Each1-from_get_or, SwzOk, SwzOk-from_Each1, length-chunk, length-put_chunk, length-swz_l, map-map, mask_l-lt, swz_l}
 use Rattle.std.proofs.lemmas.Slice.Eq.{bytes_eq-Decides}
-use Rattle.std.proofs.Math.Nat.{max-eq_left, max-eq_right}
+use Rattle.std.proofs.Math.Nat.{max-eq_right}
 use Rattle.std.proofs.Math.Seq.{take-add}
 use Rattle.std.specs.Simd.Lanes.{mask_l, pick_l, put_chunk, top, zip2}
 use lib.Lanes.{sel_l}
@@ -42,16 +43,7 @@ picks_pass place picks are =
 
 -- a pick is what a look-up by lanes takes
 pick_ok : (k : ℕ) → is_pick k ≡ true → T (leb 128 k || ltb k 16)
-pick_ok k pass = ⊎_elim
-    (λ (lane : k < 16). or_right (leb 128 k) (ltb k 16) (lt→ltb k 16 lane))
-    (λ (none : 16 ≤ k).
-    let is : k ≡ 128 = eqb-true k 128 (ap (λ p. p || k == 128) (sym (le-ltb k 16 none)) ∙ pass) in
-    subst (λ n. T (leb 128 n || ltb n 16)) (sym is) tt)
-    (cases_lt k 16)
-  where
-    or_right : (p q : Bool) → T q → T (p || q)
-    or_right true q holds = tt
-    or_right false q holds = holds
+pick_ok k pass = grind (arith, nat_tests)
 
 pub picks_ok : (picks : List ℕ) → length picks ≡ 16 → AllPass is_pick picks → SwzOk w8 16 16 0 picks
 picks_ok picks long pass =
@@ -92,10 +84,7 @@ row_begins flags long = (bytes_eq-Decides _ _).0 (of_each 8 begins flags long ro
 -- ---- what is looked up
 
 greater : (b : ℕ) → cond (top 7 (cond (nat_lt b 37) 255 0)) 37 b ≡ max 37 b
-greater b = ⊎_elim
-    (λ (less : b < 37). ap (λ p. cond (top 7 (cond p 255 0)) 37 b) (lt-ltb b 37 less) ∙ sym (max-eq_left (omega (arith, less))))
-    (λ (more : 37 ≤ b). ap (λ p. cond (top 7 (cond p 255 0)) 37 b) (le-ltb b 37 more) ∙ sym (max-eq_right more))
-    (cases_lt b 37)
+greater b = grind (arith, nat_tests)
 
 greater_lanes : (v : List ℕ) (n : ℕ) → length v ≡ n → sel_l (map (top 7) (zip2 (λ a b. cond (nat_lt a b) 255 0) v (replicate n 37))) (replicate n 37) v ≡ map (max 37) v
 greater_lanes [] n long = refl
@@ -118,8 +107,7 @@ HoldsFrom lane k (b ∷ bytes) = ((lane k ≡ head_of b) × (lane (k + 8) ≡ lo
 
 picked_one : (lane : ℕ → ℕ) (k b : ℕ) (flag : Bool) (flags : List Bool) → lane 128 ≡ 37 → lane k ≡ cond flag (high_digit b) b → lane (k + 8) ≡ low_digit b
     → map lane (row_from k (flag ∷ flags)) ≡ shown flag b ++ map lane (row_from (suc k) flags)
-picked_one lane k b true flags sign head low = λ i. sign i ∷ head i ∷ low i ∷ map lane (row_from (suc k) flags)
-picked_one lane k b false flags sign head low = λ i. head i ∷ map lane (row_from (suc k) flags)
+picked_one lane k b flag flags sign head low = grind (arith, nat_tests)
 
 picked_all : (lane : ℕ → ℕ) (k : ℕ) (bytes : List ℕ) → lane 128 ≡ 37 → HoldsFrom lane k bytes → map lane (row_from k (map is_encoded bytes)) ≡ component bytes
 picked_all lane k [] sign holds = sym (percent_encode-nil COMPONENT)
@@ -142,10 +130,7 @@ less_checked = refl
 
 head_is_more : (b : ℕ) (flag : Bool) → is_encoded b ≡ flag → 37 ≤ cond flag (high_digit b) b
 head_is_more b true is = glyph_is_more (b / 16 % 16) (omega arith)
-head_is_more b false is = ⊎_elim
-    (λ (less : b < 37). absurd (true≢false (sym (agree_below_at is_encoded (λ _. true) 37 b less_checked less) ∙ is)))
-    (λ (more : 37 ≤ b). more)
-    (cases_lt b 37)
+head_is_more b false is = elim (cases_lt b 37) [ inl less ↦ absurd (true≢false (sym (agree_below_at is_encoded (λ _. true) 37 b less_checked less) ∙ is)) | inr more ↦ more ]
 
 held : (b : ℕ) → (max 37 (head_of b) ≡ head_of b) × (max 37 (low_digit b) ≡ low_digit b)
 held b = (max-eq_right (head_is_more b (is_encoded b) refl), max-eq_right (glyph_is_more (b % 16) (omega arith)))
@@ -164,11 +149,7 @@ sign_for_none : (bytes : List ℕ) → length bytes ≡ 8 → picked_from (lanes
 sign_for_none bytes long = by_eight (λ l. picked_from (lanes_of l) 128 ≡ 37) bytes long refl
 
 picked_component : (bytes : List ℕ) (mask : ℕ) → length bytes ≡ 8 → mask ≡ mask_l (map is_encoded bytes) → map (picked_from (lanes_of bytes)) (take (8 + 2 * count_ones mask) (row_of mask)) ≡ component bytes
-picked_component bytes mask long is =
-    let flags : List Bool = map is_encoded bytes in
-    ap (λ m. map (picked_from (lanes_of bytes)) (take (8 + 2 * count_ones m) (row_of m))) is
-    ∙ ap (map (picked_from (lanes_of bytes))) (row_begins flags (length-map bytes is_encoded ∙ long))
-    ∙ picked_all (picked_from (lanes_of bytes)) 0 bytes (sign_for_none bytes long) (all_held bytes long)
+picked_component bytes mask long is = grind (arith, nat_tests, map, count_ones, row_begins, length-map, picked_all, sign_for_none, all_held)
 
 -- ---- sixteen bytes
 

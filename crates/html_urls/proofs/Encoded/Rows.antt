@@ -1,5 +1,6 @@
 -- The table of what each byte becomes, checked row by row.
-use Rattle.std.proofs.Common.{◌≡◌, ℕ, zero, suc, ◌+◌, ◌*◌, ◌≤◌, ◌<◌, Bool, true, false, ◌&&◌, nat_eq, not, cond, List, get_or, take, drop, refl, ap, ◌∙◌, arith}
+use Rattle.std.proofs.Common.{◌≡◌, ℕ, zero, suc, ◌+◌, ◌*◌, ◌≤◌, ◌<◌, Bool, true, ◌&&◌, nat_eq, cond, List, get_or, take, drop, refl, ap, ◌∙◌, arith}
+use Rattle.std.proofs.lemmas.Bool.Decides.{nat_tests}
 use Rattle.std.specs.Str.{bytes_eq}
 use Rattle.std.proofs.lemmas.Bool.{agree_below, agree_below_at, eqb-true}
 use Rattle.std.proofs.lemmas.Bool.Decides.{Decides-below_and}
@@ -43,9 +44,4 @@ pub read_count : (b row count : ℕ) → b < 256 → row ≡ b → count ≡ cou
 read_count b row count lt is_row is_count = is_count ∙ ap count_at is_row ∙ count_is b lt
 
 pub count_is_few : (encoded : Bool) (count : ℕ) → count ≡ cond encoded 3 1 → count ≤ 3
-count_is_few true count is = omega (arith, is)
-count_is_few false count is = omega (arith, is)
-
-pub one_is_kept : (encoded : Bool) (count : ℕ) → count ≡ cond encoded 3 1 → nat_eq count 1 ≡ not encoded
-one_is_kept true count is = ap (λ n. nat_eq n 1) is
-one_is_kept false count is = ap (λ n. nat_eq n 1) is
+count_is_few encoded count is = grind (arith, nat_tests)

@@ -1,5 +1,5 @@
 -- A text that is a whole URL.
-use Rattle.std.proofs.Common.{◌≡◌, ℕ, suc, ◌+◌, ◌-◌, ◌<◌, ◌≤◌, true, false, cond, not, ◌&&◌, ◌==◌, nat_lt, List, [], ◌∷◌, ◌++◌, length, get_or, take, drop, reverse, filter, codes, bytes_eq, Option, Some, None, IfSome, IfOk, IsSomeAnd, All, sym, refl, ap, ◌∙◌, subst, ◌⊎◌, inl, inr, ⊎_elim, append_assoc, append-nil, take-append-drop, one-add, lt_of_not-le, arith}
+use Rattle.std.proofs.Common.{◌≡◌, ℕ, ◌-◌, ◌<◌, ◌≤◌, true, false, cond, not, ◌==◌, nat_lt, List, [], ◌∷◌, ◌++◌, length, get_or, take, drop, reverse, filter, bytes_eq, Option, Some, None, IfSome, IfOk, IsSomeAnd, All, sym, refl, ap, ◌∙◌, subst, ◌⊎◌, inl, append_assoc, append-nil, take-append-drop, lt_of_not-le, arith, inr}
 use Rattle.std.specs.List.{prefix_len, suffix_len, list_all}
 use Rattle.std.specs.Char.{is_ascii_alphabetic, to_ascii_lowercase}
 use Rattle.std.proofs.lemmas.Bool.{cond-true, cond-false, cond_both, cases_Bool, eq-eqb, lt-ltb}
@@ -25,7 +25,7 @@ seen bytes = filter (nat_lt 32) bytes
 seen-append : (xs ys : List ℕ) → seen (xs ++ ys) ≡ seen xs ++ seen ys
 seen-append [] ys = refl
 seen-append (x ∷ xs) ys =
-    ⊎_elim (λ (shown : nat_lt 32 x ≡ true). rw (shown, seen-append xs ys) refl) (λ (no : nat_lt 32 x ≡ false). rw (no, seen-append xs ys) refl) (cases_Bool (nat_lt 32 x))
+    elim (cases_Bool (nat_lt 32 x)) [ inl shown ↦ rw (shown, seen-append xs ys) refl | inr hidden ↦ rw (hidden, seen-append xs ys) refl ]
 
 seen_none : (xs : List ℕ) → All (Passes is_c0_control_or_space) xs → seen xs ≡ []
 seen_none [] none = refl
@@ -40,13 +40,11 @@ seen_all xs visible = filter_all (nat_lt 32) xs (All-weaker IsVisible (Passes (n
 seen_stripped : (xs : List ℕ) → seen (filter (λ b. not (is_tab_or_new_line b)) xs) ≡ seen xs
 seen_stripped [] = refl
 seen_stripped (x ∷ xs) =
-    ⊎_elim
-    (λ (gone : is_tab_or_new_line x ≡ true).
-    let unseen : nat_lt 32 x ≡ false = grind (arith, nat_tests) in
-    rw (gone, unseen) (seen_stripped xs))
-    (λ (kept : is_tab_or_new_line x ≡ false).
-    rw kept (ap (λ l. cond (nat_lt 32 x) (x ∷ l) l) (seen_stripped xs)))
-    (cases_Bool (is_tab_or_new_line x))
+    elim (cases_Bool (is_tab_or_new_line x)) [
+      | inl gone ↦ let unseen : nat_lt 32 x ≡ false = grind (arith, nat_tests) in
+          rw (gone, unseen) (seen_stripped xs)
+      | inr kept ↦ rw kept (ap (λ l. cond (nat_lt 32 x) (x ∷ l) l) (seen_stripped xs))
+    ]
 
 seen_start : (xs : List ℕ) → seen (trim_start is_c0_control_or_space xs) ≡ seen xs
 seen_start xs =
@@ -70,9 +68,7 @@ seen_end xs =
 -- cleaning takes no visible byte away
 seen_cleaned : (xs : List ℕ) → seen (strip_tabs_and_new_lines (trim_c0_control_and_space xs)) ≡ seen xs
 unfolding strip_tabs_and_new_lines trim_c0_control_and_space
-seen_cleaned xs =
-    seen_stripped (trim_end is_c0_control_or_space (trim_start is_c0_control_or_space xs))
-    ∙ seen_end (trim_start is_c0_control_or_space xs) ∙ seen_start xs
+seen_cleaned xs = grind (arith, nat_tests, seen_stripped, seen_end, seen_start)
 
 -- ---- the scheme of the cleaned text
 
@@ -81,10 +77,7 @@ unfolding split_once
 front_of s [] = ([], refl)
 front_of s (x ∷ xs) =
     let later = front_of s xs in
-    ⊎_elim
-    (λ (here : (x == s) ≡ true). (x ∷ xs, rw here refl))
-    (λ (other : (x == s) ≡ false). (later.0, rw other (ap (λ l. x ∷ l) later.1)))
-    (cases_Bool (x == s))
+    elim (cases_Bool (x == s)) [ inl here ↦ (x ∷ xs, rw here refl) | inr other ↦ (later.0, rw other (ap (λ l. x ∷ l) later.1)) ]
 
 -- a scheme, and what follows its `:`
 abbrev pub IsSchemeOf : List ℕ → List ℕ × List ℕ → Type 0
@@ -97,19 +90,9 @@ scheme_run xs =
 
 pub own_scheme : (xs : List ℕ) → IfSome (split_scheme xs) (IsSchemeOf xs)
 unfolding split_scheme
-own_scheme xs =
-    let n = scheme_len xs in
-    cond_both (nat_lt 0 n && get_or xs n 0 == 58) (Some (take n xs, drop (n + 1) xs)) None (λ (o : Option (List ℕ × List ℕ)). IfSome o (IsSchemeOf xs))
-    (λ found.
-    let same : get_or xs n 0 ≡ 58 = grind (arith, nat_tests) in
-    let inside : n < length xs = lt_of_not-le (λ past. let none : get_or xs n 0 ≡ 0 = get_or_past xs n 0 past in omega arith) in
-    (scheme_run xs, split_around xs n 58 inside same))
-    (λ _. tt)
+own_scheme xs = grind (arith, nat_tests, cond_both, nat_lt, lt_of_not-le, get_or_past, scheme_run, split_around)
 
 -- ---- the scheme of the text
-
-scheme_byte_seen : (b : ℕ) → is_scheme_byte b ≡ true → nat_lt 32 b ≡ true
-scheme_byte_seen b passes = grind (arith, nat_tests)
 
 scheme_byte_no_mark : (b : ℕ) → is_scheme_byte b ≡ true → is_mark b ≡ false
 scheme_byte_no_mark b passes = grind (arith, nat_tests)
@@ -121,22 +104,17 @@ unseen_no_mark b unseen = grind (arith, nat_tests)
 abbrev Scanned : List ℕ → List ℕ → Type 0
 Scanned text scheme = (get_or text (mark_at text) 0 ≡ 58) × (seen (take (mark_at text) text) ≡ scheme)
 
-no_mark_first : (t : ℕ) (text : List ℕ) → is_mark t ≡ false → mark_at (t ∷ text) ≡ suc (mark_at text)
-no_mark_first t text none = cond-true _ _ _ (ap not none) ∙ one-add (mark_at text)
-
 one_more : (t : ℕ) (text scheme longer : List ℕ) → is_mark t ≡ false → cond (nat_lt 32 t) (t ∷ scheme) scheme ≡ longer → Scanned text scheme → Scanned (t ∷ text) longer
-one_more t text scheme longer none is later =
-    let at = no_mark_first t text none in
-    (ap (λ n. get_or (t ∷ text) n 0) at ∙ later.0, ap (λ n. seen (take n (t ∷ text))) at ∙ ap (λ l. cond (nat_lt 32 t) (t ∷ l) l) later.1 ∙ is)
+one_more t text scheme longer none is later = grind (arith, nat_tests)
 
 scan : (text scheme rest : List ℕ) → All (Passes is_scheme_byte) scheme → seen text ≡ scheme ++ 58 ∷ rest → Scanned text scheme
 scan [] [] rest bytes is = cc
 scan [] (s ∷ scheme) rest bytes is = cc
 scan (t ∷ text) scheme rest bytes is =
-    ⊎_elim
-    (λ (shown : nat_lt 32 t ≡ true). visible scheme bytes shown (rw shown at is) (λ others. scan text others rest))
-    (λ (no : nat_lt 32 t ≡ false). one_more t text scheme scheme (unseen_no_mark t no) (cond-false _ _ _ no) (scan text scheme rest bytes (rw no at is)))
-    (cases_Bool (nat_lt 32 t))
+    elim (cases_Bool (nat_lt 32 t)) [
+      | inl shown ↦ visible scheme bytes shown (rw shown at is) (λ others. scan text others rest)
+      | inr hidden ↦ one_more t text scheme scheme (unseen_no_mark t hidden) (cond-false _ _ _ hidden) (scan text scheme rest bytes (rw hidden at is))
+    ]
   where
     visible : (scheme : List ℕ) → All (Passes is_scheme_byte) scheme → nat_lt 32 t ≡ true → t ∷ seen text ≡ scheme ++ 58 ∷ rest → ((others : List ℕ) → All (Passes is_scheme_byte) others → seen text ≡ others ++ 58 ∷ rest → Scanned text others) → Scanned (t ∷ text) scheme
     visible [] bytes shown is later =
@@ -163,17 +141,7 @@ literal_visible : (xs : List ℕ) → list_all (nat_lt 32) xs ≡ true → All I
 literal_visible xs all = All-weaker (Passes (nat_lt 32)) IsVisible (λ b passes. grind (arith, nat_tests)) xs (All_from_list_all (nat_lt 32) xs all)
 
 link_scheme_visible : (scheme : List ℕ) → is_link_scheme scheme ≡ true → All IsVisible scheme
-link_scheme_visible scheme known =
-    ⊎_elim
-    (λ (http : bytes_eq scheme (codes "http") ≡ true). subst (All IsVisible) (sym ((bytes_eq-Decides scheme (codes "http")).0 http)) (literal_visible (codes "http") refl))
-    (λ (other : bytes_eq scheme (codes "http") ≡ false).
-    ⊎_elim
-    (λ (https : bytes_eq scheme (codes "https") ≡ true). subst (All IsVisible) (sym ((bytes_eq-Decides scheme (codes "https")).0 https)) (literal_visible (codes "https") refl))
-    (λ (another : bytes_eq scheme (codes "https") ≡ false).
-    let mailto : bytes_eq scheme (codes "mailto") ≡ true = rw (other, another) at known in
-    subst (All IsVisible) (sym ((bytes_eq-Decides scheme (codes "mailto")).0 mailto)) (literal_visible (codes "mailto") refl))
-    (cases_Bool (bytes_eq scheme (codes "https"))))
-    (cases_Bool (bytes_eq scheme (codes "http")))
+link_scheme_visible scheme known = grind (arith, nat_tests, bytes_eq, bytes_eq-Decides, literal_visible)
 
 -- the parser reads one of the schemes in a text that is taken, or none
 known_scheme : (text cleaned rest : List ℕ) (split : Option (List ℕ × List ℕ)) → is_link text ≡ true → seen cleaned ≡ seen text → IfSome split (λ s. All (Passes is_scheme_byte) s.0 × (cleaned ≡ s.0 ++ 58 ∷ (s.1 ++ rest))) →
@@ -202,8 +170,7 @@ link_scheme P holds base text link page =
     (own_holds (split_scheme question.0) (known_scheme text cleaned rest (split_scheme question.0) link (seen_cleaned text) own)) page
   where
     own_holds : (split : Option (List ℕ × List ℕ)) → IfSome split (λ s. is_link_scheme (lowercase s.0) ≡ true) → IfSome split (λ s. P (lowercase s.0))
-    own_holds None known = tt
-    own_holds (Some split) known = holds (lowercase split.0) known
+    own_holds split known = grind (arith, nat_tests)
 
     longer : (split : Option (List ℕ × List ℕ)) (bytes cleaned rest : List ℕ) → cleaned ≡ bytes ++ rest → IfSome split (IsSchemeOf bytes) → IfSome split (λ s. All (Passes is_scheme_byte) s.0 × (cleaned ≡ s.0 ++ 58 ∷ (s.1 ++ rest)))
     longer None bytes cleaned rest whole is = tt
@@ -219,5 +186,4 @@ page_law base text link =
     link_scheme (λ scheme. (is_link_scheme scheme ≡ true) ⊎ IsSomeAnd base (λ page. scheme ≡ page.scheme)) (λ scheme known. inl known) base text link (own base)
   where
     own : (base : Option Parts) → IfSome base (λ page. (is_link_scheme page.scheme ≡ true) ⊎ IsSomeAnd base (λ base. page.scheme ≡ base.scheme))
-    own None = tt
-    own (Some page) = inr refl
+    own base = grind (arith, nat_tests)

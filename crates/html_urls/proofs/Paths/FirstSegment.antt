@@ -1,5 +1,5 @@
 -- What the parser has read behind a first segment with no `:`.
-use Rattle.std.proofs.Common.{◌≡◌, ◌≢◌, ℕ, ◌<◌, true, false, ◌==◌, List, [], ◌∷◌, ◌++◌, length, get_or, drop, Option, Some, None, IfSome, All, refl, sym, ap, arith}
+use Rattle.std.proofs.Common.{◌≡◌, ◌≢◌, ℕ, ◌<◌, true, List, [], ◌∷◌, ◌++◌, length, get_or, drop, Option, Some, None, IfSome, All, refl, sym, ap, arith}
 use Rattle.std.proofs.lemmas.Bool.Decides.{nat_tests}
 use Rattle.std.proofs.lemmas.List.Elements.{All-head, All-tail}
 use Rattle.url.specs.declared.scheme.SchemeType.TheVariants.{SpecialNotFile}
@@ -13,10 +13,7 @@ use Rattle.html_urls.proofs.Paths.Opening.{Reads, Relative, folder_of, from_base
 
 no_leading_slash : (b : ℕ) (rest : List ℕ) → is_first_byte b ≡ true → leading_slashes SpecialNotFile (b ∷ rest) ≡ 0
 unfolding leading_slashes
-no_leading_slash b rest passes =
-    let other : (b == 47) ≡ false = grind (arith, nat_tests) in
-    let plain : (b == 92) ≡ false = grind (arith, nat_tests) in
-    rw (other, plain) refl
+no_leading_slash b rest passes = grind (arith, nat_tests)
 
 first_no_colon : (b : ℕ) → is_first_byte b ≡ true → b ≢ 58
 first_no_colon b passes same = let clash = rw same at passes in cc
@@ -44,8 +41,7 @@ no_scheme : (first rest : List ℕ) → All (λ b. is_first_byte b ≡ true) fir
 no_scheme first rest bytes = none (split_scheme (first ++ 47 ∷ rest)) (own_scheme (first ++ 47 ∷ rest))
   where
     none : (split : Option (List ℕ × List ℕ)) → IfSome split (IsSchemeOf (first ++ 47 ∷ rest)) → split ≡ None
-    none None is = refl
-    none (Some split) is = absurd (no_colon first rest split.0 split.1 bytes is.0 is.1)
+    none split is = grind (arith, nat_tests, no_colon)
 
 -- a first segment and `/`
 pub folder_reads : (base : Option Parts) (first rest : List ℕ) → IsWebBase base → 0 < length first → All (λ b. is_first_byte b ≡ true) first →

@@ -1,6 +1,8 @@
 -- A text in the path.
-use Rattle.std.proofs.Common.{◌≡◌, ℕ, ◌<◌, true, false, List, [], ◌∷◌, ◌++◌, length, Option, None, Ok, Err, IfOk, codes, All, sym, refl, ap, ◌∙◌, subst, append_assoc, arith}
-use Rattle.std.proofs.lemmas.List.Elements.{All-nil, All-head, All-tail, All-append, All-weaker}
+use Rattle.std.proofs.Common.{◌≡◌, ℕ, ◌<◌, true, false, List, [], ◌∷◌, ◌++◌, length, Option, None, Ok, IfOk, codes, All, sym, refl, ap, ◌∙◌, subst, append_assoc, arith, ◌≢◌, get_or}
+use Rattle.std.proofs.lemmas.Bool.Decides.{nat_tests}
+use Rattle.std.proofs.lemmas.List.{get_or_append_left}
+use Rattle.std.proofs.lemmas.List.Elements.{All-nil, All-tail, All-append, All-weaker}
 use Rattle.percent_encoding.specs.Percent.{percent_encode}
 use Rattle.percent_encoding.proofs.PercentLemmas.{percent_encode_nonempty}
 use Rattle.url.specs.declared.sets.TheConstants.{PATH}
@@ -12,7 +14,7 @@ use Rattle.url.specs.Parts.{Parts}
 use Rattle.url.specs.Parser.{Parsed, and_then, parse_authority, with_path, with_tail, split_scheme, parse_by_scheme, parse_url}
 use Rattle.url.proofs.InputLemmas.{split_once_none}
 use Rattle.html_urls.specs.declared.component.TheConstants.{COMPONENT}
-use Rattle.html_urls.specs.Components.{component}
+use Rattle.html_urls.specs.Components.{component, is_component_byte}
 use Rattle.html_urls.specs.Heads.{on_ok}
 use Rattle.html_urls.specs.Hosts.{FixesHost, absolute, hosted, rooted, relative, IsWebBase}
 use Rattle.html_urls.specs.Inputs.{IsNot, kept, kept_rest}
@@ -22,7 +24,7 @@ use Rattle.html_urls.specs.Parts.Segments.{last_segment, HasNoDotSegments}
 use Rattle.html_urls.proofs.Components.{component_without, encode_around}
 use Rattle.html_urls.proofs.Splits.{kept_around, split_clear}
 use Rattle.html_urls.proofs.Paths.PathSegments.{after_front, last_after, path_alone, path_grows}
-use Rattle.html_urls.proofs.Paths.Opening.{Reads, authority_of, hosted_reads, from_base, folder_of, all_left, all_right, rooted_reads, root_reads, absolute_reads}
+use Rattle.html_urls.proofs.Paths.Opening.{Reads, authority_of, hosted_reads, from_base, folder_of, all_left, all_right, rooted_reads, first_not, absolute_reads}
 use Rattle.html_urls.proofs.Paths.FirstSegment.{folder_reads}
 
 -- ---- bytes
@@ -41,9 +43,12 @@ record Opened (base : Option Parts) (front text : List ℕ) : Type 0 where
   alone : Reads base front start path body
   goes_on : (rest : List ℕ) → Reads base (front ++ (component text ++ rest)) start path (body ++ (component text ++ rest))
 
-root_goes_on : (base : Option Parts) (c rest : List ℕ) → IsWebBase base → 0 < length c → All (IsNot 47) c → All (IsNot 92) c → Reads base (47 ∷ (c ++ rest)) (from_base base) [] (c ++ rest)
-root_goes_on base [] rest web some other plain = absurd (omega arith)
-root_goes_on base (b ∷ c) rest web some other plain = rooted_reads base b (c ++ rest) web (All-head (IsNot 47) b c other) (All-head (IsNot 92) b c plain)
+-- the first byte of a segment that goes on with a component
+first_byte : (mark : ℕ) (rest text more : List ℕ) → mark ≢ 0 → is_component_byte mark ≡ false → get_or rest 0 0 ≢ mark → (rest ≡ [] → 0 < length text) → get_or (rest ++ (component text ++ more)) 0 0 ≢ mark
+first_byte mark [] text more zero other first some =
+    let long = percent_encode_nonempty COMPONENT text (some refl) in
+    rw (get_or_append_left (component text) more 0 0 long) (component_without mark other text 0 0 long)
+first_byte mark (b ∷ rest) text more zero other first some = first
 
 opened : (base : Option Parts) (front text : List ℕ) → IsWebBase base → All (IsNot 92) front → FixesHost front → (front ≡ 47 ∷ [] → 0 < length text) → Opened base front text
 opened base _ text web plain (absolute scheme host rest is_web some other) text_some =
@@ -73,25 +78,18 @@ opened base _ text web plain (hosted host rest some other) text_some =
       alone = hosted_reads base host rest web some other host_plain;
       goes_on = λ more. subst (λ x. Reads base x (authority_of base host) [] (rest ++ (component text ++ more))) (sym (append_assoc head (47 ∷ rest) (component text ++ more))) (hosted_reads base host (rest ++ (component text ++ more)) web some other host_plain);
     }
-opened base _ text web plain (rooted [] other) text_some = record {
-  start = from_base base;
-  path = [];
-  body = [];
-  plain = All-nil (IsNot 92);
-  last = sym (last_after [] []);
-  alone = root_reads base web;
-  goes_on = λ more. root_goes_on base (component text) more web (percent_encode_nonempty COMPONENT text (text_some refl)) (component_without 47 refl text) (component_without 92 refl text);
-}
-opened base _ text web plain (rooted (b ∷ rest) other) text_some =
-    let after = All-tail (IsNot 92) 47 (b ∷ rest) plain in
+opened base _ text web plain (rooted rest other) text_some =
+    let after = All-tail (IsNot 92) 47 rest plain in
+    let no_backslash = first_not rest after in
+    let some = λ (none : rest ≡ []). text_some (ap (λ l. 47 ∷ l) none) in
     record {
       start = from_base base;
       path = [];
-      body = b ∷ rest;
+      body = rest;
       plain = after;
-      last = sym (last_after [] (b ∷ rest));
-      alone = rooted_reads base b rest web other (All-head (IsNot 92) b rest after);
-      goes_on = λ more. rooted_reads base b (rest ++ (component text ++ more)) web other (All-head (IsNot 92) b rest after);
+      last = sym (last_after [] rest);
+      alone = rooted_reads base rest web other no_backslash;
+      goes_on = λ more. rooted_reads base (rest ++ (component text ++ more)) web (first_byte 47 rest text more (omega arith) refl other some) (first_byte 92 rest text more (omega arith) refl no_backslash some);
     }
 opened base _ text web plain (relative first rest some bytes) text_some = record {
   start = from_base base;
@@ -107,8 +105,7 @@ opened base _ text web plain (relative first rest some bytes) text_some = record
 
 grow : (start : Parsed Parts) (text rest path longer : List ℕ) → longer ≡ path ++ component text ++ percent_encode PATH (path_of rest) →
     and_then start (λ url. Ok (with_tail (with_path url longer) (query_of rest) (fragment_of rest))) ≡ on_ok (path_goes_on text rest) (and_then start (λ url. Ok (with_tail (with_path url path) None None)))
-grow (Ok url) text rest path longer grown = ap (λ p. Ok (with_tail (with_path url p) (query_of rest) (fragment_of rest))) grown
-grow (Err e) text rest path longer grown = refl
+grow start text rest path longer grown = grind (arith, nat_tests)
 
 -- THE PATH LAW: the URL is that of the front, with a path that goes on, and the query and the fragment of the rest
 pub path_law : (base : Option Parts) (front text rest : List ℕ) → IsWebBase base → EndsInPath front → FitsSegment front text rest →
@@ -167,21 +164,8 @@ alone base front web place =
 
 -- it has neither a query nor a fragment
 pub path_bare : (base : Option Parts) (front : List ℕ) → IsWebBase base → EndsInPath front → parse_url base front ≡ on_ok without_tail (parse_url base front)
-path_bare base front web place =
-    let (start, before, whole) = alone base front web place in
-    whole ∙ by_start (before ++ 47 ∷ percent_encode PATH (last_segment (kept front))) start ∙ sym (ap (on_ok without_tail) whole)
-  where
-    by_start : (path : List ℕ) (start : Parsed Parts) → and_then start (λ url. Ok (with_tail (with_path url path) None None)) ≡ on_ok without_tail (and_then start (λ url. Ok (with_tail (with_path url path) None None)))
-    by_start path (Ok url) = refl
-    by_start path (Err e) = refl
+path_bare base front web place = grind (arith, nat_tests, alone)
 
 -- its path is some path, `/` and the open segment, percent-encoded
 pub front_path : (base : Option Parts) (front : List ℕ) → IsWebBase base → EndsInPath front → (before : List ℕ) × IfOk (parse_url base front) (λ url. url.path ≡ before ++ 47 ∷ percent_encode PATH (last_segment (kept front)))
-front_path base front web place =
-    let (start, before, whole) = alone base front web place in
-    let path = before ++ 47 ∷ percent_encode PATH (last_segment (kept front)) in
-    (before, subst (λ (parsed : Parsed Parts). IfOk parsed (λ url. url.path ≡ path)) (sym whole) (by_start path start))
-  where
-    by_start : (path : List ℕ) (start : Parsed Parts) → IfOk (and_then start (λ url. Ok (with_tail (with_path url path) None None))) (λ url. url.path ≡ path)
-    by_start path (Ok url) = refl
-    by_start path (Err e) = tt
+front_path base front web place = grind (arith, nat_tests, alone)

@@ -1,6 +1,7 @@
 -- The path state, when no dot segment and no backslash is read.
-use Rattle.std.proofs.Common.{◌≡◌, ◌≢◌, ℕ, Bool, true, false, List, [], ◌∷◌, ◌++◌, Option, Some, None, All, sym, refl, ap, ◌∙◌, subst, ⊎_elim, append_assoc, append-nil}
-use Rattle.std.proofs.lemmas.Bool.{cond-true, cond-false, cases_eq, ne_eqb, eq-eqb}
+use Rattle.std.proofs.Common.{◌≡◌, ◌≢◌, ℕ, Bool, true, false, List, [], ◌∷◌, ◌++◌, Option, Some, None, All, sym, refl, ap, ◌∙◌, subst, append_assoc, append-nil, arith, inl, inr}
+use Rattle.std.proofs.lemmas.Bool.Decides.{nat_tests}
+use Rattle.std.proofs.lemmas.Bool.{cond-true, cond-false, cases_eq, ne_eqb}
 use Rattle.std.proofs.lemmas.List.Elements.{All-nil, All-cons, All-head, All-tail, All-push}
 use Rattle.form_urlencoded.specs.Form.{split, onto_first}
 use Rattle.percent_encoding.specs.AsciiSet.{should_percent_encode}
@@ -46,9 +47,7 @@ last_whole [] = All-nil (IsNot 47)
 last_whole (x ∷ xs) = step (rsplit_once 47 xs).0 (rsplit_once 47 xs).1 (last_whole xs)
   where
     step : (front : Option (List ℕ)) (back : List ℕ) → All (IsNot 47) back → All (IsNot 47) (rsplit_step 47 x front back).1
-    step (Some front) back none = none
-    step None back none =
-        ⊎_elim (λ (here : x ≡ 47). rw (eq-eqb x 47 here) none) (λ (other : x ≢ 47). rw (ne_eqb x 47 other) (All-cons (IsNot 47) x back other none)) (cases_eq x 47)
+    step front back none = grind (arith, nat_tests)
 
 -- what stands before a slash is not in the last segment
 pub last_after : (xs ys : List ℕ) → last_segment (xs ++ 47 ∷ ys) ≡ last_segment ys
@@ -70,8 +69,7 @@ last_after xs ys = (found xs).1
 
 pub last_of_whole : (xs : List ℕ) → All (IsNot 47) xs → last_segment xs ≡ xs
 unfolding rsplit_once
-last_of_whole [] none = refl
-last_of_whole (x ∷ xs) none = ap (λ r. r.1) (rsplit_once_none 47 (x ∷ xs) none)
+last_of_whole xs none = grind (arith, nat_tests, rsplit_once_none)
 
 -- ---- the path state
 
@@ -90,21 +88,19 @@ finish path segment [] whole plain dots =
     push_plain path segment true (All-head IsPlain segment [] (subst (λ t. t) one dots)) ∙ ap (λ x. path ++ 47 ∷ encoded x) (sym (append-nil segment))
 finish path segment (x ∷ bytes) whole plain dots =
     let later = All-tail (IsNot 92) x bytes plain in
-    ⊎_elim
-    (λ (here : x ≡ 47).
-    let pieces = subst (All IsPlain) (ap (λ b. split 47 (segment ++ b ∷ bytes)) here ∙ split_at segment bytes whole) dots in
-    let pushed = push_plain path segment false (All-head IsPlain segment (split 47 bytes) pieces) in
-    cond-true _ _ _ (ap (is_slash SpecialNotFile) here)
-    ∙ ap (λ p. parse_segments SpecialNotFile p [] bytes) pushed
-    ∙ finish (path ++ 47 ∷ encoded segment) [] bytes (All-nil (IsNot 47)) later (All-tail IsPlain segment (split 47 bytes) pieces)
-    ∙ append_assoc path (47 ∷ encoded segment) (47 ∷ encoded bytes)
-    ∙ ap (λ x. path ++ 47 ∷ x) (sym (percent_encode-append PATH segment (x ∷ bytes) ∙ ap (λ b. encoded segment ++ encoded (b ∷ bytes)) here ∙ ap (λ x. encoded segment ++ x) (percent_encode_kept PATH 47 bytes slash_kept))))
-    (λ (other : x ≢ 47).
-    let joined = append_assoc segment (x ∷ []) bytes in
-    cond-false _ _ _ (no_slash x other (All-head (IsNot 92) x bytes plain))
-    ∙ finish path (segment ++ x ∷ []) bytes (All-push (IsNot 47) segment x whole other) later (subst HasNoDotSegments (sym joined) dots)
-    ∙ ap (λ x. path ++ 47 ∷ encoded x) joined)
-    (cases_eq x 47)
+    elim (cases_eq x 47) [
+      | inl here ↦ let pieces = subst (All IsPlain) (ap (λ b. split 47 (segment ++ b ∷ bytes)) here ∙ split_at segment bytes whole) dots in
+          let pushed = push_plain path segment false (All-head IsPlain segment (split 47 bytes) pieces) in
+          cond-true _ _ _ (ap (is_slash SpecialNotFile) here)
+          ∙ ap (λ p. parse_segments SpecialNotFile p [] bytes) pushed
+          ∙ finish (path ++ 47 ∷ encoded segment) [] bytes (All-nil (IsNot 47)) later (All-tail IsPlain segment (split 47 bytes) pieces)
+          ∙ append_assoc path (47 ∷ encoded segment) (47 ∷ encoded bytes)
+          ∙ ap (λ x. path ++ 47 ∷ x) (sym (percent_encode-append PATH segment (x ∷ bytes) ∙ ap (λ b. encoded segment ++ encoded (b ∷ bytes)) here ∙ ap (λ x. encoded segment ++ x) (percent_encode_kept PATH 47 bytes slash_kept)))
+      | inr other ↦ let joined = append_assoc segment (x ∷ []) bytes in
+          cond-false _ _ _ (no_slash x other (All-head (IsNot 92) x bytes plain))
+          ∙ finish path (segment ++ x ∷ []) bytes (All-push (IsNot 47) segment x whole other) later (subst HasNoDotSegments (sym joined) dots)
+          ∙ ap (λ x. path ++ 47 ∷ encoded x) joined
+    ]
 
 -- after a front the parser has a path and the front's last segment, whatever follows
 pub after_front : (path segment front : List ℕ) → All (IsNot 47) segment → All (IsNot 92) front → (found : List ℕ) × ((rest : List ℕ) → parse_segments SpecialNotFile path segment (front ++ rest) ≡ parse_segments SpecialNotFile found (last_segment (segment ++ front)) rest)
@@ -113,16 +109,14 @@ after_front path segment [] whole plain =
     (path, λ rest. ap (λ s. parse_segments SpecialNotFile path s rest) (sym (ap last_segment (append-nil segment) ∙ last_of_whole segment whole)))
 after_front path segment (x ∷ front) whole plain =
     let later = All-tail (IsNot 92) x front plain in
-    ⊎_elim
-    (λ (here : x ≡ 47).
-    let next = after_front (push_segment SpecialNotFile path segment false) [] front (All-nil (IsNot 47)) later in
-    let last = ap (λ b. last_segment (segment ++ b ∷ front)) here ∙ last_after segment front in
-    (next.0, λ rest. cond-true _ _ _ (ap (is_slash SpecialNotFile) here) ∙ next.1 rest ∙ ap (λ s. parse_segments SpecialNotFile next.0 s rest) (sym last)))
-    (λ (other : x ≢ 47).
-    let next = after_front path (segment ++ x ∷ []) front (All-push (IsNot 47) segment x whole other) later in
-    let joined = append_assoc segment (x ∷ []) front in
-    (next.0, λ rest. cond-false _ _ _ (no_slash x other (All-head (IsNot 92) x front plain)) ∙ next.1 rest ∙ ap (λ s. parse_segments SpecialNotFile next.0 (last_segment s) rest) joined))
-    (cases_eq x 47)
+    elim (cases_eq x 47) [
+      | inl here ↦ let next = after_front (push_segment SpecialNotFile path segment false) [] front (All-nil (IsNot 47)) later in
+          let last = ap (λ b. last_segment (segment ++ b ∷ front)) here ∙ last_after segment front in
+          (next.0, λ rest. cond-true _ _ _ (ap (is_slash SpecialNotFile) here) ∙ next.1 rest ∙ ap (λ s. parse_segments SpecialNotFile next.0 s rest) (sym last))
+      | inr other ↦ let next = after_front path (segment ++ x ∷ []) front (All-push (IsNot 47) segment x whole other) later in
+          let joined = append_assoc segment (x ∷ []) front in
+          (next.0, λ rest. cond-false _ _ _ (no_slash x other (All-head (IsNot 92) x front plain)) ∙ next.1 rest ∙ ap (λ s. parse_segments SpecialNotFile next.0 (last_segment s) rest) joined)
+    ]
 
 -- the path of a front whose last segment is no dot segment ends with that segment
 pub path_alone : (path front : List ℕ) (plain : All (IsNot 92) front) → dot_count (last_segment front) ≡ 0 →

@@ -1,5 +1,5 @@
 -- A scheme of the web, in any case, at the front of an input.
-use Rattle.std.proofs.Common.{◌≡◌, ℕ, ◌+◌, ◌<◌, true, ◌&&◌, ◌==◌, nat_lt, List, [], ◌∷◌, ◌++◌, length, drop, get_or, codes, Some, All, sym, refl, ap, ◌∙◌, subst, inl, inr, append_assoc, arith, length-append, take_at, drop_at}
+use Rattle.std.proofs.Common.{◌≡◌, ℕ, ◌<◌, true, nat_lt, List, [], ◌∷◌, ◌++◌, length, codes, Some, All, sym, refl, ◌∙◌, subst, inl, inr, arith, length-append, take_at, drop_at}
 use Rattle.std.specs.Char.{is_ascii_alphabetic, to_ascii_lowercase}
 use Rattle.std.proofs.lemmas.Bool.{cond-true}
 use Rattle.std.proofs.lemmas.Bool.Decides.{nat_tests}
@@ -28,8 +28,7 @@ web_letters scheme (inl http) = upper_letters scheme (subst (All IsLetter) (sym 
 web_letters scheme (inr https) = upper_letters scheme (subst (All IsLetter) (sym https) (All_from_list_all is_ascii_alphabetic (codes "https") refl))
 
 web_some : (scheme : List ℕ) → IsWebScheme scheme → 0 < length scheme
-web_some scheme (inl http) = omega (arith, ap length http, length-map {B = ℕ} scheme to_ascii_lowercase)
-web_some scheme (inr https) = omega (arith, ap length https, length-map {B = ℕ} scheme to_ascii_lowercase)
+web_some scheme given_1 = grind (arith, nat_tests, length-map)
 
 letter_in_scheme : (b : ℕ) → IsLetter b → Passes is_scheme_byte b
 letter_in_scheme b letter = grind (arith, nat_tests)
@@ -43,15 +42,8 @@ web_length (b ∷ scheme) rest some letters =
 
 pub split_web : (scheme rest : List ℕ) → IsWebScheme scheme → split_scheme (scheme ++ 58 ∷ rest) ≡ Some (scheme, rest)
 unfolding split_scheme
-split_web scheme rest web =
-    let some = web_some scheme web in
-    let len = web_length scheme rest some (web_letters scheme web) in
-    let colon = get_or_at scheme 58 rest 0 _ refl in
-    let found : (nat_lt 0 (length scheme) && get_or (scheme ++ 58 ∷ rest) (length scheme) 0 == 58) ≡ true = grind (arith, nat_tests) in
-    let after = ap (drop (length scheme + 1)) (sym (append_assoc scheme (58 ∷ []) rest)) ∙ drop_at (scheme ++ 58 ∷ []) rest _ (length-append scheme (58 ∷ [])) in
-    rw (len, found) (λ i. Some (take_at scheme (58 ∷ rest) _ refl i, after i))
+split_web scheme rest web = grind (arith, nat_tests, web_some, web_length, web_letters, get_or_at, nat_lt, drop_at, length-append, take_at)
 
 pub web_type : (scheme : List ℕ) → IsWebScheme scheme → scheme_type (lowercase scheme) ≡ SpecialNotFile
 unfolding scheme_type default_port
-web_type scheme (inl http) = ap scheme_type http
-web_type scheme (inr https) = ap scheme_type https
+web_type scheme given_1 = grind (arith, nat_tests)

@@ -7,8 +7,8 @@ use Rattle.html_urls.specs.Heads.{on_ok}
 use Rattle.html_urls.specs.Places.{EndsIn, Fits, SuitsPlace, goes_on}
 use Rattle.html_urls.specs.declared.place.UrlPlace.{UrlPlace}
 use Rattle.html_urls.specs.declared.place.UrlPlace.TheVariants.{Path, Query, Fragment}
-use Rattle.html_urls.proofs.Queries.QueryLaw.{query_law}
-use Rattle.html_urls.proofs.Fragments.{fragment_law}
+use Rattle.html_urls.proofs.Tails.Queries.{query_law}
+use Rattle.html_urls.proofs.Tails.Fragments.{fragment_law}
 use Rattle.html_urls.proofs.Paths.PathLaw.{path_law}
 
 -- THE URL LAW: the URL is that of the front, and the part that the front ends in goes on

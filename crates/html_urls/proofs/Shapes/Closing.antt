@@ -1,5 +1,6 @@
 -- Parts that leave no escape open are split in parts that leave none.
-use Rattle.std.proofs.Common.{◌≡◌, ℕ, ◌<◌, true, false, ◌==◌, List, [], ◌∷◌, ◌++◌, length, Option, Some, None, unwrap_or, All, sym, refl, ap, subst, ⊎_elim, append_assoc, append-nil, arith}
+use Rattle.std.proofs.Common.{◌≡◌, ℕ, ◌<◌, false, ◌==◌, List, [], ◌∷◌, ◌++◌, length, Some, unwrap_or, All, sym, refl, ap, subst, append_assoc, append-nil, arith, inl, inr}
+use Rattle.std.proofs.lemmas.Bool.Decides.{nat_tests}
 use Rattle.std.proofs.lemmas.Bool.{cases_Bool}
 use Rattle.std.proofs.lemmas.List.Elements.{All-cons, All-head, All-nil, All-tail}
 use Rattle.std.specs.Bool.{⊤}
@@ -10,7 +11,7 @@ use Rattle.html_urls.specs.Shapes.{before_fragment_parts, from_slot, front_of, p
 use Rattle.html_urls.specs.Slots.{Given, Markup, Slot, ends_in_escape}
 use Rattle.html_urls.proofs.OpenEscapes.{ClosesEscapes, both_closed, closed_before, closed_behind, closed_markup, end_closed, later_closed}
 use Rattle.html_urls.proofs.Splits.{split_some}
-use Rattle.html_urls.proofs.Shapes.Fills.{Halves, split_by, split_is}
+use Rattle.html_urls.proofs.Shapes.Fills.{Halves, clear, found, markup_split}
 use Rattle.html_urls.proofs.Shapes.Fronts.{no_slot_still}
 use Rattle.html_urls.proofs.Shapes.Pieces.{onto_front, onto_nothing, onto_pieces, pieces_are}
 
@@ -24,26 +25,24 @@ after_closed : (mark : ℕ) (bytes after : List ℕ) → (split_once mark bytes)
 unfolding split_once
 after_closed mark [] after is closed = cc
 after_closed mark (b ∷ bytes) after is closed =
-    ⊎_elim
-    (λ (here : (b == mark) ≡ true). let same : bytes ≡ after = some_is (rw here at is) in subst (λ l. ends_in_escape l ≡ false) same (later_closed b bytes closed))
-    (λ (other : (b == mark) ≡ false). after_closed mark bytes after (rw other at is) (later_closed b bytes closed))
-    (cases_Bool (b == mark))
+    elim (cases_Bool (b == mark)) [
+      | inl here ↦ let same : bytes ≡ after = some_is (rw here at is) in subst (λ l. ends_in_escape l ≡ false) same (later_closed b bytes closed)
+      | inr other ↦ after_closed mark bytes after (rw other at is) (later_closed b bytes closed)
+    ]
   where
     some_is : Some bytes ≡ Some after → bytes ≡ after
     some_is same = cc
 
 pub halves_close : (mark : ℕ) (parts : List Given) → ClosesEscapes parts → HalvesClose (split_parts mark parts)
 halves_close mark [] closed = (refl, refl)
-halves_close mark (Markup bytes ∷ parts) closed =
-    subst HalvesClose (sym (split_is mark bytes parts (split_parts mark parts)))
-    (in_markup parts closed (halves_close mark parts (closed_behind bytes parts closed)) (split_once mark bytes).1 refl)
-  where
-    in_markup : (parts : List Given) → ClosesEscapes (Markup bytes ∷ parts) → HalvesClose (split_parts mark parts) → (o : Option (List ℕ)) → (split_once mark bytes).1 ≡ o → HalvesClose (split_by bytes ((split_once mark bytes).0, o) parts (split_parts mark parts))
-    in_markup [] closed later (Some after) is = (refl, refl)
-    in_markup [] closed later None is = (refl, refl)
-    in_markup (part ∷ parts) closed later (Some after) is =
-        (refl, closed_before after (part ∷ parts) (after_closed mark bytes after is (closed_markup bytes part parts closed)) (closed_behind bytes (part ∷ parts) closed))
-    in_markup (part ∷ parts) closed later None is = (closed_before bytes (split_parts mark (part ∷ parts)).0 (closed_markup bytes part parts closed) later.0, later.1)
+halves_close mark (Markup bytes ∷ []) closed = elim (markup_split mark bytes []) [ found before after is halves whole ↦ rw halves (refl, refl) | clear halves whole ↦ rw halves (refl, refl) ]
+halves_close mark (Markup bytes ∷ part ∷ parts) closed =
+    let later = halves_close mark (part ∷ parts) (closed_behind bytes (part ∷ parts) closed) in
+    let ended = closed_markup bytes part parts closed in
+    elim (markup_split mark bytes (part ∷ parts)) [
+      | found before after is halves whole ↦ rw halves (refl, closed_before after (part ∷ parts) (after_closed mark bytes after is ended) (closed_behind bytes (part ∷ parts) closed))
+      | clear halves whole ↦ rw halves (closed_before bytes (split_parts mark (part ∷ parts)).0 ended later.0, later.1)
+    ]
 halves_close mark (Slot ∷ parts) closed = halves_close mark parts closed
 
 -- ---- pieces
@@ -55,8 +54,7 @@ LastCloses (bytes ∷ []) = ends_in_escape bytes ≡ false
 LastCloses (bytes ∷ next ∷ more) = LastCloses (next ∷ more)
 
 first_of_more : (bytes : List ℕ) (l : List (List ℕ)) → 0 < length l → LastCloses l → LastCloses (bytes ∷ l)
-first_of_more bytes [] some closed = absurd (omega arith)
-first_of_more bytes (next ∷ more) some closed = closed
+first_of_more bytes l some closed = grind (arith, nat_tests)
 
 onto_both : (front : List ℕ) (b : ℕ) (l : List (List ℕ)) → onto_front (front ++ b ∷ []) l ≡ onto_front front (onto_first b l)
 onto_both front b [] = refl
@@ -66,14 +64,12 @@ last_closes : (mark : ℕ) (front bytes : List ℕ) → ends_in_escape (front ++
 unfolding split
 last_closes mark front [] closed = closed
 last_closes mark front (b ∷ bytes) closed =
-    ⊎_elim
-    (λ (here : (b == mark) ≡ true).
-    let later : LastCloses (onto_front [] (split mark bytes)) = last_closes mark [] bytes (later_closed b bytes (end_closed front (b ∷ bytes) closed)) in
-    rw here (first_of_more (front ++ []) (split mark bytes) (split_some mark bytes) (subst LastCloses (onto_nothing (split mark bytes) (split_some mark bytes)) later)))
-    (λ (other : (b == mark) ≡ false).
-    let later : LastCloses (onto_front (front ++ b ∷ []) (split mark bytes)) = last_closes mark (front ++ b ∷ []) bytes (subst (λ l. ends_in_escape l ≡ false) (sym (append_assoc front (b ∷ []) bytes)) closed) in
-    rw other (subst LastCloses (onto_both front b (split mark bytes)) later))
-    (cases_Bool (b == mark))
+    elim (cases_Bool (b == mark)) [
+      | inl here ↦ let later : LastCloses (onto_front [] (split mark bytes)) = last_closes mark [] bytes (later_closed b bytes (end_closed front (b ∷ bytes) closed)) in
+          rw here (first_of_more (front ++ []) (split mark bytes) (split_some mark bytes) (subst LastCloses (onto_nothing (split mark bytes) (split_some mark bytes)) later))
+      | inr other ↦ let later : LastCloses (onto_front (front ++ b ∷ []) (split mark bytes)) = last_closes mark (front ++ b ∷ []) bytes (subst (λ l. ends_in_escape l ≡ false) (sym (append_assoc front (b ∷ []) bytes)) closed) in
+          rw other (subst LastCloses (onto_both front b (split mark bytes)) later)
+    ]
 
 nothing_behind : (l : List (List ℕ)) → All ClosesEscapes (onto_pieces l ([] ∷ []))
 nothing_behind [] = All-cons ClosesEscapes [] [] refl (All-nil ClosesEscapes)
@@ -124,10 +120,10 @@ front_closes (Slot ∷ parts) first later closed is = refl
 behind_closes : (so_far bytes : List ℕ) → ends_in_escape (so_far ++ bytes) ≡ false → ends_in_escape (behind_slash so_far bytes) ≡ false
 behind_closes so_far [] closed = subst (λ l. ends_in_escape l ≡ false) (append-nil so_far) closed
 behind_closes so_far (b ∷ bytes) closed =
-    ⊎_elim
-    (λ (here : (b == 47) ≡ true). rw here (behind_closes [] bytes (later_closed b bytes (end_closed so_far (b ∷ bytes) closed))))
-    (λ (other : (b == 47) ≡ false). rw other (behind_closes (so_far ++ b ∷ []) bytes (subst (λ l. ends_in_escape l ≡ false) (sym (append_assoc so_far (b ∷ []) bytes)) closed)))
-    (cases_Bool (b == 47))
+    elim (cases_Bool (b == 47)) [
+      | inl here ↦ rw here (behind_closes [] bytes (later_closed b bytes (end_closed so_far (b ∷ bytes) closed)))
+      | inr other ↦ rw other (behind_closes (so_far ++ b ∷ []) bytes (subst (λ l. ends_in_escape l ≡ false) (sym (append_assoc so_far (b ∷ []) bytes)) closed))
+    ]
 
 pub open_closes : (parts : List Given) → ClosesEscapes parts → ClosesEscapes (open_path parts)
 open_closes parts closed = by_slot (from_slot parts) refl

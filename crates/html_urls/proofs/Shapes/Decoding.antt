@@ -1,10 +1,11 @@
 -- Markup and texts are decoded one by one, where no escape is open at the end of markup.
-use Rattle.std.proofs.Common.{◌≡◌, ◌≢◌, ℕ, ◌+◌, ◌*◌, Bool, true, false, ◌&&◌, ◌||◌, ◌==◌, List, [], ◌∷◌, ◌++◌, map, All, sym, refl, ap, ◌∙◌, subst, ⊎_elim, append_assoc, append-nil}
+use Rattle.std.proofs.Common.{◌≡◌, ◌≢◌, ℕ, ◌+◌, ◌*◌, Bool, true, false, ◌&&◌, ◌||◌, ◌==◌, List, [], ◌∷◌, ◌++◌, map, All, sym, refl, ap, ◌∙◌, subst, append_assoc, append-nil, arith, inl, inr}
+use Rattle.std.proofs.lemmas.Bool.Decides.{nat_tests}
 use Rattle.std.specs.Char.{digit_value, is_digit}
 use Rattle.std.specs.List.{list_any}
-use Rattle.std.proofs.lemmas.Bool.{both_ways, cases_Bool, cases_eq, cond-false, eq-eqb, ne_eqb}
+use Rattle.std.proofs.lemmas.Bool.{both_ways, cases_Bool, cases_eq, eq-eqb}
 use Rattle.std.proofs.lemmas.List.{map-append}
-use Rattle.std.proofs.lemmas.List.Elements.{All-cons, All-head, All-nil, All-tail}
+use Rattle.std.proofs.lemmas.List.Elements.{All-head, All-nil, All-tail}
 use Rattle.form_urlencoded.specs.Form.{IsPlain, decode, plus_to_space}
 use Rattle.form_urlencoded.proofs.FormLemmas.{decode_plain, map-plus_to_space}
 use Rattle.percent_encoding.specs.AsciiSet.{should_percent_encode}
@@ -21,14 +22,10 @@ use Rattle.html_urls.proofs.OpenEscapes.{ClosesEscapes, closed_behind, closed_ma
 
 -- ---- bytes that end in no open escape
 
-no_escape : (high low : ℕ) → is_digit high 16 ≡ false → is_escape 37 high low ≡ false
-no_escape high low other = rw other refl
-
 -- `%` and a byte that is no digit are kept, whatever follows
 pub kept_percent : (c : ℕ) (ys : List ℕ) → is_digit c 16 ≡ false → percent_decode (37 ∷ c ∷ ys) ≡ 37 ∷ percent_decode (c ∷ ys)
 unfolding percent_decode
-kept_percent c [] other = refl
-kept_percent c (y ∷ ys) other = cond-false _ _ _ (no_escape c y other)
+kept_percent c ys other = grind (arith, nat_tests)
 
 no_percent : (b : ℕ) → (b == 37) ≡ false → b ≢ 37
 no_percent b other same = both_ways _ other (eq-eqb b 37 same)
@@ -43,20 +40,16 @@ decode_joined [] ys closed = refl
 decode_joined (b ∷ []) ys closed = one_kept b ys closed
 decode_joined (b ∷ c ∷ []) ys closed =
     let last : (c == 37) ≡ false = later_closed b (c ∷ []) closed in
-    ⊎_elim
-    (λ (percent : b ≡ 37).
-    let other : is_digit c 16 ≡ false = rw (last, eq-eqb b 37 percent) at closed in
-    ap (λ x. percent_decode (x ∷ c ∷ ys)) percent ∙ kept_percent c ys other ∙ ap (λ l. 37 ∷ l) (one_kept c ys last) ∙ ap (λ x. x ∷ c ∷ percent_decode ys) (sym percent))
-    (λ (other : b ≢ 37). percent_decode_not_percent b (c ∷ ys) other ∙ ap (λ l. b ∷ l) (one_kept c ys last))
-    (cases_eq b 37)
+    elim (cases_eq b 37) [
+      | inl percent ↦ let other : is_digit c 16 ≡ false = rw (last, eq-eqb b 37 percent) at closed in
+          ap (λ x. percent_decode (x ∷ c ∷ ys)) percent ∙ kept_percent c ys other ∙ ap (λ l. 37 ∷ l) (one_kept c ys last) ∙ ap (λ x. x ∷ c ∷ percent_decode ys) (sym percent)
+      | inr other ↦ percent_decode_not_percent b (c ∷ ys) other ∙ ap (λ l. b ∷ l) (one_kept c ys last)
+    ]
 decode_joined (b ∷ c ∷ d ∷ xs) ys closed =
     let after = later_closed d xs (later_closed c (d ∷ xs) closed) in
     let next = decode_joined xs ys after in
     let all = decode_joined (c ∷ d ∷ xs) ys closed in
-    ⊎_elim
-    (λ (escape : is_escape b c d ≡ true). rw escape (ap (λ l. (16 * digit_value c + digit_value d) ∷ l) next))
-    (λ (none : is_escape b c d ≡ false). rw none (ap (λ l. b ∷ l) all))
-    (cases_Bool (is_escape b c d))
+    elim (cases_Bool (is_escape b c d)) [ inl escape ↦ rw escape (ap (λ l. (16 * digit_value c + digit_value d) ∷ l) next) | inr none ↦ rw none (ap (λ l. b ∷ l) all) ]
 
 -- ---- a component and what follows it
 
@@ -70,31 +63,21 @@ pub decode_text : (text ys : List ℕ) → All IsByte text → percent_decode (c
 decode_text [] ys bytes = ap (λ l. percent_decode (l ++ ys)) (percent_encode-nil COMPONENT)
 decode_text (b ∷ text) ys bytes =
     let later = ap (λ l. b ∷ l) (decode_text text ys (All-tail IsByte b text bytes)) in
-    ⊎_elim
-    (λ (escaped : should_percent_encode COMPONENT b ≡ true).
-    ap (λ l. percent_decode (l ++ ys)) (percent_encode_escaped COMPONENT b text escaped)
-    ∙ ap percent_decode (append_assoc (percent_encode_byte b) (component text) ys)
-    ∙ percent_decode-percent_encode_byte b (component text ++ ys) (All-head IsByte b text bytes) ∙ later)
-    (λ (kept : should_percent_encode COMPONENT b ≡ false).
-    ap (λ l. percent_decode (l ++ ys)) (percent_encode_kept COMPONENT b text kept)
-    ∙ percent_decode_not_percent b (component text ++ ys) (unreserved_no_percent b kept) ∙ later)
-    (cases_Bool (should_percent_encode COMPONENT b))
+    elim (cases_Bool (should_percent_encode COMPONENT b)) [
+      | inl escaped ↦ ap (λ l. percent_decode (l ++ ys)) (percent_encode_escaped COMPONENT b text escaped)
+          ∙ ap percent_decode (append_assoc (percent_encode_byte b) (component text) ys)
+          ∙ percent_decode-percent_encode_byte b (component text ++ ys) (All-head IsByte b text bytes) ∙ later
+      | inr kept ↦ ap (λ l. percent_decode (l ++ ys)) (percent_encode_kept COMPONENT b text kept)
+          ∙ percent_decode_not_percent b (component text ++ ys) (unreserved_no_percent b kept) ∙ later
+    ]
 
 -- ---- the same of a form, where `+` is a space
 
 pub plus_percent : (b : ℕ) → (plus_to_space b == 37) ≡ (b == 37)
-plus_percent b =
-    ⊎_elim
-    (λ (plus : b ≡ 43). subst (λ x. (plus_to_space x == 37) ≡ (x == 37)) (sym plus) refl)
-    (λ (other : b ≢ 43). ap (λ x. x == 37) (cond-false _ _ _ (ne_eqb b 43 other)))
-    (cases_eq b 43)
+plus_percent b = grind (arith, nat_tests)
 
 pub plus_digit : (b : ℕ) → is_digit (plus_to_space b) 16 ≡ is_digit b 16
-plus_digit b =
-    ⊎_elim
-    (λ (plus : b ≡ 43). subst (λ x. is_digit (plus_to_space x) 16 ≡ is_digit x 16) (sym plus) refl)
-    (λ (other : b ≢ 43). ap (λ x. is_digit x 16) (cond-false _ _ _ (ne_eqb b 43 other)))
-    (cases_eq b 43)
+plus_digit b = grind (arith, nat_tests)
 
 plus_closed : (bytes : List ℕ) → ends_in_escape (map plus_to_space bytes) ≡ ends_in_escape bytes
 plus_closed [] = refl
@@ -107,8 +90,7 @@ plus_closed (b ∷ c ∷ []) =
 plus_closed (b ∷ c ∷ d ∷ bytes) = plus_closed (c ∷ d ∷ bytes)
 
 pub form_joined : (xs ys : List ℕ) → ends_in_escape xs ≡ false → decode (xs ++ ys) ≡ decode xs ++ decode ys
-form_joined xs ys closed =
-    ap percent_decode (map-append plus_to_space xs ys) ∙ decode_joined (map plus_to_space xs) (map plus_to_space ys) (plus_closed xs ∙ closed)
+form_joined xs ys closed = grind (arith, nat_tests, map-append, decode_joined, map, plus_closed)
 
 form_of_text : (text ys : List ℕ) → All IsByte text → decode (component text ++ ys) ≡ text ++ decode ys
 form_of_text text ys bytes =
@@ -153,42 +135,24 @@ decoding_law decoding decodes parts texts bytes closed = decoded_on decoding dec
 -- ---- bytes that are decoded to themselves
 
 no_mark : (b : ℕ) (bytes : List ℕ) → list_any (λ x. x == 37) (b ∷ bytes) ≡ false → (b ≢ 37) × (list_any (λ x. x == 37) bytes ≡ false)
-no_mark b bytes none = (λ same. either (b == 37) none (eq-eqb b 37 same), later (b == 37) none)
-  where
-    either : (x : Bool) → (x || list_any (λ y. y == 37) bytes) ≡ false → x ≡ true → ⊥
-    either true none is = cc
-    either false none is = cc
-
-    later : (x : Bool) → (x || list_any (λ y. y == 37) bytes) ≡ false → list_any (λ y. y == 37) bytes ≡ false
-    later true none = cc
-    later false none = none
+no_mark b bytes none = grind (arith, nat_tests)
 
 percent_kept : (bytes : List ℕ) → list_any (λ b. b == 37) bytes ≡ false → percent_decode bytes ≡ bytes
 percent_kept [] none = percent_decode-nil
 percent_kept (b ∷ bytes) none = let both = no_mark b bytes none in percent_decode_not_percent b bytes both.0 ∙ ap (λ l. b ∷ l) (percent_kept bytes both.1)
 
 percent_is : (bytes : List ℕ) → percent_decode bytes ≡ percent_text bytes
-percent_is bytes =
-    ⊎_elim
-    (λ (some : list_any (λ b. b == 37) bytes ≡ true). rw some refl)
-    (λ (none : list_any (λ b. b == 37) bytes ≡ false). rw none (percent_kept bytes none))
-    (cases_Bool (list_any (λ b. b == 37) bytes))
+percent_is bytes = grind (arith, nat_tests, percent_kept)
 
 all_plain : (bytes : List ℕ) → list_any (λ b. b == 37 || b == 43) bytes ≡ false → All IsPlain bytes
 all_plain [] none = All-nil IsPlain
 all_plain (b ∷ bytes) none = by_tests (b == 37) (b == 43) refl refl none (all_plain bytes)
   where
     by_tests : (x y : Bool) → (b == 37) ≡ x → (b == 43) ≡ y → (x || y || list_any (λ c. c == 37 || c == 43) bytes) ≡ false → (list_any (λ c. c == 37 || c == 43) bytes ≡ false → All IsPlain bytes) → All IsPlain (b ∷ bytes)
-    by_tests true y percent plus none later = cc
-    by_tests false true percent plus none later = cc
-    by_tests false false percent plus none later = All-cons IsPlain b bytes ((λ same. both_ways _ plus (eq-eqb b 43 same)), (λ same. both_ways _ percent (eq-eqb b 37 same))) (later none)
+    by_tests x y percent plus none later = grind (arith, nat_tests)
 
 form_is : (bytes : List ℕ) → decode bytes ≡ form_text bytes
-form_is bytes =
-    ⊎_elim
-    (λ (some : list_any (λ b. b == 37 || b == 43) bytes ≡ true). rw some refl)
-    (λ (none : list_any (λ b. b == 37 || b == 43) bytes ≡ false). rw none (decode_plain bytes (all_plain bytes none)))
-    (cases_Bool (list_any (λ b. b == 37 || b == 43) bytes))
+form_is bytes = grind (arith, nat_tests, decode_plain, all_plain)
 
 -- THE SAME OF PERCENT-DECODING AND OF A FORM
 pub percent_law : (parts : List Given) (texts : List (List ℕ)) → AllBytes texts → ClosesEscapes parts → percent_decode (url_of parts texts) ≡ decoded_by percent_text parts texts

@@ -1,12 +1,13 @@
 -- A shape with texts, from the URL of its front and the bytes of its parts.
-use Rattle.std.proofs.Common.{◌≡◌, ℕ, List, [], ◌∷◌, ◌++◌, Option, Some, None, unwrap_or, option_map, sym, refl, ap, ◌∙◌, append-nil}
+use Rattle.std.proofs.Common.{◌≡◌, ℕ, List, [], ◌∷◌, ◌++◌, Option, Some, None, unwrap_or, option_map, sym, refl, ap, ◌∙◌, append-nil, arith}
+use Rattle.std.proofs.lemmas.Bool.Decides.{nat_tests}
 use Rattle.percent_encoding.specs.Percent.{percent_encode}
 use Rattle.url.specs.declared.sets.TheConstants.{FRAGMENT, PATH}
 use Rattle.url.specs.Parts.{Parts, kind_of, query_set}
 use Rattle.html_urls.specs.Shapes.{before_fragment_parts, encoded, filled, fragment_parts, from_slot, path_parts, query_parts, query_shape, shape_from, texts_after}
 use Rattle.html_urls.specs.Slots.{Given, Markup, url_of}
 use Rattle.html_urls.proofs.Shapes.Fills.{encode_filled, fragment_keeps, path_keeps, query_keeps, texts_encoded, texts_from_slot, texts_split}
-use Rattle.html_urls.proofs.Shapes.Tails.{query_or}
+use Rattle.html_urls.proofs.Tails.{query_or}
 
 -- the bytes of the query and of the fragment that the parts have
 abbrev pub query_bytes : List Given → List (List ℕ) → Option (List ℕ)
@@ -43,14 +44,8 @@ filled_is parts texts url =
     query_is (Some own) texts = ap Some (sym (encode_filled (query_set (kind_of url)) (query_keeps (kind_of url)) own texts))
     query_is None texts = its_own url.query texts
 
-    no_texts : (old : Option (List ℕ)) (texts : List (List ℕ)) → texts_after (unwrap_or (option_map (λ query. Markup query ∷ []) old) []) texts ≡ texts
-    no_texts (Some query) texts = refl
-    no_texts None texts = refl
-
     of_query : (own : Option (List Given)) (texts : List (List ℕ)) → texts_after (unwrap_or (query_shape url own) []) texts ≡ texts_after (unwrap_or own []) texts
-    of_query (Some own) texts = texts_encoded (query_set (kind_of url)) own texts
-    of_query None texts = no_texts url.query texts
+    of_query own texts = grind (arith, nat_tests, texts_encoded)
 
     fragment_is : (own : Option (List Given)) (texts : List (List ℕ)) → option_map (λ f. url_of f texts) (option_map (encoded FRAGMENT) own) ≡ option_map (percent_encode FRAGMENT) (option_map (λ f. url_of f texts) own)
-    fragment_is (Some own) texts = ap Some (sym (encode_filled FRAGMENT fragment_keeps own texts))
-    fragment_is None texts = refl
+    fragment_is own texts = grind (arith, nat_tests, encode_filled, fragment_keeps)

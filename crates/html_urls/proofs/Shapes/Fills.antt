@@ -1,5 +1,6 @@
 -- Parts are split and percent-encoded as the URL of any texts is.
-use Rattle.std.proofs.Common.{◌≡◌, ℕ, true, false, not, ◌==◌, List, [], ◌∷◌, ◌++◌, Option, Some, None, option_map, unwrap_or, is_some, sym, refl, ap, ◌∙◌, ⊎_elim, append-nil}
+use Rattle.std.proofs.Common.{◌≡◌, ℕ, true, false, not, ◌==◌, List, [], ◌∷◌, ◌++◌, Option, Some, None, option_map, unwrap_or, is_some, sym, refl, ap, ◌∙◌, append-nil, arith, inl, inr}
+use Rattle.std.proofs.lemmas.Bool.Decides.{nat_tests}
 use Rattle.std.proofs.lemmas.Bool.{cases_Bool}
 use Rattle.percent_encoding.specs.declared.ascii_set.AsciiSet.{AsciiSet}
 use Rattle.percent_encoding.specs.AsciiSet.{contains}
@@ -32,14 +33,25 @@ pub split_is : (mark : ℕ) (bytes : List ℕ) (parts : List Given) (halves : Ha
 unfolding split_once
 split_is mark [] parts halves = refl
 split_is mark (b ∷ bytes) parts halves =
-    ⊎_elim
-    (λ (here : (b == mark) ≡ true). rw here refl)
-    (λ (other : (b == mark) ≡ false). rw other (ap (onto_halves b) (split_is mark bytes parts halves) ∙ one_more (split_once mark bytes)))
-    (cases_Bool (b == mark))
+    elim (cases_Bool (b == mark)) [ inl here ↦ rw here refl | inr other ↦ rw other (ap (onto_halves b) (split_is mark bytes parts halves) ∙ one_more (split_once mark bytes)) ]
   where
     one_more : (split : List ℕ × Option (List ℕ)) → onto_halves b (split_by bytes split parts halves) ≡ split_by (b ∷ bytes) (b ∷ split.0, split.1) parts halves
-    one_more (before, Some after) = refl
-    one_more (before, None) = refl
+    one_more split = grind (arith, nat_tests)
+
+-- markup in which the mark stands, and in which it does not
+pub data MarkupSplit (mark : ℕ) (bytes : List ℕ) (parts : List Given) : Type 0 where
+  found : (before after : List ℕ) → (split_once mark bytes).1 ≡ Some after → split_parts mark (Markup bytes ∷ parts) ≡ (Markup before ∷ [], Some (Markup after ∷ parts)) → ((ys : List ℕ) → split_once mark (bytes ++ ys) ≡ (before, Some (after ++ ys))) → MarkupSplit mark bytes parts
+  clear : split_parts mark (Markup bytes ∷ parts) ≡ (Markup bytes ∷ (split_parts mark parts).0, (split_parts mark parts).1) → ((ys : List ℕ) → split_once mark (bytes ++ ys) ≡ (bytes ++ (split_once mark ys).0, (split_once mark ys).1)) → MarkupSplit mark bytes parts
+
+pub markup_split : (mark : ℕ) (bytes : List ℕ) (parts : List Given) → MarkupSplit mark bytes parts
+markup_split mark bytes parts = by_mark (split_once mark bytes).1 refl
+  where
+    halves_are : (o : Option (List ℕ)) → (split_once mark bytes).1 ≡ o → split_parts mark (Markup bytes ∷ parts) ≡ split_by bytes ((split_once mark bytes).0, o) parts (split_parts mark parts)
+    halves_are o is = split_is mark bytes parts (split_parts mark parts) ∙ ap (λ o. split_by bytes ((split_once mark bytes).0, o) parts (split_parts mark parts)) is
+
+    by_mark : (o : Option (List ℕ)) → (split_once mark bytes).1 ≡ o → MarkupSplit mark bytes parts
+    by_mark (Some after) is = found (split_once mark bytes).0 after is (halves_are (Some after) is) (λ ys. split_found mark bytes ys after is)
+    by_mark None is = clear (halves_are None is) (λ ys. split_whole mark bytes ys (ap is_some is))
 
 abbrev pub halves_of : Halves → List (List ℕ) → List ℕ × Option (List ℕ)
 halves_of halves texts = (url_of halves.0 texts, option_map (λ parts. url_of parts (texts_after halves.0 texts)) halves.1)
@@ -48,17 +60,10 @@ pub split_filled : (mark : ℕ) → is_component_byte mark ≡ false → (parts 
 unfolding split_once
 split_filled mark other [] texts = refl
 split_filled mark other (Markup bytes ∷ parts) texts =
-    in_markup (split_once mark bytes).1 refl (split_filled mark other parts texts) ∙ sym (ap (λ halves. halves_of halves texts) (split_is mark bytes parts (split_parts mark parts)))
-  where
-    in_markup : (o : Option (List ℕ)) → (split_once mark bytes).1 ≡ o → split_once mark (url_of parts texts) ≡ halves_of (split_parts mark parts) texts →
-        split_once mark (bytes ++ url_of parts texts) ≡ halves_of (split_by bytes (split_once mark bytes) parts (split_parts mark parts)) texts
-    in_markup (Some after) is later =
-        split_found mark bytes (url_of parts texts) after is
-        ∙ ap (λ before. (before, Some (after ++ url_of parts texts))) (sym (append-nil (split_once mark bytes).0))
-        ∙ sym (ap (λ o. halves_of (split_by bytes ((split_once mark bytes).0, o) parts (split_parts mark parts)) texts) is)
-    in_markup None is later =
-        split_whole mark bytes (url_of parts texts) (ap is_some is) ∙ ap (λ r. (bytes ++ r.0, r.1)) later
-        ∙ sym (ap (λ o. halves_of (split_by bytes ((split_once mark bytes).0, o) parts (split_parts mark parts)) texts) is)
+    elim (markup_split mark bytes parts) [
+      | found before after is halves whole ↦ rw (whole (url_of parts texts), halves) (ap (λ l. (l, Some (after ++ url_of parts texts))) (sym (append-nil before)))
+      | clear halves whole ↦ rw (whole (url_of parts texts), halves, split_filled mark other parts texts) refl
+    ]
 split_filled mark other (Slot ∷ parts) [] = split_filled mark other parts []
 split_filled mark other (Slot ∷ parts) (text ∷ texts) =
     split_clear mark (component text) (url_of parts texts) (component_without mark other text) ∙ ap (λ r. (component text ++ r.0, r.1)) (split_filled mark other parts texts)
@@ -108,13 +113,6 @@ texts_from_slot (Slot ∷ parts) texts = refl
 -- those behind the two halves are those behind the whole
 pub texts_split : (mark : ℕ) (parts : List Given) (texts : List (List ℕ)) → texts_after (unwrap_or (split_parts mark parts).1 []) (texts_after (split_parts mark parts).0 texts) ≡ texts_after parts texts
 texts_split mark [] texts = refl
-texts_split mark (Markup bytes ∷ parts) texts = ap both (split_is mark bytes parts (split_parts mark parts)) ∙ in_markup (split_once mark bytes).1 refl (texts_split mark parts texts)
-  where
-    both : Halves → List (List ℕ)
-    both halves = texts_after (unwrap_or halves.1 []) (texts_after halves.0 texts)
-
-    in_markup : (o : Option (List ℕ)) → (split_once mark bytes).1 ≡ o → both (split_parts mark parts) ≡ texts_after parts texts → both (split_by bytes (split_once mark bytes) parts (split_parts mark parts)) ≡ texts_after parts texts
-    in_markup (Some after) is later = ap (λ o. both (split_by bytes ((split_once mark bytes).0, o) parts (split_parts mark parts))) is
-    in_markup None is later = ap (λ o. both (split_by bytes ((split_once mark bytes).0, o) parts (split_parts mark parts))) is ∙ later
+texts_split mark (Markup bytes ∷ parts) texts = elim (markup_split mark bytes parts) [ found before after is halves whole ↦ rw halves refl | clear halves whole ↦ rw halves (texts_split mark parts texts) ]
 texts_split mark (Slot ∷ parts) [] = texts_split mark parts []
 texts_split mark (Slot ∷ parts) (text ∷ texts) = texts_split mark parts texts

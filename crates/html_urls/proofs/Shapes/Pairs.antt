@@ -1,5 +1,6 @@
 -- The pairs of a query of markup and slots.
-use Rattle.std.proofs.Common.{◌≡◌, ℕ, ◌<◌, List, [], ◌∷◌, length, map, filter, Option, Some, None, option_map, unwrap_or, All, sym, refl, ap, ◌∙◌, ⊎_elim, length-append, arith}
+use Rattle.std.proofs.Common.{◌≡◌, ℕ, ◌<◌, List, [], ◌∷◌, length, map, filter, Option, option_map, unwrap_or, All, sym, refl, ap, ◌∙◌, length-append, arith, inl, inr}
+use Rattle.std.proofs.lemmas.Bool.Decides.{nat_tests}
 use Rattle.std.proofs.lemmas.Bool.{cases_eq, cond-true, eq-eqb, lt-ltb, ne_eqb}
 use Rattle.std.proofs.lemmas.List.Elements.{All-head, All-tail}
 use Rattle.form_urlencoded.specs.Form.{decode, is_nonempty, parse, raw_pairs, split_pair}
@@ -27,17 +28,15 @@ unfolding split_once
 form_split mark [] = refl
 form_split mark (x ∷ xs) =
     let later = form_split mark xs in
-    ⊎_elim
-    (λ (here : x ≡ mark).
-    let same = eq-eqb x mark here in
-    let front = ap (λ m. (form.split_once m (x ∷ xs)).0) (sym here) ∙ split_once_before_same x xs in
-    let back = ap (λ m. (form.split_once m (x ∷ xs)).1) (sym here) ∙ split_once_after_same x xs in
-    (λ i. (front i, back i)) ∙ rw same refl)
-    (λ (other : ¬ (x ≡ mark)).
-    let front = split_once_before_other mark x xs other ∙ ap (λ l. x ∷ l) (ap (λ r. r.0) later) in
-    let back = split_once_after_other mark x xs other ∙ ap (λ r. r.1) later in
-    (λ i. (front i, back i)) ∙ rw (ne_eqb x mark other) refl)
-    (cases_eq x mark)
+    elim (cases_eq x mark) [
+      | inl here ↦ let same = eq-eqb x mark here in
+          let front = ap (λ m. (form.split_once m (x ∷ xs)).0) (sym here) ∙ split_once_before_same x xs in
+          let back = ap (λ m. (form.split_once m (x ∷ xs)).1) (sym here) ∙ split_once_after_same x xs in
+          (λ i. (front i, back i)) ∙ rw same refl
+      | inr other ↦ let front = split_once_before_other mark x xs other ∙ ap (λ l. x ∷ l) (ap (λ r. r.0) later) in
+          let back = split_once_after_other mark x xs other ∙ ap (λ r. r.1) later in
+          (λ i. (front i, back i)) ∙ rw (ne_eqb x mark other) refl
+    ]
 
 pub bytes_after : (parts : List Given) (texts : List (List ℕ)) → AllBytes texts → AllBytes (texts_after parts texts)
 bytes_after [] texts bytes = bytes
@@ -46,8 +45,7 @@ bytes_after (Slot ∷ parts) [] bytes = bytes_after parts [] bytes
 bytes_after (Slot ∷ parts) (text ∷ texts) bytes = bytes_after parts texts (All-tail (All IsByte) text texts bytes)
 
 or_nothing : (o : Option (List Given)) (texts : List (List ℕ)) → unwrap_or (option_map (λ parts. url_of parts texts) o) [] ≡ url_of (unwrap_or o []) texts
-or_nothing (Some parts) texts = refl
-or_nothing None texts = refl
+or_nothing o texts = grind (arith, nat_tests)
 
 pair_filled : (string : List Given) (texts : List (List ℕ)) → AllBytes texts → ClosesEscapes string → (decode (split_pair (url_of string texts)).0, decode (split_pair (url_of string texts)).1) ≡ pair_of string texts
 pair_filled string texts bytes closed =
@@ -83,9 +81,7 @@ pairs_filled (string ∷ more) texts bytes closed =
 
 raw_filled : (query : List Given) (texts : List (List ℕ)) → All HasMarkup (pieces 38 query) → raw_pairs (url_of query texts) ≡ map split_pair (filled_pieces (pieces 38 query) texts)
 unfolding raw_pairs
-raw_filled query texts has =
-    ap (λ l. map split_pair (filter is_nonempty l)) (pieces_law 38 refl query texts)
-    ∙ ap (map split_pair) (none_empty (pieces 38 query) texts has)
+raw_filled query texts has = grind (arith, nat_tests, map, filter, pieces_law, none_empty)
 
 -- THE PAIRS LAW
 pub pairs_law : (query : List Given) (texts : List (List ℕ)) → AllBytes texts → All HasMarkup (pieces 38 query) → All ClosesEscapes (pieces 38 query) → parse (url_of query texts) ≡ pairs_of (pieces 38 query) texts

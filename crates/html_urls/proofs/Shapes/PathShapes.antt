@@ -1,5 +1,6 @@
 -- The shape of parts whose first slot stands in the path.
-use Rattle.std.proofs.Common.{◌≡◌, ℕ, false, List, [], ◌∷◌, ◌++◌, Option, Some, None, Ok, Err, is_some, option_map, sym, refl, ap, ◌∙◌, append_assoc, append-nil}
+use Rattle.std.proofs.Common.{◌≡◌, ℕ, false, List, [], ◌∷◌, ◌++◌, Option, None, Ok, Err, is_some, option_map, sym, refl, ap, ◌∙◌, append_assoc, append-nil, arith}
+use Rattle.std.proofs.lemmas.Bool.Decides.{nat_tests}
 use Rattle.percent_encoding.specs.Percent.{percent_encode}
 use Rattle.percent_encoding.proofs.PercentLemmas.{percent_encode-append}
 use Rattle.url.specs.declared.sets.TheConstants.{FRAGMENT, PATH}
@@ -14,7 +15,7 @@ use Rattle.html_urls.specs.Hosts.{IsWebBase}
 use Rattle.html_urls.specs.Inputs.{kept_rest}
 use Rattle.html_urls.specs.Parts.Paths.{EndsInPath, path_after, path_goes_on}
 use Rattle.html_urls.specs.Parts.Rests.{fragment_of, path_of, query_of}
-use Rattle.html_urls.specs.Shapes.{before_fragment_parts, fill, from_slot, front_of, path_parts, shape_from, split_parts}
+use Rattle.html_urls.specs.Shapes.{before_fragment_parts, fill, from_slot, front_of, path_parts, shape_from}
 use Rattle.html_urls.specs.Slots.{Given, Slot, url_of}
 use Rattle.html_urls.proofs.Components.{component_without}
 use Rattle.html_urls.proofs.Splits.{kept_nothing, kept_visible, split_clear, split_whole}
@@ -23,7 +24,7 @@ use Rattle.html_urls.proofs.Shapes.Fills.{path_keeps, split_filled}
 use Rattle.html_urls.proofs.Shapes.Filling.{filled_is, fragment_bytes, grown, query_bytes}
 use Rattle.html_urls.proofs.Shapes.Fronts.{front_of_split, from_slot_split, url_of_front}
 use Rattle.html_urls.proofs.Shapes.PlainParts.{ArePlain, url_visible}
-use Rattle.html_urls.proofs.Shapes.Tails.{query_or}
+use Rattle.html_urls.proofs.Tails.{query_or}
 use Rattle.html_urls.proofs.Shapes.TailShapes.{HasThatShape, fragment_bytes_are, front_fragment, front_query, query_bytes_are}
 
 pub split_none : (mark : ℕ) (xs : List ℕ) → is_some (split_once mark xs).1 ≡ false → (split_once mark xs).0 ≡ xs
@@ -31,8 +32,7 @@ unfolding split_once
 split_none mark xs none = ap (λ l. (split_once mark l).0) (sym (append-nil xs)) ∙ ap (λ r. r.0) (split_whole mark xs [] none) ∙ append-nil xs
 
 query_or_none : (kind : SchemeType) (query : Option (List ℕ)) → query_or kind query None ≡ option_map (percent_encode (query_set kind)) query
-query_or_none kind (Some query) = refl
-query_or_none kind None = refl
+query_or_none kind query = grind (arith, nat_tests)
 
 -- the rest behind the first slot is kept and split as its parts are
 rest_split : (parts : List Given) (texts : List (List ℕ)) → ArePlain parts →
@@ -70,14 +70,7 @@ path_shape base parts later text texts web plain later_plain from no_fragment no
     no_mark = ap (λ l. is_some (split_once 63 l).1) (sym alone) ∙ no_query
 
     path_is : component text ++ path_after rest ≡ percent_encode PATH (url_of (from_slot (path_parts parts)) (text ∷ texts))
-    path_is =
-        let first = from_slot_split 35 parts no_fragment ∙ ap (λ l. (split_parts 35 l).0) from in
-        let second = from_slot_split 63 before (ap (λ l. is_some (split_once 63 l).1) (front_of_split 35 parts) ∙ no_query) ∙ ap (λ l. (split_parts 63 l).0) first in
-        sym
-        (ap (λ l. percent_encode PATH (url_of l (text ∷ texts))) second
-        ∙ ap (λ l. percent_encode PATH (component text ++ l)) (sym (rest_split later texts later_plain).0)
-        ∙ percent_encode-append PATH (component text) (path_of rest)
-        ∙ ap (λ l. l ++ path_after rest) (path_keeps text))
+    path_is = grind (arith, nat_tests, from_slot_split, is_some, front_of_split, rest_split, percent_encode-append, path_keeps)
 
     fragment_is : fragment_bytes parts (text ∷ texts) ≡ fragment_of rest
     fragment_is =

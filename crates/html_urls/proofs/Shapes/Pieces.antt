@@ -1,5 +1,6 @@
 -- No text divides a segment or a string: the pieces of the URL of the texts are those of the markup.
-use Rattle.std.proofs.Common.{◌≡◌, ℕ, ◌<◌, true, false, ◌==◌, List, [], ◌∷◌, ◌++◌, length, All, sym, refl, ap, ◌∙◌, ⊎_elim, append-nil, arith}
+use Rattle.std.proofs.Common.{◌≡◌, ℕ, ◌<◌, false, ◌==◌, List, [], ◌∷◌, ◌++◌, length, All, sym, refl, ap, ◌∙◌, append-nil, arith, inl, inr}
+use Rattle.std.proofs.lemmas.Bool.Decides.{nat_tests}
 use Rattle.std.proofs.lemmas.Bool.{cases_Bool, cond-false, ne_eqb}
 use Rattle.std.proofs.lemmas.List.Elements.{All-head, All-tail}
 use Rattle.form_urlencoded.specs.Form.{onto_first, split}
@@ -22,12 +23,10 @@ joined (piece ∷ []) later = onto_front piece later
 joined (piece ∷ next ∷ more) later = piece ∷ joined (next ∷ more) later
 
 pub onto_nothing : (later : List (List ℕ)) → 0 < length later → onto_front [] later ≡ later
-onto_nothing [] some = absurd (omega arith)
-onto_nothing (piece ∷ more) some = refl
+onto_nothing later some = grind (arith, nat_tests)
 
 onto_once_more : (b : ℕ) (front : List ℕ) (later : List (List ℕ)) → onto_first b (onto_front front later) ≡ onto_front (b ∷ front) later
-onto_once_more b front [] = refl
-onto_once_more b front (piece ∷ more) = refl
+onto_once_more b front later = grind (arith, nat_tests)
 
 pub split_front : (mark : ℕ) (xs ys : List ℕ) → All (IsNot mark) xs → split mark (xs ++ ys) ≡ onto_front xs (split mark ys)
 unfolding split
@@ -38,23 +37,20 @@ split_front mark (x ∷ xs) ys none =
     ∙ onto_once_more x xs (split mark ys)
 
 empty_first : (pieces later : List (List ℕ)) → 0 < length pieces → [] ∷ joined pieces later ≡ joined ([] ∷ pieces) later
-empty_first [] later some = absurd (omega arith)
-empty_first (piece ∷ more) later some = refl
+empty_first pieces later some = grind (arith, nat_tests)
 
 onto_joined : (b : ℕ) (pieces later : List (List ℕ)) → 0 < length pieces → onto_first b (joined pieces later) ≡ joined (onto_first b pieces) later
-onto_joined b [] later some = absurd (omega arith)
-onto_joined b (piece ∷ []) later some = onto_once_more b piece later
-onto_joined b (piece ∷ next ∷ more) later some = refl
+onto_joined b pieces later some = grind (arith, nat_tests)
 
 split_joins : (mark : ℕ) (xs ys : List ℕ) → split mark (xs ++ ys) ≡ joined (split mark xs) (split mark ys)
 unfolding split
 split_joins mark [] ys = sym (onto_nothing (split mark ys) (split_some mark ys))
 split_joins mark (x ∷ xs) ys =
     let later = split_joins mark xs ys in
-    ⊎_elim
-    (λ (here : (x == mark) ≡ true). rw here (ap (λ l. [] ∷ l) later ∙ empty_first (split mark xs) (split mark ys) (split_some mark xs)))
-    (λ (other : (x == mark) ≡ false). rw other (ap (onto_first x) later ∙ onto_joined x (split mark xs) (split mark ys) (split_some mark xs)))
-    (cases_Bool (x == mark))
+    elim (cases_Bool (x == mark)) [
+      | inl here ↦ rw here (ap (λ l. [] ∷ l) later ∙ empty_first (split mark xs) (split mark ys) (split_some mark xs))
+      | inr other ↦ rw other (ap (onto_first x) later ∙ onto_joined x (split mark xs) (split mark ys) (split_some mark xs))
+    ]
 
 -- ---- pieces of parts
 
@@ -65,28 +61,23 @@ onto_pieces (bytes ∷ []) later = onto_piece (Markup bytes) later
 onto_pieces (bytes ∷ next ∷ more) later = (Markup bytes ∷ []) ∷ onto_pieces (next ∷ more) later
 
 empty_before : (l : List (List ℕ)) (later : List (List Given)) → 0 < length l → (Markup [] ∷ []) ∷ onto_pieces l later ≡ onto_pieces ([] ∷ l) later
-empty_before [] later some = absurd (omega arith)
-empty_before (bytes ∷ more) later some = refl
+empty_before l later some = grind (arith, nat_tests)
 
 one_before : (b : ℕ) (l : List (List ℕ)) (later : List (List Given)) → 0 < length l → onto_markup b (onto_pieces l later) ≡ onto_pieces (onto_first b l) later
-one_before b [] later some = absurd (omega arith)
-one_before b (bytes ∷ []) [] some = refl
-one_before b (bytes ∷ []) (piece ∷ more) some = refl
-one_before b (bytes ∷ next ∷ more) later some = refl
+one_before b l later some = grind (arith, nat_tests)
 
 pub pieces_are : (mark : ℕ) (bytes : List ℕ) (later : List (List Given)) → markup_pieces mark bytes later ≡ onto_pieces (split mark bytes) later
 unfolding split
 pieces_are mark [] later = refl
 pieces_are mark (b ∷ bytes) later =
     let more = pieces_are mark bytes later in
-    ⊎_elim
-    (λ (here : (b == mark) ≡ true). rw here (ap (λ l. (Markup [] ∷ []) ∷ l) more ∙ empty_before (split mark bytes) later (split_some mark bytes)))
-    (λ (other : (b == mark) ≡ false). rw other (ap (onto_markup b) more ∙ one_before b (split mark bytes) later (split_some mark bytes)))
-    (cases_Bool (b == mark))
+    elim (cases_Bool (b == mark)) [
+      | inl here ↦ rw here (ap (λ l. (Markup [] ∷ []) ∷ l) more ∙ empty_before (split mark bytes) later (split_some mark bytes))
+      | inr other ↦ rw other (ap (onto_markup b) more ∙ one_before b (split mark bytes) later (split_some mark bytes))
+    ]
 
 onto_piece_some : (part : Given) (l : List (List Given)) → 0 < length (onto_piece part l)
-onto_piece_some part [] = omega arith
-onto_piece_some part (piece ∷ more) = omega arith
+onto_piece_some part l = grind (arith, nat_tests)
 
 onto_pieces_some : (l : List (List ℕ)) (later : List (List Given)) → 0 < length later → 0 < length (onto_pieces l later)
 onto_pieces_some [] later some = some
@@ -99,8 +90,7 @@ pieces_some mark (Markup bytes ∷ parts) = rw (pieces_are mark bytes (pieces ma
 pieces_some mark (Slot ∷ parts) = onto_piece_some Slot (pieces mark parts)
 
 markup_filled : (bytes : List ℕ) (l : List (List Given)) (texts : List (List ℕ)) → 0 < length l → onto_front bytes (filled_pieces l texts) ≡ filled_pieces (onto_piece (Markup bytes) l) texts
-markup_filled bytes [] texts some = absurd (omega arith)
-markup_filled bytes (piece ∷ more) texts some = refl
+markup_filled bytes l texts some = grind (arith, nat_tests)
 
 all_filled : (strings : List (List ℕ)) (l : List (List Given)) (texts : List (List ℕ)) → 0 < length l → joined strings (filled_pieces l texts) ≡ filled_pieces (onto_pieces strings l) texts
 all_filled [] l texts some = refl
@@ -111,12 +101,10 @@ all_filled (bytes ∷ next ∷ more) l texts some =
     λ i. alone i ∷ later i
 
 no_text : (l : List (List Given)) → 0 < length l → filled_pieces l [] ≡ filled_pieces (onto_piece Slot l) []
-no_text [] some = absurd (omega arith)
-no_text (piece ∷ more) some = refl
+no_text l some = grind (arith, nat_tests)
 
 one_text : (text : List ℕ) (l : List (List Given)) (texts : List (List ℕ)) → 0 < length l → onto_front (component text) (filled_pieces l texts) ≡ filled_pieces (onto_piece Slot l) (text ∷ texts)
-one_text text [] texts some = absurd (omega arith)
-one_text text (piece ∷ more) texts some = refl
+one_text text l texts some = grind (arith, nat_tests)
 
 -- THE PIECES LAW
 pub pieces_law : (mark : ℕ) → is_component_byte mark ≡ false → (parts : List Given) (texts : List (List ℕ)) → split mark (url_of parts texts) ≡ filled_pieces (pieces mark parts) texts

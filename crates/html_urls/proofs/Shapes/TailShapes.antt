@@ -1,6 +1,6 @@
 -- The shape of parts that have no slot in their path.
-use Rattle.std.proofs.Common.{◌≡◌, ℕ, true, List, [], ◌++◌, Option, Ok, Err, is_some, All, sym, refl, ap, ◌∙◌, append-nil}
-use Rattle.std.proofs.lemmas.Bool.{both_ways}
+use Rattle.std.proofs.Common.{◌≡◌, ℕ, true, List, [], ◌++◌, Option, Ok, Err, is_some, All, sym, refl, ap, ◌∙◌, append-nil, arith}
+use Rattle.std.proofs.lemmas.Bool.Decides.{nat_tests}
 use Rattle.percent_encoding.specs.Percent.{percent_encode}
 use Rattle.percent_encoding.proofs.PercentLemmas.{percent_encode-nil}
 use Rattle.url.specs.declared.sets.TheConstants.{PATH}
@@ -17,7 +17,7 @@ use Rattle.html_urls.proofs.Shapes.Fills.{split_filled}
 use Rattle.html_urls.proofs.Shapes.Filling.{filled_is, fragment_bytes, query_bytes}
 use Rattle.html_urls.proofs.Shapes.Fronts.{front_of_split, no_slot_before, no_slot_still, url_of_front}
 use Rattle.html_urls.proofs.Shapes.PlainParts.{ArePlain, front_plain, url_visible}
-use Rattle.html_urls.proofs.Shapes.Tails.{SameTails, other_tails, with_tails}
+use Rattle.html_urls.proofs.Tails.{SameTails, other_tails, with_tails}
 
 abbrev pub HasThatShape : Option Parts → List Given → List (List ℕ) → Type 0
 HasThatShape base parts texts = parse_url base (url_of parts texts) ≡ fill (shape_of base parts) texts
@@ -92,24 +92,13 @@ fragment_bytes_are parts texts = ap (λ r. r.1) (sym (split_filled 35 refl parts
 
 -- the front's query is the whole's, where no slot stands before the fragment
 same_query : (parts : List Given) (texts : List (List ℕ)) → from_slot (before_fragment_parts parts) ≡ [] → query_bytes parts texts ≡ front_query parts
-same_query parts texts none =
-    query_bytes_are parts texts ∙ ap (λ l. (split_once 63 l).1) (without_slot (before_fragment_parts parts) texts none ∙ front_before parts)
+same_query parts texts none = grind (arith, nat_tests, query_bytes_are, without_slot, front_before)
 
 pub fragment_shape : (base : Option Parts) (parts : List Given) (texts : List (List ℕ)) → ArePlain parts → is_some (front_fragment parts) ≡ true → HasThatShape base parts texts
-fragment_shape base parts texts plain found =
-    let none = no_slot_before 35 parts found in
-    tail_shape base parts texts plain (no_slot_still 63 (before_fragment_parts parts) none)
-    (ap is_some (sym (same_query parts texts none)), λ _. found ∙ sym (ap is_some (fragment_bytes_are parts texts) ∙ found_in_whole 35 parts texts found))
+fragment_shape base parts texts plain found = grind (arith, nat_tests, no_slot_before, tail_shape, no_slot_still, is_some, same_query, fragment_bytes_are, found_in_whole)
 
 pub query_shapes : (base : Option Parts) (parts : List Given) (texts : List (List ℕ)) → ArePlain parts → is_some (front_query parts) ≡ true → HasThatShape base parts texts
-query_shapes base parts texts plain found =
-    let before = before_fragment_parts parts in
-    let own = ap (λ l. is_some (split_once 63 l).1) (front_before parts) ∙ found in
-    let whole = ap is_some (query_bytes_are parts texts) ∙ found_in_whole 63 before texts own in
-    tail_shape base parts texts plain (no_slot_before 63 before own) (found ∙ sym whole, λ none. absurd (both_ways _ none found))
+query_shapes base parts texts plain found = grind (arith, nat_tests, is_some, front_before, query_bytes_are, found_in_whole, tail_shape, no_slot_before)
 
 pub markup_shape : (base : Option Parts) (parts : List Given) (texts : List (List ℕ)) → ArePlain parts → from_slot parts ≡ [] → HasThatShape base parts texts
-markup_shape base parts texts plain none =
-    let before = no_slot_still 35 parts none in
-    tail_shape base parts texts plain (no_slot_still 63 (before_fragment_parts parts) before)
-    (ap is_some (sym (same_query parts texts before)), λ _. ap is_some (sym (fragment_bytes_are parts texts ∙ ap (λ l. (split_once 35 l).1) (without_slot parts texts none))))
+markup_shape base parts texts plain none = grind (arith, nat_tests, no_slot_still, tail_shape, is_some, same_query, fragment_bytes_are, without_slot)

@@ -1,7 +1,7 @@
 -- Percent-encoded bytes are decoded as the bytes, where the set escapes no byte of an escape and no `+`.
-use Rattle.std.proofs.Common.{◌≡◌, ◌≢◌, ℕ, ◌+◌, ◌*◌, ◌<◌, Bool, true, false, ◌||◌, ◌==◌, List, [], ◌∷◌, ◌++◌, map, All, sym, refl, ap, ◌∙◌, subst, ⊎_elim, arith}
+use Rattle.std.proofs.Common.{◌≡◌, ◌≢◌, ℕ, ◌+◌, ◌*◌, ◌<◌, Bool, true, false, ◌||◌, ◌==◌, List, [], ◌∷◌, ◌++◌, map, All, sym, refl, ap, ◌∙◌, arith, inl, inr}
 use Rattle.std.specs.Char.{digit_value, is_digit}
-use Rattle.std.proofs.lemmas.Bool.{both_ways, cases_Bool, cases_eq, cond-false, cond-true, eq-eqb, ne_eqb}
+use Rattle.std.proofs.lemmas.Bool.{cases_Bool, cond-false}
 use Rattle.std.proofs.lemmas.Bool.Decides.{nat_tests}
 use Rattle.std.proofs.lemmas.List.{map-append}
 use Rattle.std.proofs.lemmas.List.Elements.{All-head, All-tail, All-weaker}
@@ -37,8 +37,7 @@ pub record DecodesFirst (decoding : List ℕ → List ℕ) (image : ℕ → ℕ)
   pub other_image : (b : ℕ) → b ≢ 43 → image b ≡ b
 
 half_escape : (high low : ℕ) → is_digit low 16 ≡ false → is_escape 37 high low ≡ false
-half_escape high low other =
-    ⊎_elim (λ (yes : is_digit high 16 ≡ true). rw (yes, other) refl) (λ (no : is_digit high 16 ≡ false). rw no refl) (cases_Bool (is_digit high 16))
+half_escape high low other = grind (arith, nat_tests)
 
 percent_half : (c d : ℕ) (ys : List ℕ) → is_digit d 16 ≡ false → percent_decode (37 ∷ c ∷ d ∷ ys) ≡ 37 ∷ percent_decode (c ∷ d ∷ ys)
 unfolding percent_decode
@@ -46,19 +45,10 @@ percent_half c d ys other = cond-false _ _ _ (half_escape c d other)
 
 percent_whole : (c d : ℕ) (ys : List ℕ) → is_digit c 16 ≡ true → is_digit d 16 ≡ true → percent_decode (37 ∷ c ∷ d ∷ ys) ≡ (16 * digit_value c + digit_value d) ∷ percent_decode ys
 unfolding percent_decode
-percent_whole c d ys high low =
-    let whole : is_escape 37 c d ≡ true = rw (high, low) refl in
-    cond-true _ _ _ whole
+percent_whole c d ys high low = grind (arith, nat_tests)
 
 pub percent_first : DecodesFirst percent_decode (λ b. b)
-percent_first = record {
-  kept_first = percent_decode_not_percent;
-  kept_before = kept_percent;
-  kept_half = percent_half;
-  whole_escape = percent_whole;
-  escaped_byte = percent_decode-percent_encode_byte;
-  other_image = λ b other. refl;
-}
+percent_first = grind (arith, nat_tests, percent_decode_not_percent, kept_percent, percent_half, percent_whole, percent_decode-percent_encode_byte)
 
 escape_no_plus : (b : ℕ) → IsEscapeByte b → b ≢ 43
 escape_no_plus b escape same = grind (arith, nat_tests)
@@ -70,47 +60,22 @@ form_escaped b ys small =
     ∙ percent_decode-percent_encode_byte b (map plus_to_space ys) small
 
 pub form_first : DecodesFirst decode plus_to_space
-form_first = record {
-  kept_first = λ b ys other. percent_decode_not_percent (plus_to_space b) (map plus_to_space ys) (λ same. both_ways _ (plus_percent b ∙ ne_eqb b 37 other) (eq-eqb (plus_to_space b) 37 same));
-  kept_before = λ c ys other. kept_percent (plus_to_space c) (map plus_to_space ys) (plus_digit c ∙ other);
-  kept_half = λ c d ys other. percent_half (plus_to_space c) (plus_to_space d) (map plus_to_space ys) (plus_digit d ∙ other);
-  whole_escape = λ c d ys high low. percent_whole (plus_to_space c) (plus_to_space d) (map plus_to_space ys) (plus_digit c ∙ high) (plus_digit d ∙ low);
-  escaped_byte = form_escaped;
-  other_image = λ b other. cond-false _ _ _ (ne_eqb b 43 other);
-}
+form_first = grind (arith, nat_tests, percent_decode_not_percent, map, plus_percent, kept_percent, plus_digit, percent_half, percent_whole, form_escaped)
 
 -- ---- the same of what is encoded
 
 module _ (decoding : List ℕ → List ℕ) (image : ℕ → ℕ) (first : DecodesFirst decoding image) (set : AsciiSet) (keeps : KeepsForm set) where
   kept_digit : (b : ℕ) → is_digit b 16 ≡ true → should_percent_encode set b ≡ false
-  kept_digit b digit = keeps b (last (b == 38) (b == 61) (b == 43) (b == 37) (is_digit b 16) digit)
-    where
-      last : (v w x y z : Bool) → z ≡ true → (v || w || x || y || z) ≡ true
-      last true w x y z is = refl
-      last false true x y z is = refl
-      last false false true y z is = refl
-      last false false false true z is = refl
-      last false false false false z is = is
+  kept_digit b digit = grind (arith, nat_tests)
 
   -- another byte than a digit becomes bytes of which the first is none
   no_digit : (d : ℕ) (rest : List ℕ) → is_digit d 16 ≡ false → (e : ℕ) × (more : List ℕ) × (percent_encode set (d ∷ rest) ≡ e ∷ more) × (is_digit e 16 ≡ false)
   unfolding percent_encode_byte
   no_digit d rest other =
-      ⊎_elim
-      (λ (escaped : should_percent_encode set d ≡ true). (37, _, percent_encode_escaped set d rest escaped, refl))
-      (λ (kept : should_percent_encode set d ≡ false). (d, percent_encode set rest, percent_encode_kept set d rest kept, other))
-      (cases_Bool (should_percent_encode set d))
+      elim (cases_Bool (should_percent_encode set d)) [ inl escaped ↦ (37, _, percent_encode_escaped set d rest escaped, refl) | inr kept ↦ (d, percent_encode set rest, percent_encode_kept set d rest kept, other) ]
 
   not_percent : (b : ℕ) (rest : List ℕ) → b ≢ 37 → b < 256 → decoding (percent_encode set rest) ≡ decoding rest → decoding (percent_encode set (b ∷ rest)) ≡ decoding (b ∷ rest)
-  not_percent b rest other small later =
-      ⊎_elim
-      (λ (escaped : should_percent_encode set b ≡ true).
-      let no_plus : b ≢ 43 = λ same. both_ways _ (ap (should_percent_encode set) same ∙ keeps 43 refl) escaped in
-      ap decoding (percent_encode_escaped set b rest escaped) ∙ first.escaped_byte b (percent_encode set rest) small ∙ ap (λ l. b ∷ l) later
-      ∙ sym (first.kept_first b rest other ∙ ap (λ x. x ∷ decoding rest) (first.other_image b no_plus)))
-      (λ (kept : should_percent_encode set b ≡ false).
-      ap decoding (percent_encode_kept set b rest kept) ∙ first.kept_first b (percent_encode set rest) other ∙ ap (λ l. image b ∷ l) later ∙ sym (first.kept_first b rest other))
-      (cases_Bool (should_percent_encode set b))
+  not_percent b rest other small later = grind (arith, nat_tests, percent_encode_escaped, percent_encode_kept)
 
   after_percent : (c : ℕ) (rest : List ℕ) → is_digit c 16 ≡ false → decoding (percent_encode set (c ∷ rest)) ≡ decoding (c ∷ rest) → decoding (percent_encode set (37 ∷ c ∷ rest)) ≡ decoding (37 ∷ c ∷ rest)
   after_percent c rest other later =
@@ -126,22 +91,14 @@ module _ (decoding : List ℕ → List ℕ) (image : ℕ → ℕ) (first : Decod
       ∙ ap (λ l. 37 ∷ decoding l) (sym kept) ∙ ap (λ l. 37 ∷ l) later ∙ sym (first.kept_half c d rest other)
 
   both_digits : (c d : ℕ) (rest : List ℕ) → is_digit c 16 ≡ true → is_digit d 16 ≡ true → decoding (percent_encode set rest) ≡ decoding rest → decoding (percent_encode set (37 ∷ c ∷ d ∷ rest)) ≡ decoding (37 ∷ c ∷ d ∷ rest)
-  both_digits c d rest high low later =
-      let kept = percent_encode_kept set c (d ∷ rest) (kept_digit c high) ∙ ap (λ l. c ∷ l) (percent_encode_kept set d rest (kept_digit d low)) in
-      ap decoding (percent_encode_kept set 37 (c ∷ d ∷ rest) (keeps 37 refl) ∙ ap (λ l. 37 ∷ l) kept) ∙ first.whole_escape c d (percent_encode set rest) high low
-      ∙ ap (λ l. (16 * digit_value (image c) + digit_value (image d)) ∷ l) later ∙ sym (first.whole_escape c d rest high low)
+  both_digits c d rest high low later = grind (arith, nat_tests, percent_encode_kept, kept_digit)
 
   lone_digit : (c : ℕ) → is_digit c 16 ≡ true → decoding (percent_encode set (37 ∷ c ∷ [])) ≡ decoding (37 ∷ c ∷ [])
-  lone_digit c digit =
-      ap decoding (percent_encode_kept set 37 (c ∷ []) (keeps 37 refl) ∙ ap (λ l. 37 ∷ l) (percent_encode_kept set c [] (kept_digit c digit) ∙ ap (λ l. c ∷ l) (percent_encode-nil set)))
+  lone_digit c digit = grind (arith, nat_tests, percent_encode_kept, kept_digit, percent_encode-nil)
 
   -- whether the first byte is `%`
   by_first : (b : ℕ) (rest : List ℕ) → b < 256 → decoding (percent_encode set rest) ≡ decoding rest → (decoding (percent_encode set (37 ∷ rest)) ≡ decoding (37 ∷ rest)) → decoding (percent_encode set (b ∷ rest)) ≡ decoding (b ∷ rest)
-  by_first b rest small later percent =
-      ⊎_elim
-      (λ (same : b ≡ 37). subst (λ x. decoding (percent_encode set (x ∷ rest)) ≡ decoding (x ∷ rest)) (sym same) percent)
-      (λ (other : b ≢ 37). not_percent b rest other small later)
-      (cases_eq b 37)
+  by_first b rest small later percent = grind (arith, nat_tests, not_percent)
 
   pub decoded_still : (bytes : List ℕ) → All IsByte bytes → decoding (percent_encode set bytes) ≡ decoding bytes
   decoded_still [] small = ap decoding (percent_encode-nil set)
@@ -151,14 +108,10 @@ module _ (decoding : List ℕ → List ℕ) (image : ℕ → ℕ) (first : Decod
   decoded_still (b ∷ c ∷ []) small =
       let later = decoded_still (c ∷ []) (All-tail IsByte b (c ∷ []) small) in
       by_first b (c ∷ []) (All-head IsByte b (c ∷ []) small) later
-      (⊎_elim (λ (yes : is_digit c 16 ≡ true). lone_digit c yes) (λ (no : is_digit c 16 ≡ false). after_percent c [] no later) (cases_Bool (is_digit c 16)))
+      (elim (cases_Bool (is_digit c 16)) [ inl digit ↦ lone_digit c digit | inr other ↦ after_percent c [] other later ])
   decoded_still (b ∷ c ∷ d ∷ rest) small =
       let tail = All-tail IsByte b (c ∷ d ∷ rest) small in
       let later = decoded_still (c ∷ d ∷ rest) tail in
       let last = decoded_still rest (All-tail IsByte d rest (All-tail IsByte c (d ∷ rest) tail)) in
       by_first b (c ∷ d ∷ rest) (All-head IsByte b (c ∷ d ∷ rest) small) later
-      (⊎_elim
-      (λ (high : is_digit c 16 ≡ true).
-      ⊎_elim (λ (low : is_digit d 16 ≡ true). both_digits c d rest high low last) (λ (no : is_digit d 16 ≡ false). after_digit c d rest high no later) (cases_Bool (is_digit d 16)))
-      (λ (no : is_digit c 16 ≡ false). after_percent c (d ∷ rest) no later)
-      (cases_Bool (is_digit c 16)))
+      (elim (cases_Bool (is_digit c 16)) [ inl high ↦ elim (cases_Bool (is_digit d 16)) [ inl low ↦ both_digits c d rest high low last | inr other ↦ after_digit c d rest high other later ] | inr other ↦ after_percent c (d ∷ rest) other later ])

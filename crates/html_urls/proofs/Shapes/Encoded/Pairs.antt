@@ -1,5 +1,5 @@
 -- A query has the same pairs percent-encoded as the parser does.
-use Rattle.std.proofs.Common.{◌≡◌, ◌≢◌, ℕ, true, false, List, [], ◌∷◌, map, filter, Option, Some, None, option_map, unwrap_or, All, sym, refl, ap, ◌∙◌, ⊎_elim, arith}
+use Rattle.std.proofs.Common.{◌≡◌, ◌≢◌, ℕ, List, [], ◌∷◌, map, filter, Option, option_map, unwrap_or, All, sym, refl, ap, ◌∙◌, arith, inl, inr}
 use Rattle.std.proofs.lemmas.Bool.{cases_Bool, lt-ltb}
 use Rattle.std.proofs.lemmas.Bool.Decides.{nat_tests}
 use Rattle.std.proofs.lemmas.List.Elements.{All-head, All-tail}
@@ -38,8 +38,7 @@ abbrev decoded : Pair → Pair
 decoded pair = (decode pair.0, decode pair.1)
 
 value_encoded : (set : AsciiSet) → KeepsForm set → (value : Option (List ℕ)) → All IsByte (unwrap_or value []) → decode (unwrap_or (option_map (percent_encode set) value) []) ≡ decode (unwrap_or value [])
-value_encoded set keeps (Some value) bytes = decoded_still decode plus_to_space form_first set keeps value bytes
-value_encoded set keeps None bytes = refl
+value_encoded set keeps value bytes = grind (arith, nat_tests, decoded_still, form_first)
 
 pair_encoded : (set : AsciiSet) → KeepsForm set → (string : List ℕ) → All IsByte string → decoded (split_pair (percent_encode set string)) ≡ decoded (split_pair string)
 pair_encoded set keeps string bytes =
@@ -56,10 +55,7 @@ pairs_encoded set keeps [] bytes = refl
 pairs_encoded set keeps (string ∷ more) bytes =
     let first = pair_encoded set keeps string (All-head (All IsByte) string more bytes) in
     let later = pairs_encoded set keeps more (All-tail (All IsByte) string more bytes) in
-    ⊎_elim
-    (λ (some : is_nonempty string ≡ true). rw (some_encoded set string ∙ some, some) (λ i. first i ∷ later i))
-    (λ (none : is_nonempty string ≡ false). rw (some_encoded set string ∙ none, none) later)
-    (cases_Bool (is_nonempty string))
+    elim (cases_Bool (is_nonempty string)) [ inl some ↦ rw (some_encoded set string ∙ some, some) (λ i. first i ∷ later i) | inr none ↦ rw (some_encoded set string ∙ none, none) later ]
 
 pub parse_encoded : (set : AsciiSet) → KeepsForm set → (bytes : List ℕ) → All IsByte bytes → parse (percent_encode set bytes) ≡ parse bytes
 unfolding raw_pairs

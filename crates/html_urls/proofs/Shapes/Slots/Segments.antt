@@ -1,5 +1,5 @@
 -- The segments of a URL whose first slot stands in the path.
-use Rattle.std.proofs.Common.{◌≡◌, ◌≢◌, ℕ, true, false, ◌==◌, List, [], ◌∷◌, ◌++◌, map, Option, Ok, Err, IfOk, All, sym, refl, ap, ◌∙◌, subst, ⊎_elim, append_assoc, append-nil, arith}
+use Rattle.std.proofs.Common.{◌≡◌, ◌≢◌, ℕ, true, ◌==◌, List, [], ◌∷◌, ◌++◌, map, Option, Ok, Err, IfOk, All, sym, refl, ap, ◌∙◌, subst, append_assoc, append-nil, arith, inl, inr}
 use Rattle.std.proofs.lemmas.Bool.{cases_Bool, cases_eq, cond-false, cond-true, eq-eqb, ne_eqb}
 use Rattle.std.proofs.lemmas.Bool.Decides.{nat_tests}
 use Rattle.std.proofs.lemmas.List.{map-append}
@@ -23,7 +23,7 @@ use Rattle.html_urls.specs.declared.parts.UrlSlot.{UrlSlot}
 use Rattle.html_urls.specs.declared.place.UrlPlace.{UrlPlace}
 use Rattle.html_urls.specs.declared.place.UrlPlace.TheVariants as place
 use Rattle.html_urls.proofs.Bytes.{AllBytes, IsOfBytes}
-use Rattle.html_urls.proofs.Filled.FirstSlot.{front_stands, kept_front, plain_visible}
+use Rattle.html_urls.proofs.Filled.FirstSlot.{place_at, slot_place, front_stands, kept_front, plain_visible}
 use Rattle.html_urls.proofs.OpenEscapes.{ClosesEscapes}
 use Rattle.html_urls.proofs.Paths.Opening.{all_left, all_right}
 use Rattle.html_urls.proofs.Paths.PathLaw.{front_path}
@@ -37,10 +37,9 @@ use Rattle.html_urls.proofs.Shapes.Filling.{filled_is}
 use Rattle.html_urls.proofs.Shapes.Fronts.{url_of_front}
 use Rattle.html_urls.proofs.Shapes.Pairs.{bytes_after}
 use Rattle.html_urls.proofs.Shapes.Pieces.{pieces_law}
-use Rattle.html_urls.proofs.Shapes.PlainParts.{first_plain, found_slot, front_plain, plain_bytes_only, plain_closes}
-use Rattle.html_urls.proofs.Shapes.ShapeLaw.{Reached, filled_plain, reached, shape_law}
-use Rattle.html_urls.proofs.Shapes.Slots.Scheme.{no_slots}
-use Rattle.html_urls.proofs.Shapes.UrlPairs.{filled_bytes, path_bytes, where_ok}
+use Rattle.html_urls.proofs.Shapes.PlainParts.{first_plain, front_plain, plain_bytes_only, plain_closes}
+use Rattle.html_urls.proofs.Shapes.ShapeLaw.{filled_plain, reached, shape_law}
+use Rattle.html_urls.proofs.Shapes.Slots.UrlPairs.{filled_bytes, path_bytes, where_ok}
 
 no_slash : (b : ℕ) → IsEscapeByte b → b ≢ 47
 no_slash b escape same = grind (arith, nat_tests)
@@ -49,17 +48,14 @@ no_slash b escape same = grind (arith, nat_tests)
 behind_is : (so_far bytes : List ℕ) → All (IsNot 47) so_far → behind_slash so_far bytes ≡ last_segment (so_far ++ bytes)
 behind_is so_far [] none = sym (last_of_whole so_far none) ∙ ap last_segment (sym (append-nil so_far))
 behind_is so_far (b ∷ bytes) none =
-    ⊎_elim
-    (λ (here : b ≡ 47).
-    cond-true _ _ _ (eq-eqb b 47 here) ∙ behind_is [] bytes (All-nil (IsNot 47)) ∙ sym (last_after so_far bytes) ∙ ap (λ x. last_segment (so_far ++ x ∷ bytes)) (sym here))
-    (λ (other : b ≢ 47).
-    cond-false _ _ _ (ne_eqb b 47 other) ∙ behind_is (so_far ++ b ∷ []) bytes (All-push (IsNot 47) so_far b none other) ∙ ap last_segment (append_assoc so_far (b ∷ []) bytes))
-    (cases_eq b 47)
+    elim (cases_eq b 47) [
+      | inl here ↦ cond-true _ _ _ (eq-eqb b 47 here) ∙ behind_is [] bytes (All-nil (IsNot 47)) ∙ sym (last_after so_far bytes) ∙ ap (λ x. last_segment (so_far ++ x ∷ bytes)) (sym here)
+      | inr other ↦ cond-false _ _ _ (ne_eqb b 47 other) ∙ behind_is (so_far ++ b ∷ []) bytes (All-push (IsNot 47) so_far b none other) ∙ ap last_segment (append_assoc so_far (b ∷ []) bytes)
+    ]
 
 -- the front is kept as it is
 front_kept : (parts : List Given) (texts : List (List ℕ)) → FillUrl parts texts → kept (front_of parts) ≡ front_of parts
-front_kept parts texts fills =
-    kept_front (front_of parts) (plain_visible (front_of parts) (front_plain parts (filled_plain parts texts fills)))
+front_kept parts texts fills = grind (arith, nat_tests, kept_front, plain_visible, front_plain, filled_plain)
 
 -- the path is some path, `/`, and the open one with its texts, percent-encoded
 abbrev EndsOpen : List ℕ → List Given → List (List ℕ) → Parts → Type 0
@@ -117,10 +113,10 @@ all_decoded (segment ∷ more) texts bytes small closed =
 all_behind : (so_far bytes : List ℕ) → All IsByte so_far → All IsByte bytes → All IsByte (behind_slash so_far bytes)
 all_behind so_far [] first all = first
 all_behind so_far (b ∷ bytes) first all =
-    ⊎_elim
-    (λ (here : (b == 47) ≡ true). rw here (all_behind [] bytes (All-nil IsByte) (All-tail IsByte b bytes all)))
-    (λ (other : (b == 47) ≡ false). rw other (all_behind (so_far ++ b ∷ []) bytes (All-push IsByte so_far b first (All-head IsByte b bytes all)) (All-tail IsByte b bytes all)))
-    (cases_Bool (b == 47))
+    elim (cases_Bool (b == 47)) [
+      | inl here ↦ rw here (all_behind [] bytes (All-nil IsByte) (All-tail IsByte b bytes all))
+      | inr other ↦ rw other (all_behind (so_far ++ b ∷ []) bytes (All-push IsByte so_far b first (All-head IsByte b bytes all)) (All-tail IsByte b bytes all))
+    ]
 
 open_bytes : (parts : List Given) → IsOfBytes parts → IsOfBytes (open_path parts)
 open_bytes parts bytes =
@@ -150,20 +146,14 @@ pub path_begins : (parts : List Given) → begins_in_path (slots_of parts) ≡ t
 path_begins parts begins = by_told (slots_of parts) refl begins
   where
     in_path : (at : UrlPlace) → is_path at ≡ true → at ≡ place.Path
-    in_path place.Path is = refl
-    in_path place.Query is = cc
-    in_path place.Fragment is = cc
+    in_path at is = grind (arith, nat_tests)
 
     by_told : (told : Told) → slots_of parts ≡ told → begins_in_path told ≡ true → EndsInPath (front_of parts)
     by_told (Err fault) told is = cc
     by_told (Ok []) told is = cc
     by_told (Ok (first ∷ others)) told is =
-        ⊎_elim
-        (λ none. let empty = no_slots parts 0 [] (first ∷ others) none told in absurd (cc))
-        (λ (found : Reached [] parts (first ∷ others)).
-        let (p, later, number, from, opened, rest) = found in
-        let (slot, more, here, after, are) = found_slot number p later (first ∷ others) rest in
-        let same : first ≡ slot = cc in
-        let stands = front_stands (front_of parts) p slot (front_plain parts (first_plain parts 0 [] (first ∷ others) told)) opened here in
-        subst (λ at. EndsIn at (front_of parts)) (in_path slot.place (subst (λ (s : UrlSlot). is_path s.place ≡ true) same is)) stands.ends)
-        (reached parts 0 [] (first ∷ others) told)
+        elim (reached parts 0 [] (first ∷ others) told) [
+          | inl none ↦ absurd (cc)
+          | inr found ↦ let stands = front_stands (front_of parts) found.part found.slot (front_plain parts (first_plain parts 0 [] (first ∷ others) told)) found.opened found.here in
+              subst (λ at. EndsIn at (front_of parts)) (in_path (place_at found.part) (let same : first ≡ found.slot = cc in sym (ap is_path (ap (λ (s : UrlSlot). s.place) same ∙ slot_place found.part found.slot found.here)) ∙ is)) stands.ends
+        ]

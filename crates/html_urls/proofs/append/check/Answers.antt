@@ -1,4 +1,4 @@
-use Rattle.std.proofs.Common.{◌≡◌, ℕ, ◌+◌, true, false, List, [], ◌∷◌, length, Some, None, IsOkAnd, sym, ap, ◌∙◌, subst, ⊎_elim, arith}
+use Rattle.std.proofs.Common.{◌≡◌, ℕ, ◌+◌, List, [], ◌∷◌, length, Some, None, IsOkAnd, sym, ap, ◌∙◌, subst, arith, inl, inr}
 use Rattle.std.proofs.lemmas.Bool.{cases_Bool}
 use Rattle.std.proofs.lemmas.List.{length-map}
 use Rattle.html_urls.specs.declared.parts.UrlSlot.{UrlSlot}
@@ -16,10 +16,7 @@ all_fill number [] [] same none = tt
 all_fill number [] (text ∷ texts) same none = absurd (omega arith)
 all_fill number (slot ∷ slots) [] same none = absurd (omega arith)
 all_fill number (slot ∷ slots) (text ∷ texts) same none =
-    ⊎_elim
-    (λ (may : may_fill slot text ≡ true). (may, all_fill (number + 1) slots texts (omega arith) (rw may at none)))
-    (λ (refused : may_fill slot text ≡ false). absurd (some_none (WrongText number) (rw refused at none)))
-    (cases_Bool (may_fill slot text))
+    elim (cases_Bool (may_fill slot text)) [ inl may ↦ (may, all_fill (number + 1) slots texts (omega arith) (rw may at none)) | inr refused ↦ absurd (some_none (WrongText number) (rw refused at none)) ]
 
 pub returns-clause-fills : goal.returns-clause-fills
 returns-clause-fills g c =

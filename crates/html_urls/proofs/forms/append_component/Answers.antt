@@ -1,6 +1,5 @@
-use Rattle.std.proofs.Common.{◌∙◌, ap, length, refl}
+use Rattle.std.proofs.Common.{ap, length}
 use Rattle.std.specs.String.{string_bytes}
-use Rattle.std.proofs.Math.Seq.{drop-append_seam}
 use Rattle.std.proofs.lemmas.Str.{IsUtf8-string_bytes}
 use Rattle.hesc_engine.proofs.Seam.{seam}
 use Rattle.html_urls.specs.Components.{component}
@@ -10,13 +9,3 @@ pub part_from-requires : goal.part_from-requires
 part_from-requires g c =
     seam (string_bytes c.args.output.now) (string_bytes c.append_text.new.output) (component c.args.text.now) (length c.as_str-start.result.now)
     (IsUtf8-string_bytes c.args.output.now) (IsUtf8-string_bytes c.append_text.new.output) c.in_ok-append_text.ensures.appended (ap length c.as_str-start.ensures.value)
-
-pub returns : goal.returns
-returns g c =
-    let added = c.in_ok-append_text.ensures.appended in (
-      (refl, (λ _. tt), added),
-      record {
-        part = c.part_from.ensures ∙ rw (c.as_str-start.ensures.value, added) (drop-append_seam (string_bytes c.args.output.now) (component c.args.text.now));
-        fits = λ _. refl;
-      },
-    )

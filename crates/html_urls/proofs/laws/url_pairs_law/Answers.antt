@@ -1,7 +1,7 @@
 use Rattle.std.proofs.Common.{map}
 use Rattle.html_urls.specs.Slots.{given, texts_of}
 use Rattle.html_urls.proofs.Bytes.{all_bytes}
-use Rattle.html_urls.proofs.Shapes.UrlPairs.{url_pairs}
+use Rattle.html_urls.proofs.Shapes.Slots.UrlPairs.{url_pairs}
 use Rattle.html_urls.proofs.laws.url_pairs_law.Goals as goal
 
 pub returns : goal.returns

@@ -1,5 +1,5 @@
 use Rattle.std.proofs.Common.{arith}
-use Rattle.html_urls.proofs.Encoded.Blocks.{stored_all, stored_byte, stored_few, stored_nothing}
+use Rattle.html_urls.proofs.Encoded.Blocks.{stored_byte, stored_few, stored_nothing}
 use Rattle.html_urls.proofs.component.blocks.store_each.Goals as goal
 
 pub loop-b-init : goal.loop-b-init
@@ -14,6 +14,3 @@ pub loop-b-preserved : goal.loop-b-preserved
 loop-b-preserved c = record {
   stored = stored_byte c.args.room.now c.loop-b.room _ c.args.bytes.now c.args.place c.loop-b.b-index c.loop-b.end _ (omega arith) c.loop-b.invariant.stored c.store_encoded-end.ensures;
 }
-
-pub returns : goal.returns
-returns c = stored_all c.args.room.now c.loop-b.room c.args.bytes.now c.args.place c.loop-b.b-index c.loop-b.end (omega arith) c.loop-b.invariant.stored

@@ -1,13 +1,6 @@
-use Rattle.std.proofs.Common.{◌-◌, ℕ, List, ap, arith, drop, eq-eqb, eqb-true, length, length-append, length-take-le, refl, take}
-use Rattle.std.proofs.lemmas.List.{length-drop}
+use Rattle.std.proofs.Common.{◌-◌, drop, eq-eqb, eqb-true, length, refl}
 use Rattle.html_urls.proofs.Encoded.Lanes.{unreserved_by_eight}
 use Rattle.html_urls.proofs.component.unreserved.is_unreserved_by_eight.Goals as goal
-
-pub encoded_lanes-requires : goal.encoded_lanes-requires
-encoded_lanes-requires c =
-    let bytes = c.args.bytes.now in
-    let back : List ℕ = drop (length bytes - 8) bytes in
-    omega (arith, ap length c.first_and_last_eight.ensures, length-append (take 8 bytes) back, length-take-le 8 bytes c.requires.one, length-drop (length bytes - 8) bytes, c.requires.one)
 
 pub returns : goal.returns
 returns c =

@@ -1,5 +1,5 @@
 -- The pairs of a URL with slots are those of the query that its parts have.
-use Rattle.std.proofs.Common.{◌≡◌, ℕ, true, ◌&&◌, List, [], ◌∷◌, Option, Some, None, Ok, is_some, Err, IfOk, unwrap_or, option_map, All, sym, refl, ap, ◌∙◌, subst, arith}
+use Rattle.std.proofs.Common.{◌≡◌, ℕ, true, ◌&&◌, List, [], ◌∷◌, Option, Some, is_some, IfOk, unwrap_or, option_map, All, sym, refl, ap, ◌∙◌, subst, arith}
 use Rattle.std.specs.List.{list_all}
 use Rattle.std.proofs.lemmas.Bool.{and_parts}
 use Rattle.std.proofs.lemmas.Bool.Decides.{nat_tests}
@@ -8,12 +8,12 @@ use Rattle.form_urlencoded.specs.Form.{parse}
 use Rattle.percent_encoding.specs.Percent.{percent_encode}
 use Rattle.percent_encoding.proofs.PercentLemmas.{IsByte}
 use Rattle.url.specs.Parts.{Parts, kind_of, query_set}
-use Rattle.url.specs.Parser.{Parsed, and_then, parse_url}
+use Rattle.url.specs.Parser.{Parsed, parse_url}
 use Rattle.html_urls.specs.Components.{component, is_component_byte}
 use Rattle.html_urls.specs.Decoded.{has_pairs, pairs_of, query_pairs}
 use Rattle.html_urls.specs.Hosts.{IsWebBase}
 use Rattle.html_urls.specs.Pieces.{HasMarkup, has_markup, pieces}
-use Rattle.html_urls.specs.Shapes.{before_fragment_parts, fill, front_of, path_parts, query_parts, shape_from, texts_after}
+use Rattle.html_urls.specs.Shapes.{before_fragment_parts, path_parts, query_parts, texts_after}
 use Rattle.html_urls.specs.Slots.{FillUrl, Given, Markup, Slot, url_of}
 use Rattle.html_urls.proofs.Bytes.{AllBytes, IsOfBytes}
 use Rattle.html_urls.proofs.Components.{component_bytes}
@@ -26,27 +26,17 @@ use Rattle.html_urls.proofs.Shapes.Filling.{filled_is}
 use Rattle.html_urls.proofs.Shapes.Pairs.{bytes_after, pairs_law}
 use Rattle.html_urls.proofs.Shapes.PlainParts.{plain_bytes_only, plain_closes}
 use Rattle.html_urls.proofs.Shapes.ShapeLaw.{filled_plain, shape_law}
-use Rattle.html_urls.proofs.Shapes.Tails.{query_or}
+use Rattle.html_urls.proofs.Tails.{query_or}
 
 -- the URL has the query of its parts with its texts, percent-encoded
 abbrev OwnQuery : List ℕ → Parts → Type 0
 OwnQuery query url = url.query ≡ Some (percent_encode (query_set (kind_of url)) query)
 
 own_query : (base : Option Parts) (parts : List Given) (texts : List (List ℕ)) (own : List Given) → IsWebBase base → FillUrl parts texts → query_parts parts ≡ Some own → IfOk (parse_url base (url_of parts texts)) (OwnQuery (url_of own (texts_after (path_parts parts) texts)))
-own_query base parts texts own web fills is =
-    subst (λ (parsed : Parsed Parts). IfOk parsed (OwnQuery query)) (sym (shape_law base parts texts web fills)) (by_front (parse_url base (front_of parts)))
-  where
-    query : List ℕ
-    query = url_of own (texts_after (path_parts parts) texts)
-
-    by_front : (front : Parsed Parts) → IfOk (fill (and_then front (λ url. Ok (shape_from parts url))) texts) (OwnQuery query)
-    by_front (Ok url) =
-        ap (λ u. u.query) (filled_is parts texts url) ∙ ap (λ o. query_or (kind_of url) (option_map (λ q. url_of q (texts_after (path_parts parts) texts)) o) url.query) is
-    by_front (Err e) = tt
+own_query base parts texts own web fills is = grind (arith, nat_tests, shape_law, filled_is, query_or, option_map)
 
 pub where_ok : (parsed : Parsed Parts) (P Q : Parts → Type 0) → ((url : Parts) → P url → Q url) → IfOk parsed P → IfOk parsed Q
-where_ok (Ok url) P Q more is = more url is
-where_ok (Err e) P Q more is = tt
+where_ok parsed P Q more is = grind (arith, nat_tests)
 
 -- a component is of bytes, and so are markup of bytes and texts
 small_component : (text : List ℕ) → All IsByte (component text)
@@ -86,8 +76,7 @@ all_markup (piece ∷ more) all = let both = and_parts (has_markup piece) (list_
 
 -- the parts have a query whose strings are pairs
 found_query : (o : Option (List Given)) → (is_some o && list_all has_markup (pieces 38 (unwrap_or o []))) ≡ true → (own : List Given) × (o ≡ Some own) × All HasMarkup (pieces 38 own)
-found_query (Some own) has = (own, refl, all_markup (pieces 38 own) has)
-found_query None has = cc
+found_query o has = grind (arith, nat_tests, all_markup)
 
 -- THE PAIRS OF A URL
 pub url_pairs : (base : Option Parts) (parts : List Given) (texts : List (List ℕ)) → IsWebBase base → FillUrl parts texts → AllBytes texts → has_pairs parts ≡ true →

@@ -1,0 +1,42 @@
+-- What is known of parts whose slots are told.
+use Rattle.std.proofs.Common.{◌≡◌, ℕ, ◌+◌, true, false, List, [], ◌∷◌, ◌++◌, Option, Some, None, Ok, Err, IsOkAnd, refl, arith}
+use Rattle.std.proofs.lemmas.Bool.Decides.{nat_tests}
+use Rattle.html_urls.specs.declared.open_part.OpenPart.{OpenPart}
+use Rattle.html_urls.specs.declared.parts.UrlSlot.{UrlSlot}
+use Rattle.html_urls.specs.declared.parts.UrlFault.TheVariants.{NotFixed}
+use Rattle.html_urls.specs.OpenParts.{after_markup, after_text, may_be_dots, open_of, slot_at}
+use Rattle.html_urls.specs.Slots.{FillSlots, Told, Given, Markup, Slot, first_slots, is_plain, later_slots, no_parts, told_of}
+
+-- ---- before the first slot
+
+pub first_markup : (number : ℕ) (front bytes : List ℕ) (parts : List Given) (slots : List UrlSlot) → first_slots number front (Markup bytes ∷ parts) ≡ Ok slots →
+    (is_plain bytes (no_parts parts) ≡ true) × (first_slots (number + 1) (front ++ bytes) parts ≡ Ok slots)
+first_markup number front bytes parts slots told = grind (arith, nat_tests)
+
+pub first_slot : (number : ℕ) (front : List ℕ) (parts : List Given) (slots : List UrlSlot) → first_slots number front (Slot ∷ parts) ≡ Ok slots →
+    (p : OpenPart) × (open_of front ≡ Some p) × (later_slots number p (Slot ∷ parts) ≡ Ok slots)
+first_slot number front parts slots told = by_part (open_of front) refl told
+  where
+    by_part : (o : Option OpenPart) → open_of front ≡ o → told_of o (NotFixed number) (λ p. later_slots number p (Slot ∷ parts)) ≡ Ok slots →
+        (p : OpenPart) × (open_of front ≡ Some p) × (later_slots number p (Slot ∷ parts) ≡ Ok slots)
+    by_part (Some p) is found = (p, is, found)
+    by_part None is found = cc
+
+-- ---- behind it
+
+pub later_nothing : (number : ℕ) (p : OpenPart) (slots : List UrlSlot) → later_slots number p [] ≡ Ok slots → (may_be_dots p ≡ false) × (slots ≡ [])
+later_nothing number p slots told = grind (arith, nat_tests)
+
+pub later_markup : (number : ℕ) (p : OpenPart) (bytes : List ℕ) (parts : List Given) (slots : List UrlSlot) → later_slots number p (Markup bytes ∷ parts) ≡ Ok slots →
+    (q : OpenPart) × (is_plain bytes (no_parts parts) ≡ true) × (after_markup p bytes ≡ Some q) × (later_slots (number + 1) q parts ≡ Ok slots)
+later_markup number p bytes parts slots told = grind (arith, nat_tests)
+
+pub later_slot : (number : ℕ) (p : OpenPart) (parts : List Given) (slots : List UrlSlot) → later_slots number p (Slot ∷ parts) ≡ Ok slots →
+    (slot : UrlSlot) × (more : List UrlSlot) × (slot_at p ≡ Some slot) × (later_slots (number + 1) (after_text p) parts ≡ Ok more) × (slots ≡ slot ∷ more)
+later_slot number p parts slots told = grind (arith, nat_tests)
+
+-- ---- texts that fill them
+
+pub told_slots : (told : Told) (texts : List (List ℕ)) → IsOkAnd told (λ slots. FillSlots slots texts) → (slots : List UrlSlot) × (told ≡ Ok slots) × FillSlots slots texts
+told_slots (Ok slots) texts fill = (slots, refl, fill)
+told_slots (Err e) texts fill = absurd fill
