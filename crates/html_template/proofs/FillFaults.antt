@@ -1,8 +1,9 @@
 -- The first fault of the texts: where there is none the texts fill the template, and what is answered.
-use Rattle.std.proofs.Common.{ℕ, ◌≡◌, ◌↔◌, ◌+◌, ◌==◌, List, [], ◌∷◌, Option, None, Some, Ok, Err, Result, length, refl, sym, inl, inr, arith}
+use Rattle.std.proofs.Common.{ℕ, ◌≡◌, ◌↔◌, ◌+◌, List, [], ◌∷◌, Option, None, Some, Ok, Err, Result, refl, sym, inl, inr, arith, length, ◌∙◌, false, true, Bool, if◌then◌else◌}
+use Rattle.std.proofs.lemmas.Bool.Decides.{nat_tests}
 use Rattle.std.proofs.lemmas.Bool.{cases_Bool}
 use Rattle.std.specs.Option.{option_or}
-use Rattle.std.specs.Prelude.{IsErrOf, OnOk}
+use Rattle.std.specs.Prelude.{IsErrOf, OnOk, None, not}
 use Rattle.std.specs.Result.{result_err}
 use Rattle.html_template.specs.FirstFault.{AreNone, IsFirst, first_from}
 use Rattle.html_template.proofs.FirstFault.{TellsApart, is_first, is_none, some_first}
@@ -12,42 +13,24 @@ use Rattle.html_template.specs.declared.faults.FillFault.TheVariants.{WrongCount
 use Rattle.html_template.specs.declared.faults.TextFault.{TextFault}
 use Rattle.html_template.specs.declared.parts.SlotKind.{SlotKind}
 use Rattle.html_template.specs.declared.parts.SlotKind.TheVariants as kind
-use Rattle.html_template.specs.FillFaults.{AnswersFill, count_fault, empty_fault, fill_fault, fill_from, text_fault, text_faults}
+use Rattle.html_template.specs.FillFaults.{AnswersFill, count_fault, empty_fault, fill_fault, fill_from, text_fault, text_faults, has_checked, is_checked, slot_count}
 use Rattle.html_template.specs.declared.faults.WriteFault.{WriteFault}
-use Rattle.html_template.specs.declared.faults.WriteFault.TheVariants.{Texts, Writer}
+use Rattle.html_template.specs.declared.faults.WriteFault.TheVariants.{Texts}
 use Rattle.html_template.specs.Templates.{Chunk, Fill, Markup, MayFill, Slot}
 use Rattle.html_template.specs.Writing.{AnswersWriting}
 use Rattle.html_tokenizer.specs.declared.slot_place.SlotPlace.{SlotPlace}
-use Rattle.html_tokenizer.specs.declared.slot_place.SlotPlace.TheVariants as place
 use Rattle.html_urls.specs.Bases.{is_base, is_own_base}
-use Rattle.html_urls.specs.Links.{is_link}
-use Rattle.html_urls.specs.OwnPaths.{is_own_path}
-use Rattle.html_urls.specs.Slots.{may_fill}
 
 -- ---- a text has no fault exactly where it may fill its slot
 
 empty_fits : (p : SlotPlace) (text : List ℕ) → empty_fault p text ≡ None → MayFill p kind.Text text
-empty_fits place.Unquoted [] is = absurd (cc)
-empty_fits place.Unquoted (b ∷ text) is = λ none. absurd (omega (arith, none))
-empty_fits p text is = tt
+empty_fits p text is = grind (arith, nat_tests)
 
 none_fits : (p : SlotPlace) (kind : SlotKind) (text : List ℕ) → text_fault p kind text ≡ None → MayFill p kind text
 none_fits p kind.Text text is = empty_fits p text is
-none_fits p (kind.UrlPart slot) text is = elim (cases_Bool (may_fill slot text)) [
-  | inl may ↦ may
-  | inr not ↦ elim (cases_Bool (length text == 0)) [
-    | inl empty ↦ absurd (let clash = rw (not, empty) at is in cc)
-    | inr some ↦ absurd (let clash = rw (not, some) at is in cc)
-  ]
-]
-none_fits p kind.Link text is = elim (cases_Bool (is_link text)) [
-  | inl link ↦ link
-  | inr not ↦ absurd (let clash = rw not at is in cc)
-]
-none_fits p kind.OwnPath text is = elim (cases_Bool (is_own_path text)) [
-  | inl own ↦ own
-  | inr not ↦ absurd (let clash = rw not at is in cc)
-]
+none_fits p (kind.UrlPart slot) text is = grind (arith, nat_tests)
+none_fits p kind.Link text is = grind (arith, nat_tests)
+none_fits p kind.OwnPath text is = grind (arith, nat_tests)
 none_fits p (kind.Base behind) text is = elim (cases_Bool (is_base behind text)) [
   | inl base ↦ base
   | inr not ↦ absurd (let clash = rw not at is in cc)
@@ -59,15 +42,7 @@ none_fits p (kind.OwnBase behind) text is = elim (cases_Bool (is_own_base behind
 none_fits p kind.Literal text is = tt
 
 fits_none : (p : SlotPlace) (kind : SlotKind) (text : List ℕ) → MayFill p kind text → text_fault p kind text ≡ None
-fits_none place.Unquoted kind.Text [] may = absurd (may refl)
-fits_none place.Unquoted kind.Text (b ∷ text) may = refl
-fits_none p kind.Text text may = refl
-fits_none p (kind.UrlPart slot) text may = rw may refl
-fits_none p kind.Link text may = rw may refl
-fits_none p kind.OwnPath text may = rw may refl
-fits_none p (kind.Base behind) text may = rw may refl
-fits_none p (kind.OwnBase behind) text may = rw may refl
-fits_none p kind.Literal text may = refl
+fits_none p kind text may = grind (arith, nat_tests)
 
 pub fits : (p : SlotPlace) (kind : SlotKind) (text : List ℕ) → (text_fault p kind text ≡ None) ↔ MayFill p kind text
 fits p kind text = (none_fits p kind text, fits_none p kind text)
@@ -115,13 +90,11 @@ never_count (Slot p kind ∷ chunks) (text ∷ texts) fault other is = never_cou
 
 -- that of a text comes first
 first_of : (first second : Option FillFault) (fault : FillFault) → (second ≡ Some fault → ⊥) → (option_or first second ≡ Some fault) ↔ (first ≡ Some fault)
-first_of None second fault never = (λ is. absurd (never is), λ is. absurd (cc))
-first_of (Some told) second fault never = (λ is. is, λ is. is)
+first_of first second fault never = grind (arith, nat_tests)
 
 second_of : (first second : Option FillFault) (fault : FillFault) → (first ≡ Some fault → ⊥) →
     (option_or first second ≡ Some fault) ↔ ((first ≡ None) × (second ≡ Some fault))
-second_of None second fault never = (λ is. (refl, is), λ both. both.1)
-second_of (Some told) second fault never = (λ is. absurd (never is), λ both. absurd (cc))
+second_of first second fault never = grind (arith, nat_tests)
 
 -- a text's is that of the first text with a fault
 is_text : (chunks : List Chunk) (texts : List (List ℕ)) (number : ℕ) (why : TextFault) →
@@ -156,15 +129,11 @@ answered T chunks texts Memory is = absurd (never_memory chunks texts is)
 -- a fault of texts is answered exactly where it is the first
 is_answered : (first : Option FillFault) (result : Result (Unit {0}) FillFault) (fault : FillFault) → (fault ≡ Memory → ⊥) → AnswersFill first result →
     IsErrOf result fault ↔ (first ≡ Some fault)
-is_answered first (Ok done) fault other answers = (λ is. absurd (cc), λ is. absurd (cc))
-is_answered first (Err Memory) fault other answers = (λ is. absurd (other (cc)), λ is. absurd (cc))
-is_answered first (Err told) fault other answers = (λ is. cc, λ is. cc)
+is_answered first result fault other answers = grind (arith, nat_tests)
 
 is_written : (first : Option FillFault) (result : Result (Unit {0}) (WriteFault FillFault)) (fault : FillFault) → AnswersWriting first result →
     IsErrOf result (Texts fault) ↔ (first ≡ Some fault)
-is_written first (Ok done) fault answers = (λ is. absurd (cc), λ is. absurd (cc))
-is_written first (Err (Texts told)) fault answers = (λ is. cc, λ is. cc)
-is_written first (Err (Writer refusal)) fault answers = (λ is. absurd (cc), λ is. absurd (cc))
+is_written first result fault answers = grind (arith, nat_tests)
 
 chained : {A B C : Type 0} → A ↔ B → B ↔ C → A ↔ C
 chained first second = (λ a. second.0 (first.0 a), λ c. first.1 (second.1 c))
@@ -186,3 +155,33 @@ count_answered chunks texts result answers = chained (is_answered (fill_fault ch
 pub count_written : (chunks : List Chunk) (texts : List (List ℕ)) (result : Result (Unit {0}) (WriteFault FillFault)) → AnswersWriting (fill_fault chunks texts) result →
     IsErrOf result (Texts WrongCount) ↔ (AreNone (text_faults chunks texts) × (count_fault chunks texts ≡ Some WrongCount))
 count_written chunks texts result answers = chained (is_written (fill_fault chunks texts) result WrongCount answers) (is_count chunks texts)
+
+-- ---- no slot is checked, and there are as many texts
+
+takes_any : (p : SlotPlace) (kind : SlotKind) (text : List ℕ) → is_checked p kind ≡ false → text_fault p kind text ≡ None
+takes_any p kind text none = grind (arith, nat_tests)
+
+-- neither this slot nor one behind it is checked
+record AreFree (here others : Bool) : Type 0 where
+  first : here ≡ false
+  later : others ≡ false
+
+are_free : (here others : Bool) → (if here then true else others) ≡ false → AreFree here others
+are_free here others none = grind (arith, nat_tests)
+
+fault_by_count : (n : ℕ) (chunks : List Chunk) (texts : List (List ℕ)) → slot_count chunks ≡ length texts → has_checked chunks ≡ false →
+    fill_from n chunks texts ≡ None
+fault_by_count n [] [] same none = refl
+fault_by_count n [] (text ∷ texts) same none = absurd (omega arith)
+fault_by_count n (Markup bytes ∷ chunks) texts same none = fault_by_count n chunks texts same none
+fault_by_count n (Slot p kind ∷ chunks) [] same none = absurd (omega arith)
+fault_by_count n (Slot p kind ∷ chunks) (text ∷ texts) same none =
+    let free = are_free (is_checked p kind) (has_checked chunks) none in
+    rw (takes_any p kind text free.first) (fault_by_count (n + 1) chunks texts (omega arith) free.later)
+
+when_not : (b : Bool) → not b ≡ true → b ≡ false
+when_not b is = grind (arith, nat_tests)
+
+pub no_fault : (chunks : List Chunk) (texts : List (List ℕ)) (checked : Bool) → not checked ≡ true → checked ≡ has_checked chunks → slot_count chunks ≡ length texts →
+    fill_fault chunks texts ≡ None
+no_fault chunks texts checked none is same = fault_by_count 0 chunks texts same (sym is ∙ when_not checked none)

@@ -1,5 +1,6 @@
 -- The first of a list of optional faults is at a position exactly where it stands there, and none before it.
 use Rattle.std.proofs.Common.{ℕ, zero, suc, ◌≡◌, ◌↔◌, ◌≤◌, ◌+◌, List, [], ◌∷◌, Option, Some, None, refl, ap, ◌∙◌, arith}
+use Rattle.std.proofs.lemmas.Bool.Decides.{nat_tests}
 use Rattle.html_template.specs.FirstFault.{AreNone, IsFirst, first_fault, first_from}
 
 -- no two faults are told as one
@@ -42,11 +43,7 @@ module _ {F G : Type 0} (tell : ℕ → F → G) where
       rw first.0 (from_first faults (n + 1) k fault first.1 ∙ ap (λ m. Some (tell m fault)) same)
 
   pub is_first : TellsApart tell → (faults : List (Option F)) (k : ℕ) (fault : F) → (first_fault tell faults ≡ Some (tell k fault)) ↔ IsFirst k fault faults
-  is_first apart faults k fault =
-      let same : 0 + k ≡ k = omega arith in (
-        λ is. to_first apart faults 0 k fault (is ∙ ap (λ m. Some (tell m fault)) (let back : k ≡ 0 + k = omega arith in back)),
-        λ first. from_first faults 0 k fault first ∙ ap (λ m. Some (tell m fault)) same,
-      )
+  is_first apart faults k fault = grind (arith, nat_tests, to_first, from_first)
 
   -- none is told exactly where there is none
   to_none : (faults : List (Option F)) (n : ℕ) → first_from tell n faults ≡ None → AreNone faults

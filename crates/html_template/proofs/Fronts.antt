@@ -1,22 +1,20 @@
 -- What follows a slot with which a URL begins tells whether it is a base: the markup is taken only where the slot was taken for what it is.
-use Rattle.std.proofs.Common.{ℕ, zero, suc, ◌≡◌, ◌==◌, ◌&&◌, ◌||◌, Bool, true, false, List, [], ◌∷◌, ◌++◌, Option, Some, None, Ok, Err, length, take, nat_lt, refl, sym, ap, ◌∙◌, subst, ⊎_elim, bytes_eq, codes, if◌then◌else◌}
-use Rattle.std.proofs.lemmas.Bool.{cases_Bool, eqb-true, or_cases}
+use Rattle.std.proofs.Common.{ℕ, zero, suc, ◌≡◌, ◌==◌, ◌&&◌, ◌||◌, Bool, true, false, List, [], ◌∷◌, ◌++◌, Option, Some, None, Ok, length, take, nat_lt, refl, sym, ap, ◌∙◌, subst, bytes_eq, codes, if◌then◌else◌, arith, inl, inr}
+use Rattle.std.proofs.lemmas.Bool.Decides.{nat_tests}
+use Rattle.std.proofs.lemmas.Bool.{cases_Bool}
 use Rattle.std.specs.Char.{is_ascii_alphanumeric}
 use Rattle.std.specs.Option.{option_map}
-use Rattle.html_template.specs.declared.faults.PartFault.TheVariants.{AfterLink}
 use Rattle.html_template.specs.declared.open_url.OpenUrl.{OpenUrl}
 use Rattle.html_template.specs.declared.open_url.OpenUrl.TheVariants.{Outside, Within, Whole, Front}
 use Rattle.html_template.specs.declared.open_url.PlacedSlot.{PlacedSlot}
 use Rattle.html_template.specs.OpenUrls.{before, begun, behind_link, url_markup, value_length}
 use Rattle.html_tokenizer.specs.Tokenizer.Values.References.{goes_on}
 use Rattle.html_tokenizer.specs.declared.slot_place.SlotPlace.{SlotPlace}
-use Rattle.html_tokenizer.specs.declared.slot_place.SlotPlace.TheVariants as place
-use Rattle.html_tokenizer.specs.Tokenizer.Tags.{is_space}
-use Rattle.html_tokenizer.specs.UrlValues.{ends_value, url_text, url_text_from}
+use Rattle.html_tokenizer.specs.UrlValues.{url_text, url_text_from}
 use Rattle.html_urls.specs.Bases.{behind_base, behind_byte}
 use Rattle.html_urls.specs.declared.base.BehindBase.{BehindBase}
 use Rattle.html_urls.proofs.Bases.GoesAs.{same_behind}
-use Rattle.html_template.proofs.PageUrls.LaterMarkup.{as_told, base_told}
+use Rattle.html_template.proofs.PageUrls.LaterMarkup.{base_told}
 
 -- ---- what markup adds to a URL begins as the markup does, unless it begins with a `&`
 
@@ -25,18 +23,13 @@ record IsAmpersand (text : List ℕ) : Type 0 where
   is : text ≡ 38 ∷ rest
 
 mapped : (f : List ℕ → List ℕ) → ((more : List ℕ) → IsAmpersand (f more)) → (found : Option (List ℕ)) (text : List ℕ) → option_map f found ≡ Some text → IsAmpersand text
-mapped f begins None text is = absurd (cc)
-mapped f begins (Some more) text is = let same : f more ≡ text = cc in subst IsAmpersand same (begins more)
+mapped f begins found text is = grind (arith, nat_tests)
 
 -- by what the byte behind the `&` is
 chosen : (letter amp other again : Bool) (first second third last : Option (List ℕ)) (text : List ℕ) → (first ≡ Some text → IsAmpersand text) →
     (second ≡ Some text → IsAmpersand text) → (third ≡ Some text → IsAmpersand text) → (last ≡ Some text → IsAmpersand text) →
     (if letter then first else (if amp then second else (if other then None else (if again then third else last)))) ≡ Some text → IsAmpersand text
-chosen true amp other again first second third last text one two three four is = one is
-chosen false true other again first second third last text one two three four is = two is
-chosen false false true again first second third last text one two three four is = absurd (cc)
-chosen false false false true first second third last text one two three four is = three is
-chosen false false false false first second third last text one two three four is = four is
+chosen letter amp other again first second third last text one two three four is = grind (arith, nat_tests)
 
 begun_reference : (is_ended : Bool) (word bytes text : List ℕ) → url_text_from is_ended (Some word) bytes ≡ Some text → IsAmpersand text
 begun_reference true word [] text is = let same : 38 ∷ word ≡ text = cc in subst IsAmpersand same (record { rest = word; is = refl })
@@ -60,13 +53,12 @@ text_begins is_ended [] text behind read is =
     let clash : None ≡ Some behind = ap behind_base none ∙ is in
     absurd (cc)
 text_begins is_ended (b ∷ markup) text behind read is =
-    ⊎_elim
-    (λ (ampersand : (b == 38) ≡ true).
-    let begins = begun_reference is_ended [] markup text (rw ampersand at read) in
-    let clash : None ≡ Some behind = sym (ap behind_base begins.is) ∙ is in
-    absurd (cc))
-    (λ (byte : (b == 38) ≡ false). sym (first_byte b (url_text_from is_ended None markup) text (rw byte at read)) ∙ is)
-    (cases_Bool (b == 38))
+    elim (cases_Bool (b == 38)) [
+      | inl ampersand ↦ let begins = begun_reference is_ended [] markup text (rw ampersand at read) in
+          let clash : None ≡ Some behind = sym (ap behind_base begins.is) ∙ is in
+          absurd (cc)
+      | inr byte ↦ sym (first_byte b (url_text_from is_ended None markup) text (rw byte at read)) ∙ is
+    ]
 
 taken_begins : (n : ℕ) (markup : List ℕ) (behind : BehindBase) → behind_base (take n markup) ≡ Some behind → behind_base markup ≡ Some behind
 taken_begins zero [] behind is = is
@@ -83,40 +75,8 @@ front_told p behind markup opened told =
     let front = base_told p behind ended (take n markup) opened told in
     taken_begins n markup behind (text_begins ended (take n markup) front.text behind front.adds.read (same_behind behind front.text front.goes))
 
--- no byte that ends a value goes on with one
-alone : (mark b : ℕ) → behind_byte mark ≡ None → (b == mark) ≡ true → behind_byte b ≡ None
-alone mark b none is = ap behind_byte (eqb-true b mark is) ∙ none
-
-space_alone : (b : ℕ) → is_space b ≡ true → behind_byte b ≡ None
-space_alone b is =
-    either (b == 9 || b == 10 || b == 12 || b == 32) (b == 13)
-    (either (b == 9 || b == 10 || b == 12) (b == 32)
-    (either (b == 9 || b == 10) (b == 12)
-    (either (b == 9) (b == 10) (alone 9 b refl) (alone 10 b refl))
-    (alone 12 b refl))
-    (alone 32 b refl))
-    (alone 13 b refl) is
-  where
-    either : (x y : Bool) → (x ≡ true → behind_byte b ≡ None) → (y ≡ true → behind_byte b ≡ None) → (x || y) ≡ true → behind_byte b ≡ None
-    either x y one two is = ⊎_elim one two (or_cases x y is)
-
-unquoted_alone : (b : ℕ) → (is_space b || b == 62) ≡ true → behind_byte b ≡ None
-unquoted_alone b is = ⊎_elim (space_alone b) (alone 62 b refl) (or_cases (is_space b) (b == 62) is)
-
-ends_alone : (p : SlotPlace) (b : ℕ) → ends_value p b ≡ true → behind_byte b ≡ None
-ends_alone place.DoubleQuoted b ends = alone 34 b refl ends
-ends_alone place.SingleQuoted b ends = alone 39 b refl ends
-ends_alone other b ends = unquoted_alone b ends
-
 link_told : (p : SlotPlace) (markup : List ℕ) (opened : OpenUrl) → behind_link p markup ≡ Ok opened → behind_base markup ≡ None
-link_told p [] opened told = refl
-link_told p (b ∷ markup) opened told =
-    ⊎_elim
-    (λ (ends : ends_value p b ≡ true). ends_alone p b ends)
-    (λ (goes_on : ends_value p b ≡ false).
-    let clash : Err AfterLink ≡ as_told opened = rw goes_on at told in
-    absurd (cc))
-    (cases_Bool (ends_value p b))
+link_told p markup opened told = grind (arith, nat_tests)
 
 -- ---- so a guess of what follows a slot is right where the markup that follows it is taken
 

@@ -1,10 +1,8 @@
 -- A page behind a page.
-use Rattle.std.proofs.Common.{ℕ, ◌≡◌, List, [], ◌∷◌, ◌++◌, IsUtf8, map, refl, sym, ap, ◌∙◌, append_assoc, Some, None, Ok, Option, true}
+use Rattle.std.proofs.Common.{ℕ, ◌≡◌, List, [], ◌∷◌, ◌++◌, IsUtf8, map, refl, sym, ap, ◌∙◌, append_assoc, Some, None, Ok, Option, true, arith}
+use Rattle.std.proofs.lemmas.Bool.Decides.{nat_tests}
 use Rattle.std.specs.Io.KnownBytes.{Appends}
 use Rattle.std.specs.List.{AllByRecursion}
-use Rattle.html_tokenizer.specs.Tokenizer.States.{Tokenizer, data_state}
-use Rattle.html_tokenizer.specs.Tokenizer.Tokenization.{state_after}
-use Rattle.html_tokenizer.specs.UrlValues.{open_url, urls_from}
 use Rattle.html_tokenizer.proofs.UrlValues.Appending.{urls_from-anew, urls_from-append}
 use Rattle.html_template.specs.PageUrls.{urls_of}
 use Rattle.html_template.specs.Structure.{IsPageOf, JoinsWritten}
@@ -21,9 +19,7 @@ joined_template first second one two =
     (joined_told first second (placed first) (placed second) (placed_told first one) (placed_told second two))
 
 pub joined_placed : (first second : List Given) → is_template first ≡ true → is_template second ≡ true → placed (first ++ second) ≡ placed first ++ placed second
-joined_placed first second one two =
-    placed_of (first ++ second) (placed first ++ placed second)
-    (joined_told first second (placed first) (placed second) (placed_told first one) (placed_told second two))
+joined_placed first second one two = grind (arith, nat_tests, placed_of, joined_told, placed_told)
 
 -- ---- their pages
 
@@ -51,15 +47,7 @@ joined_utf8 (text ∷ texts) others utf8 more = (utf8.0, joined_utf8 texts other
 
 pub joined_pages : (first second : List Given) (texts others : List (List ℕ)) (front following : List ℕ) →
     IsPageOf first texts front → IsPageOf second others following → IsPageOf (first ++ second) (texts ++ others) (front ++ following)
-joined_pages first second texts others front following one two =
-    let same = joined_placed first second one.template two.template in
-    record {
-      template = joined_template first second one.template two.template;
-      full = rw same (joined_fill (placed first) (placed second) texts others one.full two.full);
-      utf8 = joined_utf8 texts others one.utf8 two.utf8;
-      whole = rw same (joined_page (placed first) (placed second) texts others one.full
-          ∙ ap (λ x. x ++ page (placed second) others) one.whole ∙ ap (λ x. front ++ x) two.whole);
-    }
+joined_pages first second texts others front following one two = grind (arith, nat_tests, joined_placed, joined_template, joined_fill, joined_utf8, joined_page)
 
 -- a page of no part
 pub no_page : IsPageOf [] [] []
@@ -68,25 +56,14 @@ no_page = record { template = refl; full = tt; utf8 = tt; whole = refl }
 -- no URL is open behind a page
 pub joined_urls : (parts : List Given) (texts : List (List ℕ)) (front following : List ℕ) → IsPageOf parts texts front →
     urls_of (front ++ following) ≡ urls_of front ++ urls_of following
-joined_urls parts texts front following is =
-    let ends : state_after data_state front ≡ data_state = page_passes parts texts front is in
-    urls_from-append data_state [] front following
-    ∙ ap (λ (t : Tokenizer). urls_of front ++ urls_from t (open_url data_state [] front) following) ends
-    ∙ ap (λ urls. urls_of front ++ urls) (urls_from-anew data_state (open_url data_state [] front) [] following refl)
+joined_urls parts texts front following is = grind (arith, nat_tests, page_passes, urls_from-append, urls_from-anew)
 
 -- ---- what a template appends to a page
 
 -- the page of a template that is at hand
 pub page_of : (pieces : List Chunk) (texts : List (List ℕ)) → template_of (map part_of pieces) ≡ Ok pieces → Fill pieces texts → AllByRecursion IsUtf8 texts →
     IsPageOf (map part_of pieces) texts (page pieces texts)
-page_of pieces texts told full utf8 =
-    let same = placed_of (map part_of pieces) pieces told in
-    record {
-      template = is_template_of (map part_of pieces) pieces told;
-      full = rw same full;
-      utf8 = utf8;
-      whole = rw same refl;
-    }
+page_of pieces texts told full utf8 = grind (arith, nat_tests)
 
 pub page_after : (pieces : List Chunk) (texts : List (List ℕ)) {old new : List ℕ} → template_of (map part_of pieces) ≡ Ok pieces → Fill pieces texts →
     AllByRecursion IsUtf8 texts → new ≡ old ++ page pieces texts →

@@ -1,20 +1,18 @@
 -- The parts of two templates, one after the other, are a template's.
-use Rattle.std.proofs.Common.{ℕ, ◌≡◌, ◌+◌, true, false, List, [], ◌∷◌, ◌++◌, Ok, Err, Option, Some, None, refl, sym, ap, ◌∙◌, subst}
+use Rattle.std.proofs.Common.{ℕ, ◌≡◌, ◌+◌, true, false, List, [], ◌∷◌, ◌++◌, Ok, refl, sym, ap, subst, arith}
+use Rattle.std.proofs.lemmas.Bool.Decides.{nat_tests}
 use Rattle.html_template.specs.declared.open_url.OpenUrl.{OpenUrl}
-use Rattle.html_template.specs.declared.open_url.OpenUrl.TheVariants.{Outside, Within, Whole, Front}
+use Rattle.html_template.specs.declared.open_url.OpenUrl.TheVariants.{Outside}
 use Rattle.html_template.specs.declared.open_url.PlacedSlot.{PlacedSlot}
 use Rattle.html_template.specs.TemplateFaults.{Told, Walk, at_beginning, behind_markup, behind_slot, is_template, is_told, next_markup, pieces_from, placed, slot_at, template_of, told_chunks}
-use Rattle.html_template.specs.OpenUrls.{before, begun, url_markup}
+use Rattle.html_template.specs.OpenUrls.{before, url_markup}
 use Rattle.html_template.specs.Slots.{past_slot}
 use Rattle.html_template.specs.Templates.{Chunk, Given, GivenMarkup, GivenSlot, Markup, Slot, after_slot}
 use Rattle.html_tokenizer.specs.Standing.{is_refused, standing}
-use Rattle.html_tokenizer.specs.declared.slot_place.SlotPlace.{SlotPlace}
-use Rattle.html_urls.specs.Bases.{behind_base}
-use Rattle.html_urls.specs.declared.base.BehindBase.{BehindBase}
 use Rattle.html_tokenizer.specs.Tokenizer.Tokenization.{state_after}
 use Rattle.html_tokenizer.specs.Tokenizer.States.{data_state}
 use Rattle.html_tokenizer.proofs.UrlValues.Slots.Tame.{IsTame, data_state_is_tame, tame_after}
-use Rattle.html_template.proofs.MayEnd.{ends_in_data}
+use Rattle.html_template.proofs.Pieces.{ends_in_data}
 use Rattle.html_template.proofs.PageUrls.OpenPlaces.{OpenStands, markup_stands, none_open, slot_stands}
 use Rattle.html_template.proofs.PageUrls.SlotSteps.{tame_behind}
 use Rattle.html_template.proofs.Pieces.{at_end, at_markup, at_slot}
@@ -75,38 +73,17 @@ told_behind_slot : (walk : Walk) (slot : PlacedSlot) → after_slot slot.place s
     IsTame (behind_slot walk slot).tokenizer × OpenStands (behind_slot walk slot).url (behind_slot walk slot).tokenizer
 told_behind_slot walk slot goes tame stands = (subst IsTame (sym goes) tame, subst (OpenStands slot.url) (sym goes) stands)
 
--- a slot behind which no URL is open is the same whatever follows
-whole_stays : (found : PlacedSlot) (p : SlotPlace) (first second : Option BehindBase) → found.url ≡ Whole p → (begun found (Whole p) first).url ≡ Outside →
-    begun found (Whole p) second ≡ begun found (Whole p) first
-whole_stays found p None second is outside = let clash : Whole p ≡ Outside = sym is ∙ outside in absurd (cc)
-whole_stays found p (Some behind) second is outside = absurd (cc)
-
-begun_same : (found : PlacedSlot) (url : OpenUrl) (first second : Option BehindBase) → found.url ≡ url → (begun found url first).url ≡ Outside →
-    begun found url second ≡ begun found url first
-begun_same found Outside first second is outside = refl
-begun_same found (Within p part) first second is outside = refl
-begun_same found (Front p behind) first second is outside = refl
-begun_same found (Whole p) first second is outside = whole_stays found p first second is outside
-
-outside_same : (first second : List ℕ) (found : PlacedSlot) → (before first found).url ≡ Outside → before second found ≡ before first found
-outside_same first second found outside = begun_same found found.url (behind_base first) (behind_base second) refl outside
-
 -- the last one of a template is
 last_told : (number : ℕ) (walk : Walk) (found : PlacedSlot) (parts : List Given) (rest : List Chunk) → parts ≡ [] →
     pieces_from number (behind_slot walk (before (next_markup parts) found)) parts ≡ Ok rest →
     IsTame (behind_slot walk (before (next_markup parts) found)).tokenizer →
     OpenStands (behind_slot walk (before (next_markup parts) found)).url (behind_slot walk (before (next_markup parts) found)).tokenizer →
     (before [] found).url ≡ Outside
-last_told number walk found [] rest none told tame stands =
-    let last : Walk = behind_slot walk (before [] found) in
-    none_open last.url last.tokenizer tame (at_end number last rest told).may stands
-last_told number walk found (part ∷ parts) rest none told tame stands = absurd (cc)
+last_told number walk found parts rest none told tame stands = grind (arith, nat_tests)
 
 same_next : (first second : List Given) (found : PlacedSlot) → (first ≡ [] → (before [] found).url ≡ Outside) →
     before (next_markup (first ++ second)) found ≡ before (next_markup first) found
-same_next [] second found ends = outside_same [] (next_markup second) found (ends refl)
-same_next (GivenMarkup bytes ∷ first) second found ends = refl
-same_next (GivenSlot ∷ first) second found ends = refl
+same_next first second found ends = grind (arith, nat_tests)
 
 joined_from : (number : ℕ) (walk : Walk) (first second : List Given) (one two : List Chunk) → pieces_from number walk first ≡ Ok one →
     IsTame walk.tokenizer → OpenStands walk.url walk.tokenizer → template_of second ≡ Ok two → pieces_from number walk (first ++ second) ≡ Ok (one ++ two)
@@ -139,8 +116,7 @@ joined_told first second one two told next = joined_from 0 at_beginning first se
 -- ---- by the test
 
 is_told_of : (told : Told) → is_told told ≡ true → told ≡ Ok (told_chunks told)
-is_told_of (Ok chunks) is = refl
-is_told_of (Err fault) is = absurd (cc)
+is_told_of told is = grind (arith, nat_tests)
 
 pub placed_told : (parts : List Given) → is_template parts ≡ true → template_of parts ≡ Ok (placed parts)
 placed_told parts is = is_told_of (template_of parts) is

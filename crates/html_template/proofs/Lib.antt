@@ -1,16 +1,13 @@
 pub mod FirstFault
 pub mod TemplateLaw
-pub mod MayEnd
 pub mod Pieces
 pub mod Walks
 pub mod Structure
 pub mod FillFaults
-pub mod FillByCount
 pub mod Joined
 pub mod TokenLaw
 pub mod Markup
 pub mod PageUrls
-pub mod FirstPieces
 pub mod Fronts
 pub mod JoinedParts
 pub mod Pages

@@ -1,7 +1,7 @@
 -- The markup of a URL: what stands after the last byte that passes a test, and what markup adds to the URL.
-use Rattle.std.proofs.Common.{ℕ, zero, suc, ◌≡◌, ◌≢◌, ◌<◌, ◌≤◌, ◌+◌, ◌-◌, ◌==◌, ◌&&◌, ◌||◌, Bool, true, false, List, [], ◌∷◌, ◌++◌, Option, Some, None, length, take, drop, slice_index, bytes_eq, codes, refl, sym, ap, ◌∙◌, ⊎_elim, append_assoc, append-nil, length-append, arith}
+use Rattle.std.proofs.Common.{ℕ, zero, suc, ◌≡◌, ◌≢◌, ◌<◌, ◌≤◌, ◌+◌, ◌-◌, ◌==◌, ◌&&◌, ◌||◌, Bool, true, false, List, [], ◌∷◌, ◌++◌, Option, Some, None, length, take, drop, slice_index, bytes_eq, codes, refl, sym, ap, ◌∙◌, append_assoc, append-nil, length-append, arith, inl, inr}
 use Rattle.std.proofs.Math.Seq.{drop-append-add, take-append-add}
-use Rattle.std.proofs.lemmas.Bool.{cases_Bool, eq-eqb, eqb-true, ne_eqb}
+use Rattle.std.proofs.lemmas.Bool.{cases_Bool, eqb-true, ne_eqb}
 use Rattle.std.proofs.lemmas.Bool.Decides.{nat_tests}
 use Rattle.std.proofs.lemmas.List.{take_rest}
 use Rattle.std.specs.Char.{is_ascii_alphanumeric}
@@ -19,10 +19,7 @@ any_at test [] n within passes = absurd (omega arith)
 any_at test (b ∷ bytes) zero within passes = rw passes refl
 any_at test (b ∷ bytes) (suc n) within passes =
     let later : list_any test bytes ≡ true = any_at test bytes n (omega arith) passes in
-    ⊎_elim
-    (λ (first : test b ≡ true). rw first refl)
-    (λ (other : test b ≡ false). rw (other, later) refl)
-    (cases_Bool (test b))
+    elim (cases_Bool (test b)) [ inl first ↦ rw first refl | inr other ↦ rw (other, later) refl ]
 
 last_passes : (test : ℕ → Bool) (bytes : List ℕ) (n : ℕ) → n < length bytes → test (slice_index bytes n) ≡ true →
     list_any test (drop (suc n) bytes) ≡ false → after_last test bytes ≡ Some (drop (suc n) bytes)
@@ -41,10 +38,7 @@ none_before test (b ∷ bytes) (suc n) within fails none = none_before test byte
 none_passes : (test : ℕ → Bool) (bytes : List ℕ) → list_any test bytes ≡ false → after_last test bytes ≡ None
 none_passes test [] none = refl
 none_passes test (b ∷ bytes) none =
-    ⊎_elim
-    (λ (passes : test b ≡ true). let clash : true ≡ false = rw passes at none in absurd (cc))
-    (λ (fails : test b ≡ false). let later : list_any test bytes ≡ false = rw fails at none in rw (later, fails) refl)
-    (cases_Bool (test b))
+    elim (cases_Bool (test b)) [ inl passes ↦ let clash : true ≡ false = rw passes at none in absurd (cc) | inr fails ↦ let later : list_any test bytes ≡ false = rw fails at none in rw (later, fails) refl ]
 
 -- going back from the end: no byte behind the last one passes
 pub none_at_end : (test : ℕ → Bool) (bytes : List ℕ) → list_any test (drop (length bytes) bytes) ≡ false
@@ -54,20 +48,13 @@ none_at_end test (b ∷ bytes) = none_at_end test bytes
 -- nor one more
 pub none_one_before : (test : ℕ → Bool) (bytes : List ℕ) (start : ℕ) → 0 < start → start ≤ length bytes →
     test (slice_index bytes (start - 1)) ≡ false → list_any test (drop start bytes) ≡ false → list_any test (drop (start - 1) bytes) ≡ false
-none_one_before test bytes zero some within fails none = absurd (omega arith)
-none_one_before test bytes (suc n) some within fails none =
-    let back : suc n - 1 ≡ n = omega arith in
-    rw back (none_before test bytes n (omega arith) (rw back at fails) none)
+none_one_before test bytes start some within fails none = grind (arith, nat_tests, none_before)
 
 -- or it is the last that passes
 pub last_before : (test : ℕ → Bool) (bytes : List ℕ) (start : ℕ) → 0 < start → start ≤ length bytes →
     test (slice_index bytes (start - 1)) ≡ true → list_any test (drop start bytes) ≡ false →
     Some (take (length bytes - start) (drop start bytes)) ≡ after_last test bytes
-last_before test bytes zero some within passes none = absurd (omega arith)
-last_before test bytes (suc n) some within passes none =
-    let back : suc n - 1 ≡ n = omega arith in
-    let last = last_passes test bytes n (omega arith) (rw back at passes) none in
-    ap Some (take_rest bytes (suc n)) ∙ sym last
+last_before test bytes start some within passes none = grind (arith, nat_tests, last_passes, take_rest)
 
 -- or none does
 pub none_at_all : (test : ℕ → Bool) (bytes : List ℕ) (start : ℕ) → start ≡ 0 → list_any test (drop start bytes) ≡ false → None ≡ after_last test bytes
@@ -76,8 +63,7 @@ none_at_all test bytes start is none = sym (none_passes test bytes (rw is at non
 -- ---- what markup adds to a URL
 
 same_text : (read : Option (List ℕ)) → read ≡ option_map (λ more. more) read
-same_text None = refl
-same_text (Some text) = refl
+same_text read = grind (arith, nat_tests)
 
 -- before the first byte
 pub nothing_read : (is_ended : Bool) (text markup : List ℕ) → text ≡ [] → IsRead is_ended None text markup markup
@@ -96,15 +82,7 @@ byte_kept is_ended text rest markup b read other = (rw other at read) ∙ map_tw
 -- a `&`
 ampersand_held : (is_ended : Bool) (text rest markup : List ℕ) (b : ℕ) → IsRead is_ended None text (b ∷ rest) markup → (b == ampersand) ≡ true →
     IsRead is_ended (Some (length text)) (text ++ b ∷ []) rest markup
-ampersand_held is_ended text rest markup b read is = (
-  [],
-  record {
-    front = text;
-    parts = ap (λ x. text ++ x ∷ []) (eqb-true b ampersand is);
-    place = refl;
-    read = rw is at read;
-  },
-)
+ampersand_held is_ended text rest markup b read is = grind (arith, nat_tests)
 
 -- a letter or digit behind it
 letter_held : (is_ended : Bool) (text rest markup : List ℕ) (b start : ℕ) → IsRead is_ended (Some start) text (b ∷ rest) markup → is_ascii_alphanumeric b ≡ true →
@@ -183,17 +161,12 @@ amp_read is_ended text rest markup b start (word, held) other is name =
 -- another reference that it ends
 end_refused : (is_ended : Bool) (text rest markup : List ℕ) (b start : ℕ) → IsRead is_ended (Some start) text (b ∷ rest) markup → is_ascii_alphanumeric b ≡ false →
     (b == semicolon) ≡ true → bytes_eq (drop (start + 1) text) (codes "amp") ≡ false → url_text is_ended markup ≡ None
-end_refused is_ended text rest markup b start (word, held) other is no_name =
-    let none : bytes_eq word (codes "amp") ≡ false = rw (held_word held.front word text start held.parts held.place) at no_name in
-    rw (other, is, none) at held.read
+end_refused is_ended text rest markup b start given_1 other is no_name = grind (arith, nat_tests, bytes_eq, held_word)
 
 -- a `#` behind the `&`, which begins a number
 number_read : (is_ended : Bool) (text rest markup : List ℕ) (b start : ℕ) → IsRead is_ended (Some start) text (b ∷ rest) markup → b ≡ number_sign → start + 1 ≡ length text →
     url_text is_ended markup ≡ None
-number_read is_ended text rest markup b start (word, held) sign nothing =
-    let len = held_length held.front word text start held.parts held.place in
-    let none : (length word == 0) ≡ true = eq-eqb (length word) 0 (omega arith) in
-    rw (sign, none) at held.read
+number_read is_ended text rest markup b start given_1 sign nothing = grind (arith, nat_tests, held_length)
 
 -- ---- what the running code takes
 
@@ -201,8 +174,7 @@ number_read is_ended text rest markup b start (word, held) sign nothing =
 pub ended_reference : (is_amp : Bool) (text new_text : List ℕ) (b start : ℕ) (new_start : Option ℕ) → is_ascii_alphanumeric b ≡ false →
     b ≡ semicolon → is_amp ≡ bytes_eq (drop (start + 1) text) (codes "amp") → (is_amp ≡ true → new_text ≡ take (start + 1) text) →
     (is_amp ≡ true → new_start ≡ None) → Takes is_amp (Some start) text b new_start new_text
-ended_reference true text new_text b start new_start other is amp taken none = λ is_ended rest markup read.
-    rw (taken refl, none refl) (amp_read is_ended text rest markup b start read other (rw is refl) (sym amp))
+ended_reference true text new_text b start new_start other is amp taken none = grind (arith, nat_tests, amp_read)
 ended_reference false text new_text b start new_start other is amp taken none = λ is_ended rest markup read.
     end_refused is_ended text rest markup b start read other (rw is refl) (sym amp)
 
@@ -235,9 +207,7 @@ held_read : (text markup : List ℕ) (start : ℕ) → IsRead true (Some start) 
 held_read text markup start (word, held) = ap Some held.parts ∙ sym held.read
 
 pub ended_text : (held : Option ℕ) (text markup : List ℕ) (is_ended : Bool) → is_ended ≡ true → IsRead is_ended held text [] markup → Some text ≡ url_text is_ended markup
-ended_text None text markup is_ended ended read = all_read is_ended text markup read
-ended_text (Some start) text markup true ended read = held_read text markup start read
-ended_text (Some start) text markup false ended read = cc
+ended_text held text markup is_ended ended read = grind (arith, nat_tests, all_read, held_read)
 
 pub open_text : (text markup : List ℕ) (start : ℕ) → IsRead false (Some start) text [] markup → url_text false markup ≡ None
 open_text text markup start (word, held) = held.read
@@ -246,9 +216,8 @@ open_text text markup start (word, held) = held.read
 pub read_as_it_is : (is_ended : Bool) (markup : List ℕ) → list_any (λ b. b == ampersand) markup ≡ false → url_text is_ended markup ≡ Some markup
 read_as_it_is is_ended [] none = refl
 read_as_it_is is_ended (b ∷ markup) none =
-    ⊎_elim
-    (λ (is : (b == ampersand) ≡ true). let clash : true ≡ false = rw is at none in absurd (cc))
-    (λ (other : (b == ampersand) ≡ false).
-    let later : list_any (λ b. b == ampersand) markup ≡ false = rw other at none in
-    rw (other, read_as_it_is is_ended markup later) refl)
-    (cases_Bool (b == ampersand))
+    elim (cases_Bool (b == ampersand)) [
+      | inl is ↦ let clash : true ≡ false = rw is at none in absurd (cc)
+      | inr other ↦ let later : list_any (λ b. b == ampersand) markup ≡ false = rw other at none in
+          rw (other, read_as_it_is is_ended markup later) refl
+    ]

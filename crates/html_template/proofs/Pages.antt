@@ -1,5 +1,6 @@
 -- A page of a template's parts: how it is read, and that of any other texts beside it.
-use Rattle.std.proofs.Common.{ℕ, ◌≡◌, true, List, [], sym, ap, ◌∙◌, subst, append-nil}
+use Rattle.std.proofs.Common.{ℕ, ◌≡◌, true, List, [], sym, ap, ◌∙◌, append-nil, arith}
+use Rattle.std.proofs.lemmas.Bool.Decides.{nat_tests}
 use Rattle.html_tokenizer.specs.Tokenizer.States.{data_state}
 use Rattle.html_tokenizer.specs.Tokenizer.Tokenization.{actions_of, state_after}
 use Rattle.html_tokenizer.specs.Tokens.{skeleton, tokens}
@@ -18,8 +19,7 @@ sound : (parts : List Given) → is_template parts ≡ true → state_after_all 
 sound parts is = sound_told parts (placed parts) (placed_told parts is)
 
 pub page_reads : (parts : List Given) (texts : List (List ℕ)) (bytes : List ℕ) → IsPageOf parts texts bytes → IsReadAs (placed parts) texts bytes
-page_reads parts texts bytes is =
-    subst (IsReadAs (placed parts) texts) is.whole (is_read_as (placed parts) texts (sound parts is.template) is.full is.utf8)
+page_reads parts texts bytes is = grind (arith, nat_tests, is_read_as, sound)
 
 -- behind it the tokenizer is where a page begins
 pub page_passes : (parts : List Given) (texts : List (List ℕ)) (bytes : List ℕ) → IsPageOf parts texts bytes → state_after data_state bytes ≡ data_state
@@ -29,19 +29,11 @@ page_passes parts texts bytes is = ap (state_after data_state) (sym (append-nil 
 
 pub same_structure : (parts : List Given) (texts others : List (List ℕ)) (first second : List ℕ) → IsPageOf parts texts first → IsPageOf parts others second →
     structure (actions_of data_state first) ≡ structure (actions_of data_state second)
-same_structure parts texts others first second one two =
-    let is = sound parts one.template in
-    ap (λ bytes. structure (actions_of data_state bytes)) (sym one.whole)
-    ∙ structure_of_page (placed parts) texts is one.full one.utf8
-    ∙ sym (structure_of_page (placed parts) others is two.full two.utf8)
-    ∙ ap (λ bytes. structure (actions_of data_state bytes)) two.whole
+same_structure parts texts others first second one two = grind (arith, nat_tests, sound, structure_of_page)
 
 pub same_tokens : (parts : List Given) (texts others : List (List ℕ)) (first second : List ℕ) → IsPageOf parts texts first → IsPageOf parts others second →
     skeleton (tokens (actions_of data_state first)) ≡ skeleton (tokens (actions_of data_state second))
-same_tokens parts texts others first second one two =
-    ap (λ bytes. skeleton (tokens (actions_of data_state bytes))) (sym one.whole)
-    ∙ skeleton_of_pages (placed parts) texts others (sound parts one.template) one.full one.utf8 two.full two.utf8
-    ∙ ap (λ bytes. skeleton (tokens (actions_of data_state bytes))) two.whole
+same_tokens parts texts others first second one two = grind (arith, nat_tests, skeleton_of_pages, sound)
 
 -- ---- its URLs
 
@@ -50,8 +42,7 @@ parts_have_urls parts is = has_urls parts (placed parts) (placed_told parts is)
 
 pub page_urls : (parts : List Given) (texts : List (List ℕ)) (bytes : List ℕ) → IsPageOf parts texts bytes →
     urls_of bytes ≡ filled_urls (template_urls parts) (url_texts (placed parts) texts)
-page_urls parts texts bytes is =
-    ap urls_of (sym is.whole) ∙ (parts_have_urls parts is.template texts is.full is.utf8).same
+page_urls parts texts bytes is = grind (arith, nat_tests, parts_have_urls)
 
 pub urls_fill : (parts : List Given) (texts : List (List ℕ)) (bytes : List ℕ) → IsPageOf parts texts bytes → FillUrls (template_urls parts) (url_texts (placed parts) texts)
 urls_fill parts texts bytes is = (parts_have_urls parts is.template texts is.full is.utf8).full
@@ -59,7 +50,4 @@ urls_fill parts texts bytes is = (parts_have_urls parts is.template texts is.ful
 -- and those of two pages
 pub same_urls : (parts : List Given) (texts others : List (List ℕ)) (first second : List ℕ) → IsPageOf parts texts first → IsPageOf parts others second →
     AllAlike (first_texts (placed parts) texts) (first_texts (placed parts) others) (urls_of first) (urls_of second)
-same_urls parts texts others first second one two =
-    let any = parts_have_urls parts one.template in
-    rw (← one.whole, ← two.whole)
-    (leads_as_any (placed parts) texts (record { here = any texts one.full one.utf8; any = any }) others two.full two.utf8)
+same_urls parts texts others first second one two = grind (arith, nat_tests, parts_have_urls, leads_as_any)

@@ -1,5 +1,8 @@
 -- The pieces that are told of parts, one after the other.
-use Rattle.std.proofs.Common.{ℕ, ◌≡◌, ◌+◌, ◌<◌, true, false, List, [], ◌∷◌, ◌++◌, map, Ok, Err, Result, length, arith, refl, sym, ap, ◌∙◌, ⊎_elim}
+pub mod FirstPieces
+use Rattle.std.proofs.Common.{ℕ, ◌≡◌, ◌+◌, ◌<◌, true, false, List, [], ◌∷◌, ◌++◌, map, Ok, Err, Result, length, arith, refl, sym, ap, ◌∙◌, inl, inr}
+use Rattle.html_tokenizer.specs.declared.elements.Content.{Content}
+use Rattle.std.proofs.lemmas.Bool.Decides.{nat_tests}
 use Rattle.std.specs.Prelude.{IfErr, OnOk}
 use Rattle.std.proofs.lemmas.Bool.{cases_Bool}
 use Rattle.std.proofs.lemmas.List.{map-append}
@@ -15,17 +18,18 @@ use Rattle.html_template.specs.declared.stored.Stored.{Stored}
 use Rattle.html_template.specs.declared.stored.StoredSlot.{StoredSlot}
 use Rattle.html_template.specs.OpenUrls.{before, url_markup}
 use Rattle.html_template.specs.TemplateFaults.{TakesMore, TakesPart, Told, Walk, at_beginning, behind_markup, behind_slot, faulty_part, next_markup, pieces_from, put, put_all, put_slot, slot_at, template_of, told_behind, told_of}
-use Rattle.html_template.specs.Templates.{Chunk, Markup, Slot, Given, GivenMarkup, GivenSlot, after_slot, chunk_of, given, part_of, state_after_all}
-use Rattle.html_tokenizer.specs.Standing.{is_refused, may_end, standing}
-use Rattle.html_tokenizer.specs.Tokenizer.States.{Tokenizer, data_state}
+use Rattle.html_template.specs.Templates.{Chunk, Markup, Slot, Given, GivenMarkup, GivenSlot, chunk_of, given, part_of, state_after_all}
+use Rattle.html_tokenizer.specs.Standing.{is_refused, may_end, standing, may_end_in}
+use Rattle.html_tokenizer.specs.Tokenizer.States.{data_state, Attribute, State, Tokenizer, at_value}
 use Rattle.html_tokenizer.specs.Tokenizer.Tokenization.{state_after}
-use Rattle.html_template.proofs.MayEnd.{ends_in_data}
 
-pub state_after_all-append : (t : Tokenizer) (first second : List Chunk) →
-    state_after_all t (first ++ second) ≡ state_after_all (state_after_all t first) second
-state_after_all-append t [] second = refl
-state_after_all-append t (Markup bytes ∷ first) second = state_after_all-append (state_after t bytes) first second
-state_after_all-append t (Slot p kind ∷ first) second = state_after_all-append (after_slot p kind t) first second
+-- a page may end in the data state alone
+ends_there : (state : State) (content : Content) (attribute : Attribute) → may_end_in state content attribute ≡ true →
+    at_value state content attribute ≡ data_state
+ends_there state content attribute is = grind (arith, nat_tests)
+
+pub ends_in_data : (t : Tokenizer) → may_end t ≡ true → t ≡ data_state
+ends_in_data t is = ends_there t.state t.content t.attribute is
 
 -- ---- pieces before those that are told
 
@@ -45,10 +49,7 @@ put_all-fault (c ∷ chunks) fault = ap (put c) (put_all-fault chunks fault)
 piece_more : (pieces : List Stored) (p : Stored) (chunk : Chunk) (number : ℕ) (old new : Walk) (part : Given) (parts : List Given) → chunk_of p ≡ chunk →
     pieces_from number old (part ∷ parts) ≡ put chunk (pieces_from (number + 1) new parts) →
     told_behind (map chunk_of pieces) number old (part ∷ parts) ≡ told_behind (map chunk_of (pieces ++ p ∷ [])) (number + 1) new parts
-piece_more pieces p chunk number old new part parts is takes =
-    ap (put_all (map chunk_of pieces)) (takes ∙ ap (λ c. put c (pieces_from (number + 1) new parts)) (sym is))
-    ∙ sym (put_all-more (map chunk_of pieces) (chunk_of p) (pieces_from (number + 1) new parts))
-    ∙ sym (ap (λ chunks. put_all chunks (pieces_from (number + 1) new parts)) (map-append chunk_of pieces (p ∷ [])))
+piece_more pieces p chunk number old new part parts is takes = grind (arith, nat_tests, map, put_all-more, map-append)
 
 -- a stored slot is the one that was told
 pub slot_chunk : (s : StoredSlot) (slot : PlacedSlot) → s.place ≡ slot.place → s.kind ≡ slot.kind →
@@ -60,11 +61,7 @@ pub pushed_more : {T : Type 0} (chunk : T → Chunk) (taken : T) (pieces new_pie
     (parts : List Given) (result : Result (Unit {0}) TemplateFault) → same ≡ part → chunk_of p ≡ chunk taken → TakesPart {T = T} chunk number old part parts new (Ok taken) →
     OnOk result (new_pieces ≡ pieces ++ p ∷ []) → IfErr result (λ fault. fault ≡ Memory) →
     TakesMore number (map chunk_of pieces) old same parts (map chunk_of new_pieces) new result
-pushed_more chunk taken pieces new_pieces p number old new part same parts (Ok done) given is takes pushed memory =
-    ap (λ x. told_behind (map chunk_of pieces) number old (x ∷ parts)) given
-    ∙ piece_more pieces p (chunk taken) number old new part parts is takes
-    ∙ ap (λ all. told_behind (map chunk_of all) (number + 1) new parts) (sym pushed)
-pushed_more chunk taken pieces new_pieces p number old new part same parts (Err fault) given is takes pushed memory = rw memory tt
+pushed_more chunk taken pieces new_pieces p number old new part same parts result given is takes pushed memory = grind (arith, nat_tests, map, piece_more)
 
 fault_told : (chunks : List Chunk) (fault : TemplateFault) (told : Told) → told ≡ Err fault → put_all chunks told ≡ Err fault
 fault_told chunks fault told is = ap (put_all chunks) is ∙ put_all-fault chunks fault
@@ -82,9 +79,7 @@ fault_here pieces number walk part same parts fault is takes =
 pub fault_more : {T : Type 0} (chunk : T → Chunk) (pieces : List Stored) (number : ℕ) (old new : Walk) (part same : Given) (parts : List Given)
     (new_chunks : List Chunk) (fault : TemplateFault) → same ≡ part → TakesPart {T = T} chunk number old part parts new (Err fault) →
     TakesMore {T = Unit {0}} number (map chunk_of pieces) old same parts new_chunks new (Err fault)
-fault_more chunk pieces number old new part same parts new_chunks (fault.Part n why) is takes = fault_here pieces number old part same parts (fault.Part n why) is takes
-fault_more chunk pieces number old new part same parts new_chunks Unfinished is takes = fault_here pieces number old part same parts Unfinished is takes
-fault_more chunk pieces number old new part same parts new_chunks Memory is takes = tt
+fault_more chunk pieces number old new part same parts new_chunks fault is takes = grind (arith, nat_tests, fault_here)
 
 -- no part is left, and a template may not end there
 pub unfinished : (pieces : List Stored) (number : ℕ) (walk : Walk) → may_end walk.tokenizer ≡ false →
@@ -105,8 +100,7 @@ pub record IsPut (chunk : Chunk) (told : Told) (chunks : List Chunk) : Type 0 wh
   pub whole : chunks ≡ chunk ∷ rest
 
 put_parts : (chunk : Chunk) (told : Told) (chunks : List Chunk) → put chunk told ≡ Ok chunks → IsPut chunk told chunks
-put_parts chunk (Ok rest) chunks same = record { rest = rest; is = refl; whole = cc }
-put_parts chunk (Err fault) chunks same = absurd (cc)
+put_parts chunk told chunks same = grind (arith, nat_tests)
 
 -- something was found, and then pieces were told
 pub record IsTold {T : Type 0} (found : Result T PartFault) (go_on : T → Told) (chunks : List Chunk) : Type 0 where
@@ -116,8 +110,7 @@ pub record IsTold {T : Type 0} (found : Result T PartFault) (go_on : T → Told)
 
 told_parts : {T : Type 0} (part : PartFault → ℕ) (found : Result T PartFault) (go_on : T → Told) (chunks : List Chunk) →
     told_of part found go_on ≡ Ok chunks → IsTold found go_on chunks
-told_parts part (Ok value) go_on chunks same = record { value = value; is = refl; told = same }
-told_parts part (Err why) go_on chunks same = absurd (cc)
+told_parts part found go_on chunks same = grind (arith, nat_tests)
 
 -- a template may end where no part is left
 pub record IsEnd (walk : Walk) (chunks : List Chunk) : Type 0 where
@@ -125,16 +118,7 @@ pub record IsEnd (walk : Walk) (chunks : List Chunk) : Type 0 where
   pub none : chunks ≡ []
 
 pub at_end : (number : ℕ) (walk : Walk) (chunks : List Chunk) → pieces_from number walk [] ≡ Ok chunks → IsEnd walk chunks
-at_end number walk chunks told =
-    ⊎_elim
-    (λ (may : may_end walk.tokenizer ≡ true).
-    let here : Ok [] ≡ Ok chunks = rw may at told in
-    let none : chunks ≡ [] = cc in
-    record { may = may; none = none })
-    (λ (may_not : may_end walk.tokenizer ≡ false).
-    let here : Err Unfinished ≡ Ok chunks = rw may_not at told in
-    absurd (cc))
-    (cases_Bool (may_end walk.tokenizer))
+at_end number walk chunks told = grind (arith, nat_tests)
 
 -- markup, what it leaves open of a URL, and the pieces behind it
 pub record AtMarkup (number : ℕ) (walk : Walk) (bytes : List ℕ) (parts : List Given) (chunks : List Chunk) : Type 0 where
@@ -148,15 +132,13 @@ pub record AtMarkup (number : ℕ) (walk : Walk) (bytes : List ℕ) (parts : Lis
 pub at_markup : (number : ℕ) (walk : Walk) (bytes : List ℕ) (parts : List Given) (chunks : List Chunk) →
     pieces_from number walk (GivenMarkup bytes ∷ parts) ≡ Ok chunks → AtMarkup number walk bytes parts chunks
 at_markup number walk bytes parts chunks told =
-    ⊎_elim
-    (λ (refused : is_refused (state_after walk.tokenizer bytes).state ≡ true).
-    let here : Err (fault.Part number Malformed) ≡ Ok chunks = rw refused at told in
-    absurd (cc))
-    (λ (read : is_refused (state_after walk.tokenizer bytes).state ≡ false).
-    let found = told_parts (λ why. number) (url_markup walk.url bytes) (λ url. put (Markup bytes) (pieces_from (number + 1) (behind_markup walk bytes url) parts)) chunks (rw read at told) in
-    let others = put_parts (Markup bytes) (pieces_from (number + 1) (behind_markup walk bytes found.value) parts) chunks found.told in
-    record { read = read; url = found.value; opened = found.is; rest = others.rest; told = others.is; whole = others.whole })
-    (cases_Bool (is_refused (state_after walk.tokenizer bytes).state))
+    elim (cases_Bool (is_refused (state_after walk.tokenizer bytes).state)) [
+      | inl refused ↦ let here : Err (fault.Part number Malformed) ≡ Ok chunks = rw refused at told in
+          absurd (cc)
+      | inr read ↦ let found = told_parts (λ why. number) (url_markup walk.url bytes) (λ url. put (Markup bytes) (pieces_from (number + 1) (behind_markup walk bytes url) parts)) chunks (rw read at told) in
+          let others = put_parts (Markup bytes) (pieces_from (number + 1) (behind_markup walk bytes found.value) parts) chunks found.told in
+          record { read = read; url = found.value; opened = found.is; rest = others.rest; told = others.is; whole = others.whole }
+    ]
 
 -- a slot, and the pieces behind it
 pub record AtSlot (number : ℕ) (walk : Walk) (parts : List Given) (chunks : List Chunk) : Type 0 where

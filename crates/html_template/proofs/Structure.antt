@@ -1,12 +1,11 @@
 -- A page is tokenized as its template, and its structure does not depend on the texts.
-use Rattle.std.proofs.Common.{ℕ, ◌≡◌, false, List, [], ◌∷◌, ◌++◌, map, IsUtf8, refl, sym, ap, ◌∙◌}
+use Rattle.std.proofs.Common.{ℕ, ◌≡◌, false, List, [], ◌∷◌, ◌++◌, map, IsUtf8, refl, sym, ap, ◌∙◌, arith}
+use Rattle.std.proofs.lemmas.Bool.Decides.{nat_tests}
 use Rattle.std.specs.List.{AllByRecursion}
 use Rattle.std.proofs.lemmas.List.Elements.{filter-append}
 use Rattle.html_template.specs.declared.parts.SlotKind.{SlotKind}
-use Rattle.html_template.specs.declared.parts.SlotKind.TheVariants as kind
 use Rattle.html_tokenizer.specs.declared.slot_place.SlotPlace.{SlotPlace}
-use Rattle.html_tokenizer.specs.declared.slot_place.SlotPlace.TheVariants.{Text, DoubleQuoted, SingleQuoted, Unquoted, ScriptSingle, ScriptDouble, StyleSingle, StyleDouble}
-use Rattle.html_tokenizer.specs.Tokenizer.Actions.{Action, StringEnd, StringStart, read_byte}
+use Rattle.html_tokenizer.specs.Tokenizer.Actions.{Action, read_byte}
 use Rattle.html_tokenizer.specs.Tokenizer.States.{Tokenizer, data_state}
 use Rattle.html_template.specs.Structure.{is_structure, structure, IsReadAs}
 use Rattle.html_template.specs.Templates.{Chunk, Markup, Slot, Fill, after_slot, handed, page, actions_all, slot_actions, state_after_all}
@@ -18,23 +17,14 @@ structure-append : (first second : List Action) → structure (first ++ second) 
 structure-append first second = filter-append is_structure first second
 
 no_structure : (p : SlotPlace) (b : ℕ) → is_structure (read_byte p b) ≡ false
-no_structure Text b = refl
-no_structure DoubleQuoted b = refl
-no_structure SingleQuoted b = refl
-no_structure Unquoted b = refl
-no_structure ScriptSingle b = refl
-no_structure ScriptDouble b = refl
-no_structure StyleSingle b = refl
-no_structure StyleDouble b = refl
+no_structure p b = grind (arith, nat_tests)
 
 structure-text : (p : SlotPlace) (text : List ℕ) → structure (map (read_byte p) text) ≡ []
 structure-text p [] = refl
 structure-text p (b ∷ text) = rw (no_structure p b) (structure-text p text)
 
 structure-slot : (kind : SlotKind) (read : List Action) → structure read ≡ [] → structure (slot_actions kind read) ≡ structure (slot_actions kind [])
-structure-slot kind.Literal read none =
-    ap (λ x. StringStart ∷ x) (structure-append read (StringEnd ∷ []) ∙ ap (λ x. x ++ structure (StringEnd ∷ [])) none)
-structure-slot other read none = none
+structure-slot kind read none = grind (arith, nat_tests, structure-append)
 
 -- the structure of a template with any texts is that with none
 structure_alone : (chunks : List Chunk) (t : Tokenizer) (texts : List (List ℕ)) →
@@ -60,12 +50,4 @@ structure_of_page chunks texts sound full utf8 =
 
 pub is_read_as : (chunks : List Chunk) (texts : List (List ℕ)) → state_after_all data_state chunks ≡ data_state →
     Fill chunks texts → AllByRecursion IsUtf8 texts → IsReadAs chunks texts (page chunks texts)
-is_read_as chunks texts sound full utf8 =
-    let passes = pieces_pass chunks data_state texts sound full utf8 in
-    let p : List ℕ = page chunks texts in
-    record {
-      actions = λ rest. actions_of-append data_state p rest
-          ∙ ap (λ x. x ++ actions_of (state_after data_state p) rest) passes.actions
-          ∙ ap (λ x. actions_all data_state chunks texts ++ actions_of x rest) passes.after;
-      ends = λ rest. state_after-append data_state p rest ∙ ap (λ x. state_after x rest) passes.after;
-    }
+is_read_as chunks texts sound full utf8 = grind (arith, nat_tests, pieces_pass, actions_of-append, state_after-append)

@@ -1,7 +1,8 @@
 -- The law of templates: piece by piece.
-use Rattle.std.proofs.Common.{ℕ, ◌≡◌, Bool, true, false, if◌then◌else◌, List, [], ◌∷◌, IsUtf8, map, refl, sym, ap, ◌∙◌, ⊎_elim}
+use Rattle.std.proofs.Common.{ℕ, ◌≡◌, Bool, true, false, if◌then◌else◌, List, [], ◌∷◌, IsUtf8, map, refl, sym, ap, ◌∙◌, arith, inl, inr}
+use Rattle.std.proofs.lemmas.Bool.Decides.{nat_tests}
 use Rattle.std.specs.List.{AllByRecursion}
-use Rattle.std.proofs.lemmas.Bool.{and_parts, cases_Bool, true≢false}
+use Rattle.std.proofs.lemmas.Bool.{and_parts, cases_Bool}
 use Rattle.html_escape.specs.Encoders.{encoded}
 use Rattle.hesc_places.specs.Places.ReadBack.{read_back}
 use Rattle.html_tokenizer.specs.declared.slot_place.SlotPlace.{SlotPlace}
@@ -10,15 +11,13 @@ use Rattle.html_tokenizer.specs.declared.states.Code.{Code}
 use Rattle.html_tokenizer.specs.declared.states.Code.TheVariants.{Plain}
 use Rattle.html_tokenizer.specs.declared.elements.Content.{Content}
 use Rattle.html_tokenizer.specs.declared.elements.OpenElement.{OpenElement}
-use Rattle.html_tokenizer.specs.declared.elements.OpenElement.TheVariants.{NoScript}
 use Rattle.html_tokenizer.specs.Tokenizer.Actions.{read_byte}
 use Rattle.html_tokenizer.specs.Tokenizer.Code.{is_script}
-use Rattle.html_tokenizer.specs.Tokenizer.Code.Escapes.{is_opaque}
 use Rattle.html_tokenizer.specs.Tokenizer.States as state
 use Rattle.html_tokenizer.specs.Tokenizer.States.{State, Attribute, Ordinary, Url, Tokenizer, In, BeforeValue, Refused, InCode, at, at_value, refused, data_state}
 use Rattle.html_tokenizer.specs.declared.reader.Standing.{Standing}
-use Rattle.html_tokenizer.specs.declared.reader.Standing.TheVariants.{Barred, InLink, InScript, InUrl, Nowhere, Stands}
-use Rattle.html_tokenizer.specs.Standing.{in_code, in_content, is_same, takes_literal, unless_forbidden, standing_in, standing}
+use Rattle.html_tokenizer.specs.declared.reader.Standing.TheVariants.{Barred, InLink, InUrl, Nowhere, Stands}
+use Rattle.html_tokenizer.specs.Standing.{in_code, in_content, is_same, unless_forbidden, standing_in, standing}
 use Rattle.html_tokenizer.specs.UrlValues.{is_url}
 use Rattle.html_template.specs.declared.parts.SlotKind.{SlotKind}
 use Rattle.html_template.specs.declared.parts.SlotKind.TheVariants.{Text, UrlPart, Link, OwnPath, Base, OwnBase, Literal}
@@ -47,55 +46,20 @@ abbrev is_literal : SlotKind → Bool
 is_literal Literal = true
 is_literal other = false
 
-no_place : (kind : SlotKind) (p : SlotPlace) (opaque literal : Bool) → is_literal kind ≡ false →
-    suits kind p (if opaque then Barred else (if literal then InScript else Nowhere)) ≡ false
-no_place Literal p opaque literal no_literal = absurd (true≢false no_literal)
-no_place Text p true literal no_literal = refl
-no_place Text p false true no_literal = refl
-no_place Text p false false no_literal = refl
-no_place (UrlPart slot) p true literal no_literal = refl
-no_place (UrlPart slot) p false true no_literal = refl
-no_place (UrlPart slot) p false false no_literal = refl
-no_place Link p true literal no_literal = refl
-no_place Link p false true no_literal = refl
-no_place Link p false false no_literal = refl
-no_place OwnPath p true literal no_literal = refl
-no_place OwnPath p false true no_literal = refl
-no_place OwnPath p false false no_literal = refl
-no_place (Base behind) p true literal no_literal = refl
-no_place (Base behind) p false true no_literal = refl
-no_place (Base behind) p false false no_literal = refl
-no_place (OwnBase behind) p true literal no_literal = refl
-no_place (OwnBase behind) p false true no_literal = refl
-no_place (OwnBase behind) p false false no_literal = refl
-
 no_code : (kind : SlotKind) (p : SlotPlace) (code : Code) (content : Content) (attribute : Attribute) → is_literal kind ≡ false →
     suits kind p (in_code code content attribute) ≡ true → ⊥
-no_code kind p code content attribute no_literal may =
-    no (sym (no_place kind p (is_opaque code) (takes_literal code content attribute) no_literal) ∙ may)
+no_code kind p code content attribute no_literal may = grind (arith, nat_tests)
 
 in_any : (kind : SlotKind) (p : SlotPlace) (element : OpenElement) (standing : Standing) →
     suits kind p (in_content element standing) ≡ true → suits kind p standing ≡ true
-in_any Text p NoScript standing may = absurd (no may)
-in_any (UrlPart slot) p NoScript standing may = absurd (no may)
-in_any Link p NoScript standing may = absurd (no may)
-in_any OwnPath p NoScript standing may = absurd (no may)
-in_any (Base behind) p NoScript standing may = absurd (no may)
-in_any (OwnBase behind) p NoScript standing may = absurd (no may)
-in_any Literal p NoScript standing may = absurd (no may)
-in_any kind p other standing may = may
+in_any kind p element standing may = grind (arith, nat_tests)
 
 -- ---- a slot for a text
 
 -- it stands in no attribute but an ordinary one
 pub slot_ordinary : (p : SlotPlace) (state : State) (content : Content) (attribute : Attribute) →
     suits Text p (standing_in state content attribute) ≡ true → attribute ≡ Ordinary
-slot_ordinary p (In q) content Ordinary may = refl
-slot_ordinary p (In q) content other may = absurd (no (in_any Text p content.element (unless_forbidden other q) may))
-slot_ordinary p BeforeValue content Ordinary may = refl
-slot_ordinary p BeforeValue content other may = absurd (no may)
-slot_ordinary p (InCode code) content attribute may = absurd (no_code Text p code content attribute refl may)
-slot_ordinary p elsewhere content attribute may = absurd (no may)
+slot_ordinary p state content attribute may = grind (arith, nat_tests)
 
 -- where a slot stands, in any content
 abbrev at_place : State → Content → Standing
@@ -103,8 +67,7 @@ at_place (In q) content = Stands q
 at_place other content = standing_in other content Ordinary
 
 stands_at_place : (p : SlotPlace) (state : State) (content : Content) → suits Text p (standing_in state content Ordinary) ≡ true → suits Text p (at_place state content) ≡ true
-stands_at_place p (In q) content may = in_any Text p content.element (Stands q) may
-stands_at_place p other content may = may
+stands_at_place p state content may = grind (arith, nat_tests)
 
 -- what the encoder writes for a text in a slot leads to the state after the slot, and is read as the text
 ordinary_passes : (p : SlotPlace) (state : State) (content : Content) (text : List ℕ) →
@@ -178,15 +141,12 @@ own_in_url p elsewhere content attribute may = absurd (no may)
 
 pub whole_in_url : (is_followed : Bool) (p : SlotPlace) (state : State) (content : Content) (attribute : Attribute) →
     suits (whole_kind is_followed) p (standing_in state content attribute) ≡ true → IsInQuotes p state attribute
-whole_in_url true p state content attribute may = link_in_url p state content attribute may
-whole_in_url false p state content attribute may = own_in_url p state content attribute may
+whole_in_url is_followed p state content attribute may = grind (arith, nat_tests, link_in_url, own_in_url)
 
 -- also as a base
 pub base_in_url : (is_followed : Bool) (behind : BehindBase) (p : SlotPlace) (state : State) (content : Content) (attribute : Attribute) →
     suits (base_kind behind (whole_kind is_followed)) p (standing_in state content attribute) ≡ true → IsInQuotes p state attribute
-base_in_url is_followed behind p state content attribute may =
-    whole_in_url is_followed p state content attribute
-    (sym (base_stands behind (whole_kind is_followed) p (standing_in state content attribute)) ∙ may)
+base_in_url is_followed behind p state content attribute may = grind (arith, nat_tests, whole_in_url, base_stands)
 
 url_remains_so : (attribute : Attribute) → is_url attribute ≡ true → Remains attribute
 url_remains_so attribute url = record { bytes = λ b. byte_settled attribute b url; references = reference_settled attribute url }
@@ -209,34 +169,12 @@ pub record IsInScript (p : SlotPlace) (state : State) (content : Content) (attri
   pub script : is_script content.element ≡ true
   pub attribute_is : attribute ≡ Ordinary
 
-in_plain_code : (p : SlotPlace) (content : Content) → suits Literal p (in_code Plain content Ordinary) ≡ true → IsInScript p (InCode Plain) content Ordinary
-in_plain_code p content may =
-    ⊎_elim
-    (λ (script : is_script content.element ≡ true).
-    record { place_is = same_place p place.ScriptDouble (rw script at may); state_is = refl; script = script; attribute_is = refl })
-    (λ (other : is_script content.element ≡ false). absurd (no (rw other at may)))
-    (cases_Bool (is_script content.element))
-
 no_literal : (p : SlotPlace) (opaque : Bool) → suits Literal p (if opaque then Barred else Nowhere) ≡ true → ⊥
-no_literal p true may = no may
-no_literal p false may = no may
-
-no_literal_in_value : (p q : SlotPlace) (attribute : Attribute) → suits Literal p (unless_forbidden attribute q) ≡ true → ⊥
-no_literal_in_value p q Ordinary may = no may
-no_literal_in_value p q Url may = no may
-no_literal_in_value p q state.Link may = no may
-no_literal_in_value p q other may = no may
+no_literal p opaque may = grind (arith, nat_tests)
 
 pub literal_in_script : (p : SlotPlace) (state : State) (content : Content) (attribute : Attribute) →
     suits Literal p (standing_in state content attribute) ≡ true → IsInScript p state content attribute
-literal_in_script p (In q) content attribute may =
-    absurd (no_literal_in_value p q attribute (in_any Literal p content.element (unless_forbidden attribute q) may))
-literal_in_script p BeforeValue content Ordinary may = absurd (no may)
-literal_in_script p BeforeValue content other may = absurd (no may)
-literal_in_script p (InCode Plain) content Ordinary may = in_plain_code p content may
-literal_in_script p (InCode Plain) content other may = absurd (no may)
-literal_in_script p (InCode code) content attribute may = absurd (no_literal p (is_opaque code) may)
-literal_in_script p elsewhere content attribute may = absurd (no may)
+literal_in_script p state content attribute may = grind (arith, nat_tests)
 
 -- ---- a slot of any kind
 
@@ -284,10 +222,7 @@ apart is = let states : Refused ≡ In place.Text = ap (λ (t : Tokenizer). t.st
 pub slot_suits : (p : SlotPlace) (kind : SlotKind) (t : Tokenizer) (chunks : List Chunk) →
     state_after_all (after_slot p kind t) chunks ≡ data_state → suits kind p (standing t) ≡ true
 slot_suits p kind t chunks ends =
-    ⊎_elim
-    (λ (may : suits kind p (standing t) ≡ true). may)
-    (λ (not : suits kind p (standing t) ≡ false). absurd (apart (sym (all_refused chunks) ∙ rw not at ends)))
-    (cases_Bool (suits kind p (standing t)))
+    elim (cases_Bool (suits kind p (standing t))) [ inl may ↦ may | inr not ↦ absurd (apart (sym (all_refused chunks) ∙ rw not at ends)) ]
 
 pub pieces_pass : (chunks : List Chunk) (t : Tokenizer) (texts : List (List ℕ)) → state_after_all t chunks ≡ data_state →
     Fill chunks texts → AllByRecursion IsUtf8 texts → Passes t (page chunks texts) (actions_all t chunks texts) data_state

@@ -1,15 +1,16 @@
 -- The tokens of a page, but for characters and values, are those of its structure.
-use Rattle.std.proofs.Common.{ℕ, ◌≡◌, true, false, List, [], ◌∷◌, ◌++◌, Some, map, IsUtf8, refl, sym, ap, ◌∙◌, ⊎_elim, append-nil}
+use Rattle.std.proofs.Common.{ℕ, ◌≡◌, true, false, List, [], ◌∷◌, ◌++◌, Some, map, IsUtf8, refl, ap, ◌∙◌, append-nil, arith, inl, inr}
+use Rattle.std.proofs.lemmas.Bool.Decides.{nat_tests}
 use Rattle.std.proofs.lemmas.Bool.{cases_Bool}
-use Rattle.std.specs.List.{AllByRecursion, filter}
+use Rattle.std.specs.List.{AllByRecursion}
 use Rattle.std.proofs.lemmas.List.{map-append}
 use Rattle.std.proofs.lemmas.List.Elements.{filter-append}
-use Rattle.html_tokenizer.specs.Tokenizer.Actions.{Action, NewDoctype, SetPublicEmpty, PublicByte, SetSystemEmpty, SystemByte, EmitDoctype, NewComment, CommentByte, EmitComment, EmitByte, NewStartTag, NewEndTag, TagNameByte, NewAttribute, NameByte, ValueByte, SetSelfClosing, EmitTag, CodeByte, StringStart, StringByte, StringEnd}
+use Rattle.html_tokenizer.specs.Tokenizer.Actions.{Action, EmitByte, ValueByte, StringByte}
 use Rattle.html_tokenizer.specs.Tokenizer.States.{data_state}
 use Rattle.html_template.specs.Structure.{is_structure, structure}
 use Rattle.html_template.specs.Templates.{Chunk, Fill, page, state_after_all}
 use Rattle.html_tokenizer.specs.Tokenizer.Tokenization.{actions_of}
-use Rattle.html_tokenizer.specs.Tokens.{Attribute, Doctype, Tag, Token, Building, Comment, DoctypeToken, TagToken, Character, bare, bare_attribute, bare_tag, build, built, emits, is_markup, longer_identifier, longer_name, longer_value, nothing, skeleton, tokens}
+use Rattle.html_tokenizer.specs.Tokens.{Attribute, Doctype, Tag, Token, Building, Character, bare_tag, build, built, emits, longer_identifier, longer_name, nothing, skeleton, tokens}
 use Rattle.html_template.proofs.Structure.{structure_of_page}
 
 -- what is built is the same but for characters and values
@@ -19,44 +20,21 @@ record Alike (s r : Building) : Type 0 where
   tag : bare_tag s.tag ≡ bare_tag r.tag
   comment : s.comment ≡ r.comment
 
-alike_symmetric : {s r : Building} → Alike s r → Alike r s
-alike_symmetric alike = record { emitted = sym alike.emitted; doctype = sym alike.doctype; tag = sym alike.tag; comment = sym alike.comment }
-
 no : true ≡ false → ⊥
 no h = cc
 
 skeleton-append : (first second : List Token) → skeleton (first ++ second) ≡ skeleton first ++ skeleton second
-skeleton-append first second =
-    ap (map bare) (filter-append is_markup first second) ∙ map-append bare (filter is_markup first) (filter is_markup second)
+skeleton-append first second = grind (arith, nat_tests, map, filter-append, map-append)
 
 both_emit : {s r : Building} (x y : Token) → Alike s r → skeleton (x ∷ []) ≡ skeleton (y ∷ []) → Alike (emits x s) (emits y r)
-both_emit {s} {r} x y alike same = record {
-  emitted = skeleton-append s.emitted (x ∷ []) ∙ ap (λ z. z ++ skeleton (x ∷ [])) alike.emitted
-      ∙ ap (λ z. skeleton r.emitted ++ z) same ∙ sym (skeleton-append r.emitted (y ∷ []));
-  doctype = alike.doctype;
-  tag = alike.tag;
-  comment = alike.comment;
-}
-
-bare-longer_name : (b : ℕ) (attributes : List Attribute) → map bare_attribute (longer_name b attributes) ≡ longer_name b (map bare_attribute attributes)
-bare-longer_name b [] = refl
-bare-longer_name b (a ∷ attributes) = refl
-
-bare-longer_value : (b : ℕ) (attributes : List Attribute) → map bare_attribute (longer_value b attributes) ≡ map bare_attribute attributes
-bare-longer_value b [] = refl
-bare-longer_value b (a ∷ attributes) = refl
+both_emit x y alike same = grind (arith, nat_tests, skeleton-append)
 
 with_bare : List Attribute → Tag → Tag
 with_bare attributes t = record t { attributes = attributes }
 
 changed_tag : {s r : Building} (f : Tag → Tag) (g : Tag → Tag) → ((t : Tag) → bare_tag (f t) ≡ g (bare_tag t)) → Alike s r →
     Alike (record s { tag = f s.tag }) (record r { tag = f r.tag })
-changed_tag {s} {r} f g same alike = record {
-  emitted = alike.emitted;
-  doctype = alike.doctype;
-  tag = same s.tag ∙ ap g alike.tag ∙ sym (same r.tag);
-  comment = alike.comment;
-}
+changed_tag f g same alike = grind (arith, nat_tests)
 
 changed_doctype : {s r : Building} (f : Doctype → Doctype) → Alike s r →
     Alike (record s { doctype = f s.doctype }) (record r { doctype = f r.doctype })
@@ -89,38 +67,12 @@ longer b t = record t { attributes = longer_name b t.attributes }
 -- a byte of a value changes nothing
 value_alike : {s r : Building} (b : ℕ) → Alike s r → Alike (built s (ValueByte b)) r
 unfolding with_bare
-value_alike {s} {r} b alike = record {
-  emitted = alike.emitted;
-  doctype = alike.doctype;
-  tag = ap (λ x. with_bare x (bare_tag s.tag)) (bare-longer_value b s.tag.attributes) ∙ alike.tag;
-  comment = alike.comment;
-}
+value_alike b alike = grind (arith, nat_tests)
 
 -- an action, at both
 alike_both : {s r : Building} (action : Action) → Alike s r → Alike (built s action) (built r action)
 unfolding named closing begun longer with_bare with_empty_public with_longer_public with_empty_system with_longer_system
-alike_both NewDoctype alike = record { emitted = alike.emitted; doctype = refl; tag = alike.tag; comment = alike.comment }
-alike_both SetPublicEmpty alike = changed_doctype with_empty_public alike
-alike_both (PublicByte b) alike = changed_doctype (with_longer_public b) alike
-alike_both SetSystemEmpty alike = changed_doctype with_empty_system alike
-alike_both (SystemByte b) alike = changed_doctype (with_longer_system b) alike
-alike_both EmitDoctype alike = both_emit _ _ alike (ap (λ x. DoctypeToken x ∷ []) alike.doctype)
-alike_both NewComment alike = record { emitted = alike.emitted; doctype = alike.doctype; tag = alike.tag; comment = refl }
-alike_both (CommentByte b) alike = record { emitted = alike.emitted; doctype = alike.doctype; tag = alike.tag; comment = ap (λ x. x ++ b ∷ []) alike.comment }
-alike_both EmitComment alike = both_emit _ _ alike (ap (λ x. Comment x ∷ []) alike.comment)
-alike_both (EmitByte b) alike = both_emit _ _ alike refl
-alike_both NewStartTag alike = record { emitted = alike.emitted; doctype = alike.doctype; tag = refl; comment = alike.comment }
-alike_both NewEndTag alike = record { emitted = alike.emitted; doctype = alike.doctype; tag = refl; comment = alike.comment }
-alike_both (TagNameByte b) alike = changed_tag (named b) (named b) (λ t. refl) alike
-alike_both NewAttribute alike = changed_tag begun begun (λ t. refl) alike
-alike_both (NameByte b) alike = changed_tag (longer b) (longer b) (λ t. ap (λ x. with_bare x (bare_tag t)) (bare-longer_name b t.attributes)) alike
-alike_both (ValueByte b) alike = alike_symmetric (value_alike b (alike_symmetric (value_alike b alike)))
-alike_both SetSelfClosing alike = changed_tag closing closing (λ t. refl) alike
-alike_both EmitTag alike = both_emit _ _ alike (ap (λ x. TagToken x ∷ []) alike.tag)
-alike_both (CodeByte b) alike = both_emit _ _ alike refl
-alike_both StringStart alike = record { emitted = alike.emitted; doctype = alike.doctype; tag = alike.tag; comment = alike.comment }
-alike_both (StringByte b) alike = record { emitted = alike.emitted; doctype = alike.doctype; tag = alike.tag; comment = alike.comment }
-alike_both StringEnd alike = both_emit _ _ alike refl
+alike_both action alike = grind (arith, nat_tests, changed_doctype, with_empty_public, with_longer_public, with_empty_system, with_longer_system, both_emit, changed_tag, named)
 
 -- an action that is not of the structure changes nothing
 alike_values : {s r : Building} (action : Action) → is_structure action ≡ false → Alike s r → Alike (built s action) r
@@ -137,10 +89,7 @@ alike_values other value alike = absurd (no value)
 alike_all : (actions : List Action) {s r : Building} → Alike s r → Alike (build s actions) (build r (structure actions))
 alike_all [] alike = alike
 alike_all (action ∷ actions) alike =
-    ⊎_elim
-    (λ (is : is_structure action ≡ true). rw is (alike_all actions (alike_both action alike)))
-    (λ (value : is_structure action ≡ false). rw value (alike_all actions (alike_values action value alike)))
-    (cases_Bool (is_structure action))
+    elim (cases_Bool (is_structure action)) [ inl is ↦ rw is (alike_all actions (alike_both action alike)) | inr value ↦ rw value (alike_all actions (alike_values action value alike)) ]
 
 skeleton-structure : (actions : List Action) → skeleton (tokens actions) ≡ skeleton (tokens (structure actions))
 skeleton-structure actions = (alike_all actions {s = nothing} {r = nothing} (record { emitted = refl; doctype = refl; tag = refl; comment = refl })).emitted
@@ -148,7 +97,4 @@ skeleton-structure actions = (alike_all actions {s = nothing} {r = nothing} (rec
 pub skeleton_of_pages : (chunks : List Chunk) (texts others : List (List ℕ)) → state_after_all data_state chunks ≡ data_state →
     Fill chunks texts → AllByRecursion IsUtf8 texts → Fill chunks others → AllByRecursion IsUtf8 others →
     skeleton (tokens (actions_of data_state (page chunks texts))) ≡ skeleton (tokens (actions_of data_state (page chunks others)))
-skeleton_of_pages chunks texts others sound full utf8 others_full others_utf8 =
-    skeleton-structure (actions_of data_state (page chunks texts))
-    ∙ ap (λ x. skeleton (tokens x)) (structure_of_page chunks texts sound full utf8 ∙ sym (structure_of_page chunks others sound others_full others_utf8))
-    ∙ sym (skeleton-structure (actions_of data_state (page chunks others)))
+skeleton_of_pages chunks texts others sound full utf8 others_full others_utf8 = grind (arith, nat_tests, skeleton-structure, structure_of_page)

@@ -1,38 +1,27 @@
 -- The running walk at a slot.
 use Rattle.std.proofs.Common.{ℕ, ◌≡◌, ◌≤◌, ◌+◌, Bool, true, false, List, [], ◌∷◌, Option, Some, None, Result, Ok, length, arith, refl, sym, ap, subst, ◌∙◌}
+use Rattle.std.proofs.lemmas.Bool.Decides.{nat_tests}
 use Rattle.html_template.specs.declared.faults.PartFault.{PartFault}
 use Rattle.html_template.specs.declared.open_url.OpenUrl.{OpenUrl}
 use Rattle.html_template.specs.declared.open_url.OpenUrl.TheVariants.{Outside, Within, Whole, Front}
 use Rattle.html_template.specs.declared.open_url.PlacedSlot.{PlacedSlot}
-use Rattle.html_template.specs.OpenUrls.{at_open, before, begun, behind_front, behind_text, first_slot, in_part, plain_text, url_slot, whole_slot}
+use Rattle.html_template.specs.OpenUrls.{before, begun, behind_front, behind_text, first_slot, in_part, plain_text, url_slot, whole_slot}
 use Rattle.html_template.specs.Slots.{after_slot, base_kind, past_slot, suits}
 use Rattle.html_template.specs.TemplateFaults.{Walk, next_markup, pieces_from, put_slot, slot_at}
 use Rattle.html_template.specs.declared.parts.SlotKind.{SlotKind}
-use Rattle.html_template.specs.declared.parts.SlotKind.TheVariants as kind
 use Rattle.html_template.specs.Templates.{Given, GivenSlot}
 use Rattle.html_tokenizer.specs.declared.reader.Standing.{Standing}
 use Rattle.html_tokenizer.specs.declared.reader.Standing.TheVariants.{Stands, InUrl, InLink, InScript, Nowhere, Barred}
 use Rattle.html_tokenizer.specs.declared.slot_place.SlotPlace.{SlotPlace}
-use Rattle.html_tokenizer.specs.declared.slot_place.SlotPlace.TheVariants as place
 use Rattle.html_tokenizer.specs.Standing.{AfterStanding, is_same, standing, state_after_slot, stands}
 use Rattle.html_tokenizer.specs.Tokenizer.States.{In, Tokenizer, at_value}
 use Rattle.html_tokenizer.specs.UrlValues.{after_last, begins_value}
 use Rattle.html_urls.specs.OpenParts as parts
 use Rattle.html_urls.specs.declared.base.BehindBase.{BehindBase}
-use Rattle.html_urls.specs.declared.base.BehindBase.TheVariants.{Slash, Tail, Segment}
 use Rattle.html_urls.specs.declared.open_part.OpenPart.{OpenPart}
-use Rattle.html_urls.specs.declared.open_part.OpenPart.TheVariants.{NewSegment}
-use Rattle.html_urls.specs.declared.parts.UrlSlot.{UrlSlot}
 
 pub same_itself : (p : SlotPlace) → is_same p p ≡ true
-same_itself place.Text = refl
-same_itself place.DoubleQuoted = refl
-same_itself place.SingleQuoted = refl
-same_itself place.Unquoted = refl
-same_itself place.ScriptSingle = refl
-same_itself place.ScriptDouble = refl
-same_itself place.StyleSingle = refl
-same_itself place.StyleDouble = refl
+same_itself p = grind (arith, nat_tests)
 
 abbrev url_standing : Bool → SlotPlace → Standing
 url_standing true p = InLink p
@@ -49,18 +38,9 @@ as_told slot = Ok slot
 pub ok_slot : {first second : PlacedSlot} → as_told first ≡ as_told second → first ≡ second
 ok_slot same = cc
 
-part_suits : (is_followed : Bool) (p : SlotPlace) (part : OpenPart) (found : Option UrlSlot) (slot : PlacedSlot) →
-    at_open p part found ≡ Ok slot → IsInUrl is_followed p slot
-part_suits is_followed p part None slot told = absurd (cc)
-part_suits true p part (Some found) slot told =
-    subst (IsInUrl true p) (ok_slot told) (record { place = refl; suited = same_itself p })
-part_suits false p part (Some found) slot told =
-    subst (IsInUrl false p) (ok_slot told) (record { place = refl; suited = same_itself p })
-
 open_suits : (is_followed : Bool) (p : SlotPlace) (part : Option OpenPart) (slot : PlacedSlot) →
     in_part p part ≡ Ok slot → IsInUrl is_followed p slot
-open_suits is_followed p None slot told = absurd (cc)
-open_suits is_followed p (Some part) slot told = part_suits is_followed p part (parts.slot_at part) slot told
+open_suits is_followed p part slot told = grind (arith, nat_tests)
 
 text_suits : (is_followed : Bool) (p : SlotPlace) (text : Option (List ℕ)) (slot : PlacedSlot) →
     behind_text p text ≡ Ok slot → IsInUrl is_followed p slot
@@ -69,15 +49,7 @@ text_suits is_followed p (Some text) slot told = open_suits is_followed p (parts
 
 whole_suits : (is_followed : Bool) (p : SlotPlace) (slot : PlacedSlot) →
     whole_slot p is_followed ≡ Ok slot → IsInUrl is_followed p slot
-whole_suits true place.DoubleQuoted slot told =
-    subst (IsInUrl true place.DoubleQuoted) (ok_slot told) (record { place = refl; suited = refl })
-whole_suits true place.SingleQuoted slot told =
-    subst (IsInUrl true place.SingleQuoted) (ok_slot told) (record { place = refl; suited = refl })
-whole_suits false place.DoubleQuoted slot told =
-    subst (IsInUrl false place.DoubleQuoted) (ok_slot told) (record { place = refl; suited = refl })
-whole_suits false place.SingleQuoted slot told =
-    subst (IsInUrl false place.SingleQuoted) (ok_slot told) (record { place = refl; suited = refl })
-whole_suits is_followed p slot told = absurd (cc)
+whole_suits is_followed p slot told = grind (arith, nat_tests)
 
 front_suits : (is_followed : Bool) (p : SlotPlace) (markup : Option (List ℕ)) (slot : PlacedSlot) →
     first_slot p is_followed markup ≡ Ok slot → IsInUrl is_followed p slot
@@ -88,14 +60,11 @@ front_suits is_followed p (Some (b ∷ markup)) slot told = text_suits is_follow
 -- where the markup is not empty
 pub some_front : (p : SlotPlace) (is_followed : Bool) (markup : List ℕ) → 1 ≤ length markup →
     first_slot p is_followed (Some markup) ≡ behind_text p (plain_text false markup)
-some_front p is_followed [] some = absurd (omega arith)
-some_front p is_followed (b ∷ markup) some = refl
+some_front p is_followed markup some = grind (arith, nat_tests)
 
 base_suits : (is_followed : Bool) (p : SlotPlace) (behind : BehindBase) (slot : PlacedSlot) →
     behind_front p behind ≡ Ok slot → IsInUrl is_followed p slot
-base_suits is_followed p Segment slot told = open_suits is_followed p (Some NewSegment) slot told
-base_suits is_followed p Slash slot told = absurd (cc)
-base_suits is_followed p Tail slot told = absurd (cc)
+base_suits is_followed p behind slot told = grind (arith, nat_tests)
 
 url_suits : (is_followed : Bool) (p : SlotPlace) (markup : List ℕ) (url : OpenUrl) (slot : PlacedSlot) →
     url_slot p is_followed markup url ≡ Ok slot → IsInUrl is_followed p slot
@@ -114,16 +83,10 @@ pub record IsSuited (s : Standing) (slot : PlacedSlot) : Type 0 where
   pub stood : in_script s ≡ false → stands slot.place s ≡ true
 
 in_url_suited : (p : SlotPlace) (slot : PlacedSlot) → IsInUrl false p slot → IsSuited (InUrl p) slot
-in_url_suited p slot is = record {
-  suited = ap (λ q. suits slot.kind q (InUrl p)) is.place ∙ is.suited;
-  stood = λ outside. ap (λ q. is_same q p) is.place ∙ same_itself p;
-}
+in_url_suited p slot is = grind (arith, nat_tests)
 
 in_link_suited : (p : SlotPlace) (slot : PlacedSlot) → IsInUrl true p slot → IsSuited (InLink p) slot
-in_link_suited p slot is = record {
-  suited = ap (λ q. suits slot.kind q (InLink p)) is.place ∙ is.suited;
-  stood = λ outside. ap (λ q. is_same q p) is.place ∙ same_itself p;
-}
+in_link_suited p slot is = grind (arith, nat_tests)
 
 pub slot_suits : (markup : List ℕ) (url : OpenUrl) (s : Standing) (slot : PlacedSlot) →
     slot_at markup url s ≡ Ok slot → IsSuited s slot
@@ -138,75 +101,28 @@ slot_suits markup url Nowhere slot told = absurd (cc)
 
 -- as a base it stands where it stood
 pub base_stands : (behind : BehindBase) (k : SlotKind) (p : SlotPlace) (s : Standing) → suits (base_kind behind k) p s ≡ suits k p s
-base_stands behind kind.Text p s = refl
-base_stands behind (kind.UrlPart slot) p s = refl
-base_stands behind kind.Link p (Stands q) = refl
-base_stands behind kind.Link p (InUrl q) = refl
-base_stands behind kind.Link p (InLink q) = refl
-base_stands behind kind.Link p InScript = refl
-base_stands behind kind.Link p Barred = refl
-base_stands behind kind.Link p Nowhere = refl
-base_stands behind kind.OwnPath p (Stands q) = refl
-base_stands behind kind.OwnPath p (InUrl q) = refl
-base_stands behind kind.OwnPath p (InLink q) = refl
-base_stands behind kind.OwnPath p InScript = refl
-base_stands behind kind.OwnPath p Barred = refl
-base_stands behind kind.OwnPath p Nowhere = refl
-base_stands behind (kind.Base other) p s = refl
-base_stands behind (kind.OwnBase other) p s = refl
-base_stands behind kind.Literal p s = refl
+base_stands behind k p s = grind (arith, nat_tests)
 
 pub past_base : (behind : BehindBase) (kind : SlotKind) (p : SlotPlace) (t : Tokenizer) → past_slot p kind t ≡ past_slot p (base_kind behind kind) t
-past_base behind kind.Text p t = refl
-past_base behind (kind.UrlPart slot) p t = refl
-past_base behind kind.Link p t = refl
-past_base behind kind.OwnPath p t = refl
-past_base behind (kind.Base other) p t = refl
-past_base behind (kind.OwnBase other) p t = refl
-past_base behind kind.Literal p t = refl
+past_base behind kind p t = grind (arith, nat_tests)
 
 begun_suits : (s : Standing) (slot : PlacedSlot) (url : OpenUrl) (following : Option BehindBase) → IsSuited s slot → IsSuited s (begun slot url following)
-begun_suits s slot (Whole p) (Some behind) is =
-    record { suited = base_stands behind slot.kind slot.place s ∙ is.suited; stood = is.stood }
-begun_suits s slot (Whole p) None is = is
-begun_suits s slot Outside following is = is
-begun_suits s slot (Within p part) following is = is
-begun_suits s slot (Front p behind) following is = is
+begun_suits s slot url following is = grind (arith, nat_tests)
 
 pub before_suits : (next markup : List ℕ) (url : OpenUrl) (s : Standing) (slot : PlacedSlot) →
     slot_at markup url s ≡ Ok slot → IsSuited s (before next slot)
 before_suits next markup url s slot told = begun_suits s slot slot.url _ (slot_suits markup url s slot told)
 
 pub same_place : (p q : SlotPlace) → is_same p q ≡ true → p ≡ q
-same_place place.Text place.Text is = refl
-same_place place.DoubleQuoted place.DoubleQuoted is = refl
-same_place place.SingleQuoted place.SingleQuoted is = refl
-same_place place.Unquoted place.Unquoted is = refl
-same_place place.ScriptSingle place.ScriptSingle is = refl
-same_place place.ScriptDouble place.ScriptDouble is = refl
-same_place place.StyleSingle place.StyleSingle is = refl
-same_place place.StyleDouble place.StyleDouble is = refl
-same_place p q is = absurd (cc)
+same_place p q is = grind (arith, nat_tests)
 
 placed_at : (s : Standing) (p : SlotPlace) (old new : Tokenizer) → stands p s ≡ true → AfterStanding s old new → new ≡ state_after_slot p old
-placed_at (Stands q) p old new stood after = after ∙ ap (λ p. state_after_slot p old) (sym (same_place p q stood))
-placed_at (InUrl q) p old new stood after = after ∙ ap (λ p. state_after_slot p old) (sym (same_place p q stood))
-placed_at (InLink q) p old new stood after = after ∙ ap (λ p. state_after_slot p old) (sym (same_place p q stood))
-placed_at InScript p old new stood after = absurd (cc)
-placed_at Barred p old new stood after = absurd (cc)
-placed_at Nowhere p old new stood after = absurd (cc)
+placed_at s p old new stood after = grind (arith, nat_tests)
 
 -- a slot that stands in its place is no string literal
 past_in_place : (kind : SlotKind) (p : SlotPlace) (s : Standing) (t : Tokenizer) → suits kind p s ≡ true → stands p s ≡ true →
     past_slot p kind t ≡ at_value (In p) t.content t.attribute
-past_in_place kind.Text p s t suited stood = refl
-past_in_place (kind.UrlPart slot) p s t suited stood = refl
-past_in_place kind.Link p s t suited stood = refl
-past_in_place kind.OwnPath p s t suited stood = refl
-past_in_place (kind.Base behind) p s t suited stood = refl
-past_in_place (kind.OwnBase behind) p s t suited stood = refl
-past_in_place kind.Literal p InScript t suited stood = absurd (cc)
-past_in_place kind.Literal p other t suited stood = absurd (cc)
+past_in_place kind p s t suited stood = grind (arith, nat_tests)
 
 -- the tokenizer goes on behind it as the definition says
 pub same_after_slot : (next markup : List ℕ) (url : OpenUrl) (s : Standing) (slot : PlacedSlot) (old new : Tokenizer) →
@@ -228,7 +144,4 @@ pub taken_slot : (number : ℕ) (walk : Walk) (markup : List ℕ) (s : Standing)
     slot_at markup walk.url s ≡ Ok slot → markup ≡ walk.markup → s ≡ standing walk.tokenizer → AfterStanding s walk.tokenizer new → next_markup parts ≡ next →
     pieces_from number walk (GivenSlot ∷ parts)
     ≡ put_slot (before next slot) (pieces_from (number + 1) (record { tokenizer = new; markup = []; url = (before next slot).url }) parts)
-taken_slot number walk markup s slot new next parts told same_markup same after follows =
-    let here : slot_at walk.markup walk.url (standing walk.tokenizer) ≡ Ok slot = rw (same_markup, same) at told in
-    let there = same_after_slot next walk.markup walk.url s slot walk.tokenizer new (rw same_markup at told) same after in
-    rw (here, follows, there) refl
+taken_slot number walk markup s slot new next parts told same_markup same after follows = grind (arith, nat_tests, same_after_slot)

@@ -7,7 +7,6 @@ pub mod TemplateFaults
 pub mod FillFaults
 pub mod Structure
 pub mod TemplatePieces
-pub mod Walks
 pub mod PageUrls
 pub mod FilledUrls
 pub mod Writing

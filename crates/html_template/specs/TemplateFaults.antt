@@ -5,6 +5,8 @@ use Rattle.html_template.specs.declared.faults.TemplateFault.TheVariants.{Part, 
 use Rattle.html_template.specs.declared.faults.PartFault.{PartFault}
 use Rattle.html_template.specs.declared.faults.PartFault.TheVariants.{Malformed, NoPlace, Forbidden, NotPlain}
 use Rattle.html_template.specs.declared.open_url.OpenUrl.{OpenUrl}
+use Rattle.html_template.specs.declared.walk.Walk.{Walk as Running}
+use Rattle.html_tokenizer.specs.Tokenizer.Phases.{tokenizer_of}
 use Rattle.html_template.specs.declared.open_url.OpenUrl.TheVariants.{Outside}
 use Rattle.html_template.specs.declared.parts.SlotKind.TheVariants as kind
 use Rattle.html_template.specs.declared.open_url.PlacedSlot.{PlacedSlot}
@@ -128,3 +130,8 @@ abbrev pub Answers : {T U : Type 0} → (T → U) → Result U TemplateFault →
 Answers meaning told (Ok found) = told ≡ Ok (meaning found)
 Answers meaning told (Err Memory) = ⊤
 Answers meaning told (Err other) = told ≡ Err other
+
+-- ---- what the running walk read
+
+abbrev pub walk_of : {A : Type 0} → Running A → Walk
+walk_of walk = record { tokenizer = tokenizer_of walk.reader; markup = walk.markup.now; url = walk.url }

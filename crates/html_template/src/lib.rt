@@ -24,7 +24,7 @@ pub use crate::fill::text_fault;
 pub use crate::open_url::{OpenUrl, PlacedSlot, before, url_markup};
 pub use crate::page::{put_markup, put_text};
 pub use crate::parts::{Part, SlotKind};
-pub use crate::stored::{Stored, StoredMarkup, StoredSlot};
+pub use crate::stored::{StoredMarkup, StoredSlot};
 pub use crate::template::Template;
 pub use crate::texts::Texts;
 pub use crate::walk::placed;

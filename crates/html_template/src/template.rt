@@ -7,7 +7,6 @@ ghost use Rattle.hesc_engine.specs.Forms.{Appended, string_room};
 ghost use Rattle.html_template.specs.FillFaults.{AnswersFill, fill_fault, has_checked, slot_count};
 ghost use Rattle.html_tokenizer.specs.Tokenizer.States.{data_state};
 ghost use Rattle.html_template.specs.Structure.{IsPageOf, IsReadAs, JoinsWritten};
-ghost use Rattle.html_template.specs.Walks.{walk_of};
 ghost use Rattle.html_template.specs.Writing.{AnswersWriting};
 ghost use Rattle.html_template.specs.declared.faults.TemplateFault.TheVariants.{Memory};
 ghost use Rattle.html_template.specs.FilledUrls.{HasUrlsOf};
@@ -18,6 +17,7 @@ ghost use Rattle.html_template.specs.TemplateFaults.{
   next_markup,
   placed,
   template_of,
+  walk_of,
 };
 ghost use Rattle.html_template.specs.Templates.{
   Fill,

@@ -6,9 +6,9 @@ ghost use Rattle.html_template.specs.TemplateFaults.{
   faulty_part,
   next_markup,
   slot_at,
+  walk_of,
 };
 ghost use Rattle.html_template.specs.Templates.{Given, GivenMarkup, GivenSlot, Markup, Slot};
-ghost use Rattle.html_template.specs.Walks.{walk_of};
 ghost use Rattle.html_tokenizer.specs.Standing.{may_end};
 
 use crate::faults::{PartFault, TemplateFault};

@@ -1,18 +1,16 @@
 -- The first fault of bindings and slots.
-use Rattle.std.proofs.Common.{ℕ, ◌≡◌, ◌≤◌, ◌+◌, ◌-◌, Bool, List, [], ◌∷◌, Option, Some, None, Ok, Err, Result, inl, inr, length, get_or, take, drop, map, refl, sym, ap, ◌∙◌, bytes_eq, true, false, arith}
-use Rattle.std.proofs.lemmas.Bool.{cases_Bool}
+use Rattle.std.proofs.Common.{ℕ, ◌≡◌, ◌≤◌, ◌+◌, ◌-◌, Bool, List, [], ◌∷◌, Option, Some, None, Err, length, get_or, take, drop, map, refl, sym, ap, ◌∙◌, bytes_eq, true, false, arith}
+use Rattle.std.proofs.lemmas.Bool.Decides.{nat_tests}
 use Rattle.std.specs.Option.{is_some, option_or, unwrap_or}
 use Rattle.html_template.proofs.FirstFault.{some_first}
 use Rattle.html_template.specs.FirstFault.{first_fault, first_from}
 use Rattle.html_template.specs.FillFaults.{AnswersFill, fill_fault}
 use Rattle.html_template.specs.Templates.{Chunk}
 use Rattle.html_template.specs.declared.faults.FillFault.{FillFault}
-use Rattle.html_template.specs.declared.faults.FillFault.TheVariants as fill
-use Rattle.html_template.specs.declared.faults.WriteFault.{WriteFault}
-use Rattle.html_template.specs.declared.faults.WriteFault.TheVariants.{Texts, Writer}
-use Rattle.html_template_source.specs.Bindings.{AnswersBind, AnswersBinding, AnswersEarly, Binding, BindingFault, IsDoubled, IsUnknown, bind_fault, binding_fault, binding_faults, binding_told, bindings_of, bound, early_fault, is_among, of_fill, slot_faults, slot_told, text_of}
+use Rattle.html_template.specs.declared.faults.WriteFault.TheVariants.{Texts}
+use Rattle.html_template_source.specs.Bindings.{AnswersBind, AnswersBinding, AnswersEarly, Binding, bind_fault, binding_fault, binding_faults, binding_told, bindings_of, bound, early_fault, is_among, of_fill, slot_faults, slot_told, text_of}
 use Rattle.html_template_source.specs.declared.faults.BindFault.{BindFault}
-use Rattle.html_template_source.specs.declared.faults.BindFault.TheVariants.{Unknown, Doubled, Missing, Fill, Memory}
+use Rattle.html_template_source.specs.declared.faults.BindFault.TheVariants.{Unknown, Doubled, Memory}
 use Rattle.html_template_source.proofs.Numbers.{bytes_eq-sym, has_number, others_of}
 use Rattle.html_template_source.specs.Names.{number_of}
 use Rattle.std.specs.Borrow.{Bor}
@@ -20,10 +18,7 @@ use Rattle.std.specs.Borrow.{Bor}
 -- a name has a text where it is among the names of the bindings
 pub bound_among : (bindings : List Binding) (name : List ℕ) → is_some (bound bindings name) ≡ is_among name (map (λ (b : Binding). b.name) bindings)
 bound_among [] name = refl
-bound_among (b ∷ bindings) name = elim (cases_Bool (bytes_eq b.name name)) [
-  | inl same ↦ rw (same, bytes_eq-sym name b.name ∙ same) refl
-  | inr other ↦ rw (other, bytes_eq-sym name b.name ∙ other) (bound_among bindings name)
-]
+bound_among (b ∷ bindings) name = grind (arith, nat_tests, bound_among bindings name, bytes_eq, bytes_eq-sym)
 
 -- the faults depend on which names are known, and not on their order
 pub same_known : (names others : List (List ℕ)) (bindings : List Binding) → ((name : List ℕ) → is_among name names ≡ is_among name others) →
@@ -38,18 +33,12 @@ same_known names others (b ∷ bindings) same =
 pub told_early : (names slots : List (List ℕ)) (bindings : List Binding) (first : Option BindFault) (fault : BindFault) →
     ((name : List ℕ) → is_among name names ≡ is_among name slots) → first ≡ first_fault binding_told (binding_faults names bindings) → first ≡ Some fault →
     Some fault ≡ early_fault bindings slots
-told_early names slots bindings first fault known is some =
-    let found : first_fault binding_told (binding_faults slots bindings) ≡ Some fault =
-    ap (first_fault binding_told) (sym (same_known names slots bindings known)) ∙ sym is ∙ some in
-    rw found refl
+told_early names slots bindings first fault known is some = grind (arith, nat_tests, same_known)
 
 pub told_late : (names slots : List (List ℕ)) (bindings : List Binding) (first second : Option BindFault) →
     ((name : List ℕ) → is_among name names ≡ is_among name slots) → first ≡ first_fault binding_told (binding_faults names bindings) → first ≡ None →
     second ≡ first_fault slot_told (slot_faults bindings slots) → second ≡ early_fault bindings slots
-told_late names slots bindings first second known is none second_is =
-    let found : first_fault binding_told (binding_faults slots bindings) ≡ None =
-    ap (first_fault binding_told) (sym (same_known names slots bindings known)) ∙ sym is ∙ none in
-    rw found second_is
+told_late names slots bindings first second known is none second_is = grind (arith, nat_tests, same_known)
 
 -- ---- one binding after the other
 
@@ -87,48 +76,28 @@ sound_here names (b ∷ rest) first n m all some known again next is =
 -- ---- the answer
 
 never_or : (first second : Option BindFault) → (first ≡ Some Memory → ⊥) → (second ≡ Some Memory → ⊥) → option_or first second ≡ Some Memory → ⊥
-never_or None second no_first no_second is = no_second is
-never_or (Some fault) second no_first no_second is = no_first is
+never_or first second no_first no_second is = grind (arith, nat_tests)
 
 -- want of memory is no fault of bindings or of slots
 never_memory : (bindings : List Binding) (names : List (List ℕ)) → early_fault bindings names ≡ Some Memory → ⊥
-never_memory bindings names =
-    never_or (first_fault binding_told (binding_faults names bindings)) (first_fault slot_told (slot_faults bindings names))
-    (some_first binding_told 0 (binding_faults names bindings) Memory no_binding) (some_first slot_told 0 (slot_faults bindings names) Memory (λ m missing is. cc))
-  where
-    no_binding : (m : ℕ) (why : BindingFault) → binding_told m why ≡ Memory → ⊥
-    no_binding m IsUnknown is = cc
-    no_binding m IsDoubled is = cc
+never_memory bindings names given_1 = grind (arith, nat_tests, never_or, some_first)
 
 pub early_told : (T : Type 0) (bindings : List Binding) (names : List (List ℕ)) (fault : BindFault) → Some fault ≡ early_fault bindings names →
     AnswersEarly {T = T} (early_fault bindings names) (Err fault)
-early_told T bindings names Memory is = absurd (never_memory bindings names (sym is))
-early_told T bindings names (Unknown n) is = sym is
-early_told T bindings names (Doubled n) is = sym is
-early_told T bindings names (Missing n) is = sym is
-early_told T bindings names (Fill f) is = sym is
+early_told T bindings names fault is = grind (arith, nat_tests, never_memory)
 
 -- where there is no memory for the places
 pub early_or_memory : (T : Type 0) (bindings : List Binding) (names : List (List ℕ)) (found : Option BindFault) (fault : BindFault) → found ≡ early_fault bindings names →
     fault ≡ unwrap_or found Memory → AnswersEarly {T = T} (early_fault bindings names) (Err fault)
-early_or_memory T bindings names None fault is fault_is = rw fault_is (sym is)
-early_or_memory T bindings names (Some told) fault is fault_is = rw fault_is (early_told T bindings names told is)
+early_or_memory T bindings names found fault is fault_is = grind (arith, nat_tests, early_told)
 
 pub early_answers : (T : Type 0) (bindings : List Binding) (names : List (List ℕ)) (chunks : List Chunk) (fault : BindFault) →
     AnswersEarly {T = T} (early_fault bindings names) (Err fault) → AnswersBind {T = T} bindings names chunks (Err fault)
-early_answers T bindings names chunks Memory is = is
-early_answers T bindings names chunks (Unknown n) is = rw is refl
-early_answers T bindings names chunks (Doubled n) is = rw is refl
-early_answers T bindings names chunks (Missing n) is = rw is refl
-early_answers T bindings names chunks (Fill f) is = rw is refl
+early_answers T bindings names chunks fault is = grind (arith, nat_tests)
 
 pub early_writes : (T : Type 0) (bindings : List Binding) (names : List (List ℕ)) (chunks : List Chunk) (fault : BindFault) →
     AnswersEarly {T = T} (early_fault bindings names) (Err fault) → AnswersBinding {T = T} bindings names chunks (Err (Texts fault))
-early_writes T bindings names chunks Memory is = is
-early_writes T bindings names chunks (Unknown n) is = rw is refl
-early_writes T bindings names chunks (Doubled n) is = rw is refl
-early_writes T bindings names chunks (Missing n) is = rw is refl
-early_writes T bindings names chunks (Fill f) is = rw is refl
+early_writes T bindings names chunks fault is = grind (arith, nat_tests)
 
 pub no_fault : (bindings : List Binding) (names : List (List ℕ)) (chunks : List Chunk) → early_fault bindings names ≡ None →
     fill_fault chunks (map (text_of bindings) names) ≡ None → bind_fault bindings names chunks ≡ None
@@ -136,12 +105,8 @@ no_fault bindings names chunks early none = rw (early, none) refl
 
 pub late_answers : (T : Type 0) (bindings : List Binding) (names : List (List ℕ)) (chunks : List Chunk) (fault : FillFault) → early_fault bindings names ≡ None →
     AnswersFill {T = T} (fill_fault chunks (map (text_of bindings) names)) (Err fault) → AnswersBind {T = T} bindings names chunks (Err (of_fill fault))
-late_answers T bindings names chunks fill.Memory early is = early
-late_answers T bindings names chunks fill.WrongCount early is = rw (early, is) refl
-late_answers T bindings names chunks (fill.Text n why) early is = rw (early, is) refl
+late_answers T bindings names chunks fault early is = grind (arith, nat_tests)
 
 pub late_writes : (T : Type 0) (bindings : List Binding) (names : List (List ℕ)) (chunks : List Chunk) (fault : FillFault) → early_fault bindings names ≡ None →
     fill_fault chunks (map (text_of bindings) names) ≡ Some fault → AnswersBinding {T = T} bindings names chunks (Err (Texts (of_fill fault)))
-late_writes T bindings names chunks fill.Memory early is = early
-late_writes T bindings names chunks fill.WrongCount early is = rw (early, is) refl
-late_writes T bindings names chunks (fill.Text n why) early is = rw (early, is) refl
+late_writes T bindings names chunks fault early is = grind (arith, nat_tests)

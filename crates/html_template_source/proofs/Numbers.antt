@@ -1,5 +1,6 @@
 -- The numbers of names.
 use Rattle.std.proofs.Common.{ℕ, suc, ◌-◌, take, drop, ◌≡◌, ◌++◌, ◌<◌, ◌≤◌, ◌||◌, Bool, true, false, cond, List, [], ◌∷◌, length, map, inl, inr, refl, sym, ap, ◌∙◌, bytes_eq, get_or, arith}
+use Rattle.std.proofs.lemmas.Bool.Decides.{nat_tests}
 use Rattle.std.proofs.lemmas.Bool.{cases_Bool, cases_lt}
 use Rattle.std.proofs.lemmas.Bool.Decides.{same_from_decides}
 use Rattle.std.proofs.lemmas.List.{get_or_append_left, get_or-map, length-append, length-map, map-append}
@@ -20,13 +21,10 @@ pub equal_bytes : (x y : List ℕ) → x ≡ y → bytes_eq x y ≡ true
 equal_bytes x y = (bytes_eq-Decides x y).1
 
 pub bytes_eq-sym : (x y : List ℕ) → bytes_eq x y ≡ bytes_eq y x
-bytes_eq-sym x y =
-    same_from_decides (bytes_eq x y) (bytes_eq y x) (bytes_eq-Decides x y)
-    (λ h. sym (same_bytes y x h), λ h. equal_bytes y x (sym h))
+bytes_eq-sym x y = grind (arith, nat_tests, same_from_decides, bytes_eq, bytes_eq-Decides, same_bytes, equal_bytes)
 
 later : (o : Option ℕ) (n : ℕ) → option_map suc o ≡ Some n → (m : ℕ) × (o ≡ Some m) × (n ≡ suc m)
-later None n is = absurd (cc)
-later (Some m) n is = (m, refl, cc)
+later o n is = grind (arith, nat_tests)
 
 -- a number is that of its name
 pub numbered : (name : List ℕ) (names : List (List ℕ)) (n : ℕ) → number_of name names ≡ Some n → (n < length names) × (name_at names n ≡ name)
@@ -43,28 +41,19 @@ numbered name (first ∷ names) n is = elim (cases_Bool (bytes_eq name first)) [
       rw m.2 (omega arith, h.1)
 ]
 
-still : (o : Option ℕ) → is_some (option_map suc o) ≡ is_some o
-still None = refl
-still (Some n) = refl
-
 -- a name has a number where it is among the names
 pub has_number : (name : List ℕ) (names : List (List ℕ)) → is_some (number_of name names) ≡ is_among name names
 has_number name [] = refl
-has_number name (first ∷ names) = elim (cases_Bool (bytes_eq name first)) [
-  | inl same ↦ rw same refl
-  | inr other ↦ rw other (still (number_of name names) ∙ has_number name names)
-]
+has_number name (first ∷ names) = grind (arith, nat_tests, has_number name names)
 
 never : (n : ℕ) → Some n ≡ None → ⊥
 never n is = cc
 
 unmapped : (o : Option ℕ) → option_map suc o ≡ None → o ≡ None
-unmapped None is = refl
-unmapped (Some n) is = absurd (cc)
+unmapped o is = grind (arith, nat_tests)
 
 mapped : (b : Bool) (n : ℕ) (o : Option ℕ) → option_map suc (cond b (Some n) o) ≡ cond b (Some (suc n)) (option_map suc o)
-mapped true n o = refl
-mapped false n o = refl
+mapped b n o = grind (arith, nat_tests)
 
 differs : (new name : List ℕ) (names : List (List ℕ)) (k : ℕ) → number_of new names ≡ None → number_of name names ≡ Some k → bytes_eq new name ≡ false
 differs new name names k none was = elim (cases_Bool (bytes_eq new name)) [
@@ -77,22 +66,8 @@ differs new name names k none was = elim (cases_Bool (bytes_eq new name)) [
 -- the numbers with one name more, which is new
 pub number_after : (names : List (List ℕ)) (new : List ℕ) → number_of new names ≡ None → (name : List ℕ) →
     number_of name (names ++ new ∷ []) ≡ cond (bytes_eq new name) (Some (length names)) (number_of name names)
-number_after [] new none name = elim (cases_Bool (bytes_eq new name)) [
-  | inl same ↦ rw (same, bytes_eq-sym name new ∙ same) refl
-  | inr other ↦ rw (other, bytes_eq-sym name new ∙ other) refl
-]
-number_after (first ∷ names) new none name = elim (cases_Bool (bytes_eq new first)) [
-  | inl same ↦ absurd (never 0 (rw same at none))
-  | inr other ↦
-      let before : number_of new names ≡ None = unmapped (number_of new names) (rw other at none) in
-      let after = number_after names new before name in
-      elim (cases_Bool (bytes_eq name first)) [
-        | inl here ↦
-            let apart : bytes_eq new name ≡ false = ap (bytes_eq new) (same_bytes name first here) ∙ other in
-            rw (here, apart) refl
-        | inr there ↦ rw there (ap (option_map suc) after ∙ mapped (bytes_eq new name) (length names) (number_of name names))
-      ]
-]
+number_after [] new none name = grind (arith, nat_tests, bytes_eq, bytes_eq-sym)
+number_after (first ∷ names) new none name = grind (arith, nat_tests, number_after names new, bytes_eq, never, unmapped, same_bytes, mapped)
 
 -- and each of them still stands once
 pub single_after : (names : List (List ℕ)) (new : List ℕ) → AreSingle names → number_of new names ≡ None → AreSingle (names ++ new ∷ [])
@@ -123,13 +98,7 @@ found_here names name guess other single within at same =
 pub indexed_after : (names more : List (Bor (List ℕ))) (new : Bor (List ℕ)) (number : ℕ) (get got : List ℕ → Option ℕ) → more ≡ names ++ new ∷ [] →
     number ≡ length names → number_of new.now (texts_of names) ≡ None → ((name : List ℕ) → get name ≡ number_of name (texts_of names)) →
     ((name : List ℕ) → got name ≡ cond (bytes_eq new.now name) (Some number) (get name)) → (name : List ℕ) → got name ≡ number_of name (texts_of more)
-indexed_after names more new number get got more_is number_is none was after name =
-    let long : number ≡ length (texts_of names) = number_is ∙ sym (length-map names (λ (text : Bor (List ℕ)). text.now)) in
-    after name
-    ∙ ap (λ o. cond (bytes_eq new.now name) (Some number) o) (was name)
-    ∙ ap (λ n. cond (bytes_eq new.now name) (Some n) (number_of name (texts_of names))) long
-    ∙ sym (number_after (texts_of names) new.now none name)
-    ∙ ap (number_of name) (sym (ap texts_of more_is ∙ map-append (λ (text : Bor (List ℕ)). text.now) names (new ∷ [])))
+indexed_after names more new number get got more_is number_is none was after name = grind (arith, nat_tests, length-map, cond, bytes_eq, number_after, map-append)
 
 -- one number more, below a greater count
 pub below_after : (count more : ℕ) (numbers : List ℕ) (number : ℕ) → AreBelow count numbers → count ≤ more → number < more → AreBelow more (numbers ++ number ∷ [])
@@ -166,10 +135,7 @@ first_and_others (text ∷ texts) first some = ap (λ x. text.now ∷ texts_of x
 -- what is among more names
 pub among_after : (names : List (List ℕ)) (new name : List ℕ) → is_among name (names ++ new ∷ []) ≡ (is_among name names || bytes_eq name new)
 among_after [] new name = or-false (bytes_eq name new)
-among_after (first ∷ names) new name = elim (cases_Bool (bytes_eq name first)) [
-  | inl same ↦ rw same refl
-  | inr other ↦ rw other (among_after names new name)
-]
+among_after (first ∷ names) new name = grind (arith, nat_tests, among_after names new name)
 
 -- a name that has a number is among them already
 pub among_still : (names : List (List ℕ)) (old name : List ℕ) (number : ℕ) → number_of old names ≡ Some number →
@@ -185,8 +151,4 @@ among_still names old name number is = elim (cases_Bool (bytes_eq name old)) [
 pub used_after : (names more : List (List ℕ)) (numbers : List ℕ) (number : ℕ) (new : List ℕ) → AreUsed names numbers →
     map (name_at more) (numbers ++ number ∷ []) ≡ map (name_at names) numbers ++ new ∷ [] →
     ((name : List ℕ) → is_among name more ≡ (is_among name names || bytes_eq name new)) → AreUsed more (numbers ++ number ∷ [])
-used_after names more numbers number new used slots among name =
-    among name
-    ∙ ap (λ b. b || bytes_eq name new) (used name)
-    ∙ sym (among_after (map (name_at names) numbers) new name)
-    ∙ ap (is_among name) (sym slots)
+used_after names more numbers number new used slots among name = grind (arith, nat_tests, bytes_eq, among_after, map)

@@ -1,8 +1,9 @@
 -- A source has one list of parts that take turns, and one list of names.
-use Rattle.std.proofs.Common.{ℕ, ◌≡◌, Bool, true, false, not, ◌&&◌, ◌||◌, List, [], ◌∷◌, ◌++◌, ◌==◌, bytes_eq, eqb, inl, inr, refl, sym, ap, ◌∙◌, append-nil, append_assoc}
+use Rattle.std.proofs.Common.{ℕ, ◌≡◌, Bool, true, false, not, ◌&&◌, ◌||◌, List, [], ◌∷◌, ◌++◌, ◌==◌, bytes_eq, eqb, inl, inr, refl, sym, ap, ◌∙◌, append-nil, append_assoc, arith}
+use Rattle.std.proofs.lemmas.Bool.Decides.{nat_tests}
 use Rattle.std.specs.Char.{is_ascii_alphanumeric}
 use Rattle.std.specs.List.{list_all, starts_with}
-use Rattle.std.proofs.lemmas.Bool.{and_parts, cases_Bool, eqb-true}
+use Rattle.std.proofs.lemmas.Bool.{and_parts, cases_Bool}
 use Rattle.std.proofs.lemmas.Slice.Eq.{bytes_eq-Decides}
 use Rattle.html_template.specs.Templates.{Given, GivenMarkup, GivenSlot}
 use Rattle.html_template_source.specs.Sources.{AreNamed, ArePlain, EndsInOpening, IsPlainBefore, IsSourceOf, Lacks, TakeTurns, are_letters, are_named, are_plain, closing, ends_in_opening, is_name, is_plain_before, is_source, opening, opens_slot, quoted_opening, slot_text, take_turns, written}
@@ -17,12 +18,10 @@ no_mark (c ∷ bytes) none (b ∷ front) rest is =
     no_mark bytes (or_right (starts_with eqb (c ∷ bytes) opening) (opens_slot bytes) none) front rest later
   where
     or_right : (x y : Bool) → (x || y) ≡ false → y ≡ false
-    or_right true y none = cc
-    or_right false y none = none
+    or_right x y none = grind (arith, nat_tests)
 
 is_not : (x : Bool) → not x ≡ true → x ≡ false
-is_not true is = cc
-is_not false is = refl
+is_not x is = grind (arith, nat_tests)
 
 -- one byte more before the mark, where none begins with it
 opening_behind : (b : ℕ) (bytes : List ℕ) → starts_with eqb (b ∷ bytes) opening ≡ false → EndsInOpening bytes → EndsInOpening (b ∷ bytes)
@@ -53,9 +52,7 @@ mark_last (b ∷ bytes) ends = elim (cases_Bool (bytes_eq (b ∷ bytes) opening)
 ]
 
 plain_before : (parts : List Given) (bytes : List ℕ) → is_plain_before parts bytes ≡ true → IsPlainBefore parts bytes
-plain_before [] bytes plain = no_mark bytes (is_not (opens_slot bytes) plain)
-plain_before (GivenSlot ∷ parts) bytes plain = no_mark bytes (is_not (opens_slot bytes) plain)
-plain_before (GivenMarkup more ∷ parts) bytes plain = mark_last bytes plain
+plain_before parts bytes plain = grind (arith, nat_tests, no_mark, is_not, mark_last)
 
 plain_parts : (parts : List Given) → are_plain parts ≡ true → ArePlain parts
 plain_parts [] plain = tt
@@ -124,16 +121,10 @@ letters_unclosed (b ∷ name) letters =
     rw (open_letter b both.0) (letters_unclosed name both.1)
   where
     open_letter : (b : ℕ) → (is_ascii_alphanumeric b || b == 95) ≡ true → (b == 125) ≡ false
-    open_letter b letter = elim (cases_Bool (b == 125)) [
-      | inl brace ↦ let clash : false ≡ true = rw (eqb-true b 125 brace) at letter in cc
-      | inr other ↦ other
-    ]
+    open_letter b letter = grind (arith, nat_tests)
 
 name_inner : (name : List ℕ) → is_name name ≡ true → IsInner name
-name_inner name named = record {
-  begins = λ rest after is. no_brace name rest after named is;
-  ends = letters_unclosed name (and_parts _ (are_letters name) named).1;
-}
+name_inner name named = grind (arith, nat_tests, no_brace, letters_unclosed)
 
 quoted_inner : IsInner quoted_opening
 quoted_inner = record { begins = λ rest after is. cc; ends = refl }
@@ -252,5 +243,4 @@ same_parts parts (GivenMarkup second ∷ GivenSlot ∷ others) names [] turns pl
 
 pub same_source : (parts others : List Given) (names more : List (List ℕ)) (source : List ℕ) → TakeTurns parts → IsSourceOf parts names source → TakeTurns others →
     IsSourceOf others more source → (parts ≡ others) × (names ≡ more)
-same_source parts others names more source turns is other_turns other_is =
-    same_parts parts others names more turns is.plain is.named other_turns other_is.plain other_is.named (is.whole ∙ sym other_is.whole)
+same_source parts others names more source turns is other_turns other_is = grind (arith, nat_tests, same_parts)

@@ -1,5 +1,6 @@
 -- The texts of placed bindings, and bindings whose names are those of the template in order.
 use Rattle.std.proofs.Common.{ℕ, zero, suc, ◌≡◌, ◌<◌, ◌+◌, true, false, List, [], ◌∷◌, length, map, inl, inr, refl, sym, ap, subst, ◌∙◌, bytes_eq, arith}
+use Rattle.std.proofs.lemmas.Bool.Decides.{nat_tests}
 use Rattle.std.proofs.lemmas.Bool.{cases_Bool}
 use Rattle.std.proofs.lemmas.List.{length-map}
 use Rattle.std.specs.Borrow.{Bor}
@@ -22,8 +23,7 @@ texts_are places bindings names (n ∷ numbers) placed below =
     ∙ ap (λ x. text_of bindings (name_at names n) ∷ x) (texts_are places bindings names numbers placed (below_later (length names) n numbers below))
 
 taken : (o : Option ℕ) (k : ℕ) → option_map suc o ≡ Some (suc k) → o ≡ Some k
-taken None k is = absurd (cc)
-taken (Some n) k is = let same : suc n ≡ suc k = cc in ap (λ m. Some m) (omega arith)
+taken o k is = grind (arith, nat_tests)
 
 -- the others of names that stand once each do so, too
 others_single : (first : List ℕ) (others : List (List ℕ)) → AreSingle (first ∷ others) → AreSingle others
@@ -58,10 +58,7 @@ in_place (b ∷ bindings) single (suc k) within =
     rw apart (in_place bindings (others_single b.name (map (λ (b : Binding). b.name) bindings) single) k (omega arith))
 
 pub placed_in_order : (bindings : List Binding) (names : List (List ℕ)) → map (λ (b : Binding). b.name) bindings ≡ names → AreSingle names → ArePlaced None bindings names
-placed_in_order bindings names order single number within =
-    let P : List (List ℕ) → Type 0 = AreSingle in
-    in_place bindings (subst P (sym order) single) number (omega (arith, ap length order, length-map bindings (λ (b : Binding). b.name)))
-    ∙ ap (λ x. bound bindings (name_at x number)) order
+placed_in_order bindings names order single number within = grind (arith, nat_tests, in_place, length-map)
 
 never_again : (bindings : List Binding) (name : List ℕ) → ((k : ℕ) → k < length bindings → bytes_eq name (name_at (map (λ (b : Binding). b.name) bindings) k) ≡ false) →
     is_among name (map (λ (b : Binding). b.name) bindings) ≡ false
@@ -110,7 +107,4 @@ sound_in_order bindings names numbers order single used below =
 pub same_texts : (places : Option (Bor (List ℕ))) (bindings : List Binding) (distinct : List (Bor (List ℕ))) (numbers got : List ℕ) → got ≡ numbers →
     ArePlaced places bindings (texts_of distinct) → AreBelow (length distinct) numbers →
     texts_by places bindings got ≡ map (text_of bindings) (map (name_at (texts_of distinct)) numbers)
-same_texts places bindings distinct numbers got is placed below =
-    let B : ℕ → Type 0 = λ n. AreBelow n numbers in
-    ap (texts_by places bindings) is
-    ∙ texts_are places bindings (texts_of distinct) numbers placed (subst B (sym (length-map distinct (λ (text : Bor (List ℕ)). text.now))) below)
+same_texts places bindings distinct numbers got is placed below = grind (arith, nat_tests, texts_are, length-map)

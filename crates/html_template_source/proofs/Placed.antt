@@ -1,15 +1,16 @@
 -- Bindings that were placed, from the last one on.
-use Rattle.std.proofs.Common.{ℕ, zero, suc, ◌≡◌, ◌≢◌, ◌++◌, ◌<◌, ◌≤◌, ◌+◌, ◌-◌, Bool, true, false, List, [], ◌∷◌, length, inl, inr, refl, sym, ap, ◌∙◌, append_assoc, append-nil, bytes_eq, get_or, map, replicate, set, take, arith}
+use Rattle.std.proofs.Common.{ℕ, zero, suc, ◌≡◌, ◌≢◌, ◌++◌, ◌<◌, ◌≤◌, ◌+◌, ◌-◌, true, false, List, [], ◌∷◌, length, inl, inr, refl, sym, ap, ◌∙◌, append_assoc, append-nil, bytes_eq, get_or, map, replicate, set, take, arith}
+use Rattle.std.proofs.lemmas.Bool.Decides.{nat_tests}
 use Rattle.std.proofs.Math.Dec.{ltb}
-use Rattle.std.proofs.lemmas.Bool.{cases_Bool, cases_eq, cases_lt, le-ltb, lt-ltb, ltb-true}
-use Rattle.std.proofs.lemmas.List.{get_or-replicate, get_or-set_other, get_or-set_same, length-set, length-take}
+use Rattle.std.proofs.lemmas.Bool.{cases_Bool, cases_lt, le-ltb, lt-ltb}
+use Rattle.std.proofs.lemmas.List.{get_or-replicate, get_or-set_other, get_or-set_same, length-take}
 use Rattle.std.proofs.lemmas.Option.{slice_get-get_or, slice_get_past}
 use Rattle.std.specs.Borrow.{Bor}
-use Rattle.std.specs.Option.{is_some, option_and_then, option_map, option_or}
+use Rattle.std.specs.Option.{is_some, option_map, option_or}
 use Rattle.html_template.specs.FirstFault.{first_from}
 use Rattle.html_template_source.specs.declared.faults.BindFault.{BindFault}
 use Rattle.std.specs.Prelude.{IfSome, Option, Some, None, slice_get}
-use Rattle.html_template_source.specs.Bindings.{Binding, BindingFault, IsDoubled, IsUnknown, binding_fault, binding_faults, binding_told, bindings_of, bound, is_among, slot_fault, slot_faults}
+use Rattle.html_template_source.specs.Bindings.{Binding, BindingFault, binding_fault, binding_faults, binding_told, bindings_of, bound, is_among, slot_fault, slot_faults}
 use Rattle.html_template_source.specs.Names.{AreBelow, AreSingle, name_at, number_of}
 use Rattle.html_template_source.specs.Places.{AreListed, is_taken, places_after, placing_fault, text_at, unplaced}
 use Rattle.html_template_source.proofs.Numbers.{below_later, equal_bytes, has_number, numbered, same_bytes}
@@ -33,10 +34,7 @@ pub no_text : (bindings : List Binding) (place : ℕ) → length bindings ≤ pl
 no_text bindings place past = rw (slice_get_past bindings place past) refl
 
 pub has_text : (bindings : List Binding) (place : ℕ) → is_some (text_at bindings place) ≡ ltb place (length bindings)
-has_text bindings place = elim (cases_lt place (length bindings)) [
-  | inl within ↦ some_text bindings place within ∙ sym (lt-ltb place (length bindings) within)
-  | inr past ↦ ap is_some (no_text bindings place past) ∙ sym (le-ltb place (length bindings) past)
-]
+has_text bindings place = grind (arith, nat_tests, cases_lt, some_text, lt-ltb, no_text, le-ltb)
 
 -- the text of the binding after these
 text_after : (front later : List (Bor (List ℕ) × Bor (List ℕ))) (b : Bor (List ℕ) × Bor (List ℕ)) →
@@ -57,30 +55,14 @@ placed_more : (names : List (List ℕ)) (bindings later : List Binding) (b : Bin
     AreSingle names → length names ≤ length places → number ≡ number_of b.name names → text_at bindings place ≡ Some b.text →
     ((k : ℕ) → k < length names → text_at bindings (get_or places k 0) ≡ bound later (name_at names k)) →
     (k : ℕ) → k < length names → text_at bindings (get_or (places_after place number places) k 0) ≡ bound (b ∷ later) (name_at names k)
-placed_more names bindings later b place None places single enough is at placed k within =
-    rw (other_name names b.name None k single within is (λ e. cc)) (placed k within)
-placed_more names bindings later b place (Some n) places single enough is at placed k within =
-    let number = numbered b.name names n (sym is) in
-    elim (cases_eq k n) [
-      | inl here ↦
-          let named : name_at names k ≡ b.name = ap (name_at names) here ∙ number.1 in
-          let same : bytes_eq b.name (name_at names k) ≡ true = equal_bytes b.name (name_at names k) (sym named) in
-          let long : n < length places = omega (arith, number.0) in
-          let put : get_or (set places n place) k 0 ≡ place = ap (λ i. get_or (set places n place) i 0) here ∙ get_or-set_same places n place 0 long in
-          rw same (ap (text_at bindings) put ∙ at)
-      | inr there ↦
-          let apart : bytes_eq b.name (name_at names k) ≡ false = other_name names b.name (Some n) k single within is (λ e. there (let m : n ≡ k = cc in omega arith)) in
-          let kept : get_or (set places n place) k 0 ≡ get_or places k 0 = get_or-set_other places n k place 0 there in
-          rw apart (ap (text_at bindings) kept ∙ placed k within)
-    ]
+placed_more names bindings later b place number places single enough is at placed k within = grind (arith, nat_tests, other_name, numbered, bytes_eq, equal_bytes, set, get_or-set_same, get_or-set_other)
 
 -- ---- the faults that places tell
 
 -- a name is taken where it is bound
 taken_bound : (bindings later : List Binding) (places : List ℕ) (n : ℕ) (name : List ℕ) → n < length places →
     text_at bindings (get_or places n 0) ≡ bound later name → is_taken (length bindings) (slice_get places n) ≡ is_some (bound later name)
-taken_bound bindings later places n name within same =
-    ap (is_taken (length bindings)) (slice_get-get_or places n 0 within) ∙ sym (has_text bindings (get_or places n 0)) ∙ ap is_some same
+taken_bound bindings later places n name within same = grind (arith, nat_tests, slice_get-get_or, has_text)
 
 placing_is : (names : List (List ℕ)) (bindings later : List Binding) (b : Binding) (number : Option ℕ) (places : List ℕ) → number ≡ number_of b.name names →
     length names ≤ length places → ((k : ℕ) → k < length names → text_at bindings (get_or places k 0) ≡ bound later (name_at names k)) →
@@ -141,8 +123,7 @@ none_placed names bindings places nowhere far enough fresh = (
 
 first_more : (n : ℕ) (why : Option BindingFault) (faults : List (Option BindingFault)) (first : Option BindFault) → first ≡ first_from binding_told (n + 1) faults →
     option_or (option_map (binding_told n) why) first ≡ first_from binding_told n (why ∷ faults)
-first_more n None faults first is = is
-first_more n (Some why) faults first is = refl
+first_more n why faults first is = grind (arith, nat_tests)
 
 -- the last binding of the rest is put down, too
 pub last_placed : (names : List (List ℕ)) (bindings rest : List (Bor (List ℕ) × Bor (List ℕ))) (places more : List ℕ) (first fault next : Option BindFault)
@@ -179,10 +160,4 @@ last_placed names bindings rest places more first fault next last number single 
 pub listed_places : (places : List ℕ) (bindings : List Binding) (names : List (List ℕ)) → length names ≤ length places →
     ((k : ℕ) → k < length names → text_at bindings (get_or places k 0) ≡ bound bindings (name_at names k)) →
     AreListed (Some places) bindings names
-listed_places places bindings names enough placed None is = absurd (cc)
-listed_places places bindings names enough placed (Some found) is = λ number within.
-    let same : found.now ≡ places = cc in
-    let there : number < length places = omega (arith, enough, within) in
-    ap (λ l. option_and_then (text_at bindings) (slice_get l number)) same
-    ∙ ap (option_and_then (text_at bindings)) (slice_get-get_or places number 0 there)
-    ∙ placed number within
+listed_places places bindings names enough placed given_x5 is = grind (arith, nat_tests, slice_get-get_or)

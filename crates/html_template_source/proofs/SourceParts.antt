@@ -1,5 +1,6 @@
 -- The source of one part more.
 use Rattle.std.proofs.Common.{ℕ, ◌≡◌, ◌+◌, ◌-◌, true, List, [], ◌∷◌, ◌++◌, length, map, take, refl, sym, ap, ◌∙◌, subst, append_assoc, append-nil, length-append, arith}
+use Rattle.std.proofs.lemmas.Bool.Decides.{nat_tests}
 use Rattle.std.proofs.Math.Seq.{take-append-add}
 use Rattle.std.proofs.lemmas.List.{map-append}
 use Rattle.std.proofs.lemmas.Str.{IsCharBoundary-at_seam}
@@ -19,11 +20,7 @@ source_at parts names bytes others same is = subst (IsSourceOf parts names) same
 -- markup and a slot before a source
 slot_before : (markup name : List ℕ) (more : List Given) (others : List (List ℕ)) (rest : List ℕ) → Lacks opening markup → is_name name ≡ true →
     IsSourceOf more others rest → IsSourceOf (GivenMarkup markup ∷ GivenSlot ∷ more) (name ∷ others) (markup ++ (slot_text name ++ rest))
-slot_before markup name more others rest plain named is = record {
-  whole = ap (λ x. markup ++ (slot_text name ++ x)) is.whole;
-  plain = (plain, is.plain);
-  named = (named, is.named);
-}
+slot_before markup name more others rest plain named is = grind (arith, nat_tests)
 
 -- markup that ends in the mark before a source, which begins with markup
 opening_before : (markup : List ℕ) (more : List Given) (others : List (List ℕ)) (rest : List ℕ) → Lacks opening markup → TakeTurns more →

@@ -1,5 +1,6 @@
 -- Which fault of bound texts is the first, and that it is answered.
-use Rattle.std.proofs.Common.{ℕ, ◌≡◌, ◌↔◌, List, Option, None, Some, Ok, Err, Result, map, refl, ap, ◌∙◌, sym}
+use Rattle.std.proofs.Common.{ℕ, ◌≡◌, ◌↔◌, List, Option, None, Some, Ok, Err, Result, map, refl, arith}
+use Rattle.std.proofs.lemmas.Bool.Decides.{nat_tests}
 use Rattle.std.specs.Option.{option_map, option_or}
 use Rattle.std.specs.Prelude.{IsErrOf}
 use Rattle.html_template.specs.FirstFault.{AreNone, IsFirst, first_fault}
@@ -16,13 +17,11 @@ use Rattle.html_template_source.specs.declared.faults.BindFault.TheVariants.{Unk
 -- ---- the first of two
 
 first_of : (first second : Option BindFault) (fault : BindFault) → (second ≡ Some fault → ⊥) → (option_or first second ≡ Some fault) ↔ (first ≡ Some fault)
-first_of None second fault never = (λ is. absurd (never is), λ is. absurd (cc))
-first_of (Some told) second fault never = (λ is. is, λ is. is)
+first_of first second fault never = grind (arith, nat_tests)
 
 second_of : (first second : Option BindFault) (fault : BindFault) → (first ≡ Some fault → ⊥) →
     (option_or first second ≡ Some fault) ↔ ((first ≡ None) × (second ≡ Some fault))
-second_of None second fault never = (λ is. (refl, is), λ both. both.1)
-second_of (Some told) second fault never = (λ is. absurd (never is), λ both. absurd (cc))
+second_of first second fault never = grind (arith, nat_tests)
 
 chained : {A B C : Type 0} → A ↔ B → B ↔ C → A ↔ C
 chained first second = (λ a. second.0 (first.0 a), λ c. first.1 (second.1 c))
@@ -30,39 +29,22 @@ chained first second = (λ a. second.0 (first.0 a), λ c. first.1 (second.1 c))
 -- ---- what each tells
 
 bindings_apart : TellsApart binding_told
-bindings_apart = record { position = position; fault = fault }
-  where
-    position : (m n : ℕ) (why other : BindingFault) → binding_told m why ≡ binding_told n other → m ≡ n
-    position m n IsUnknown IsUnknown is = cc
-    position m n IsDoubled IsDoubled is = cc
-    position m n why other is = absurd (cc)
-
-    fault : (m n : ℕ) (why other : BindingFault) → binding_told m why ≡ binding_told n other → why ≡ other
-    fault m n IsUnknown IsUnknown is = refl
-    fault m n IsDoubled IsDoubled is = refl
-    fault m n why other is = absurd (cc)
+bindings_apart = grind (arith, nat_tests)
 
 slots_apart : TellsApart slot_told
 slots_apart = record { position = λ m n missing other is. cc; fault = λ m n missing other is. refl }
 
 never_missing : (m n : ℕ) (why : BindingFault) → binding_told m why ≡ Missing n → ⊥
-never_missing m n IsUnknown is = cc
-never_missing m n IsDoubled is = cc
+never_missing m n why is = grind (arith, nat_tests)
 
 never_fill : (m : ℕ) (why : BindingFault) (fault : FillFault) → binding_told m why ≡ Fill fault → ⊥
-never_fill m IsUnknown fault is = cc
-never_fill m IsDoubled fault is = cc
+never_fill m why fault is = grind (arith, nat_tests)
 
 never_of_fill : (o : Option FillFault) (fault : BindFault) → IsEarly fault → option_map Fill o ≡ Some fault → ⊥
-never_of_fill None fault early is = cc
-never_of_fill (Some told) (Unknown n) early is = cc
-never_of_fill (Some told) (Doubled n) early is = cc
-never_of_fill (Some told) (Missing n) early is = cc
-never_of_fill (Some told) other early is = absurd early
+never_of_fill o fault early is = grind (arith, nat_tests)
 
 filled_by : (o : Option FillFault) (fault : FillFault) → (option_map Fill o ≡ Some (Fill fault)) ↔ (o ≡ Some fault)
-filled_by None fault = (λ is. absurd (cc), λ is. absurd (cc))
-filled_by (Some told) fault = (λ is. cc, λ is. cc)
+filled_by o fault = grind (arith, nat_tests)
 
 module _ (bindings : List Binding) (names : List (List ℕ)) (chunks : List Chunk) where
   abbrev of_bindings : Option BindFault
@@ -123,8 +105,7 @@ module _ (bindings : List Binding) (names : List (List ℕ)) (chunks : List Chun
   )
     where
       elim_memory : (fault : BindFault) → IsEarly fault → fault ≡ Memory → ⊥
-      elim_memory Memory early is = early
-      elim_memory other early is = cc
+      elim_memory fault early is = grind (arith, nat_tests)
   is_answered (Err told) fault early answers = (λ is. cc, λ is. cc)
 
   pub is_written : (result : Result (Unit {0}) (WriteFault BindFault)) (fault : BindFault) → IsEarly fault → AnswersBinding bindings names chunks result →

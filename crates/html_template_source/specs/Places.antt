@@ -1,5 +1,5 @@
 -- The places of bindings, and the faults that they tell.
-use Rattle.std.specs.Prelude.{◌≡◌, ℕ, ◌<◌, Bool, false, List, [], ◌∷◌, Option, Some, None, if◌then◌else◌, length, map, nat_lt, slice_get, slice_set}
+use Rattle.std.specs.Prelude.{◌≡◌, ℕ, ◌<◌, Bool, false, List, [], Option, Some, None, if◌then◌else◌, length, map, nat_lt, slice_get, slice_set}
 use Rattle.std.specs.Borrow.{Bor}
 use Rattle.std.specs.Option.{option_and_then, option_map, unwrap_or}
 use Rattle.html_template_source.specs.Bindings.{Binding, BindingFault, IsDoubled, IsUnknown, bound}

@@ -202,5 +202,7 @@ fn readers_are_copied_and_compared(rt: HostRuntime) -> Result<(), AllocError> {
     assert!(rt; empty.is_same(&reader_after(rt.alloc(), b"<p>")?));
     assert!(rt; reader_after(rt.alloc(), b"<a href=\"")?.is_in_url());
     assert!(rt; !reader_after(rt.alloc(), b"<a title=\"")?.is_in_url());
+    assert!(rt; reader_after(rt.alloc(), b"<p ")?.is_between_attributes());
+    assert!(rt; !reader_after(rt.alloc(), b"<p")?.is_between_attributes());
     Ok(())
 }

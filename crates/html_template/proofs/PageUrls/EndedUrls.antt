@@ -1,13 +1,14 @@
 -- A URL that ends in markup behind a slot in it.
-use Rattle.std.proofs.Common.{ℕ, ◌≡◌, true, false, List, [], ◌∷◌, ◌++◌, map, refl, sym, ap, ◌∙◌, ⊎_elim, append-nil, append_assoc}
-use Rattle.std.proofs.lemmas.Bool.{cases_Bool, true≢false}
+use Rattle.std.proofs.Common.{ℕ, ◌≡◌, true, false, List, [], ◌∷◌, ◌++◌, map, refl, sym, ap, ◌∙◌, append-nil, append_assoc, arith}
+use Rattle.std.proofs.lemmas.Bool.Decides.{nat_tests}
+use Rattle.std.proofs.lemmas.Bool.{true≢false}
 use Rattle.html_template.specs.declared.open_url.OpenUrl.TheVariants.{Outside}
 use Rattle.html_template.specs.FilledUrls.{Fixed, Whole, url_texts}
 use Rattle.html_template.specs.PageUrls.{first_texts}
 use Rattle.html_template.specs.Templates.{Chunk, Markup, page}
 use Rattle.html_tokenizer.specs.Tokenizer.States.{Tokenizer}
 use Rattle.html_tokenizer.specs.Tokenizer.Tokenization.{consume, state_after}
-use Rattle.html_tokenizer.specs.UrlValues.{is_url, open_url, url_after, urls_from}
+use Rattle.html_tokenizer.specs.UrlValues.{is_url, open_url, urls_from}
 use Rattle.html_tokenizer.proofs.Passing.{state_after-append}
 use Rattle.html_tokenizer.proofs.UrlValues.Appending.{open_url-anew, open_url-append, urls_from-anew, urls_from-append}
 use Rattle.html_tokenizer.proofs.UrlValues.Ends.{Ends, ends_whole}
@@ -27,24 +28,14 @@ same_open t (b ∷ bytes) first second none url = open_url-anew t first second b
 
 forgotten : (t : Tokenizer) (b : ℕ) (bytes first second added rest : List ℕ) → Ends t b added →
     urls_from (state_after t (b ∷ bytes)) (open_url t first (b ∷ bytes)) rest ≡ urls_from (state_after t (b ∷ bytes)) (open_url t second (b ∷ bytes)) rest
-forgotten t b bytes first second added rest ends =
-    let after : Tokenizer = state_after t (b ∷ bytes) in
-    ⊎_elim
-    (λ (url : is_url after.attribute ≡ true).
-    ap (λ value. urls_from after value rest)
-    (same_open (consume t b).next bytes (url_after t first b) (url_after t second b) ends.no_url url))
-    (λ (none : is_url after.attribute ≡ false). urls_from-anew after (open_url t first (b ∷ bytes)) (open_url t second (b ∷ bytes)) rest none)
-    (cases_Bool (is_url after.attribute))
+forgotten t b bytes first second added rest ends = grind (arith, nat_tests, same_open, urls_from-anew)
 
 -- ---- it goes on with a text, and ends at a byte
 
 module _ (here there : Tokenizer) (tame : IsTame here) (fresh : IsFresh here []) (url : is_url there.attribute ≡ true) where
   value_behind : (raw text : List ℕ) (b : ℕ) (rest before : List ℕ) → StaysUrl here raw text there →
       open_url here before (raw ++ b ∷ rest) ≡ open_url there (before ++ text) (b ∷ rest)
-  value_behind raw text b rest before stays =
-      open_url-append here before raw (b ∷ rest)
-      ∙ ap (λ x. open_url x (open_url here before raw) (b ∷ rest)) stays.passes.after
-      ∙ ap (λ x. open_url there x (b ∷ rest)) (stays.value before)
+  value_behind raw text b rest before stays = grind (arith, nat_tests, open_url-append)
 
   ended_urls : (raw text added : List ℕ) (b : ℕ) (rest value more : List ℕ) → StaysUrl here raw text there → Ends there b added →
       urls_from here value ((raw ++ b ∷ rest) ++ more)

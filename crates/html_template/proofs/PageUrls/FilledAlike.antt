@@ -1,5 +1,6 @@
 -- The URLs of a template, filled by two lists of texts, lead alike.
-use Rattle.std.proofs.Common.{ℕ, ◌≡◌, true, List, [], ◌∷◌, ◌++◌, drop, take, inl, inr, refl, sym, subst, append-nil}
+use Rattle.std.proofs.Common.{ℕ, ◌≡◌, true, List, [], ◌∷◌, ◌++◌, drop, take, inl, inr, refl, sym, subst, append-nil, arith}
+use Rattle.std.proofs.lemmas.Bool.Decides.{nat_tests}
 use Rattle.html_urls.specs.Bases.{FillBehind, is_base}
 use Rattle.html_urls.specs.Slots.{FillUrl, Given, Markup, url_of}
 use Rattle.html_urls.specs.declared.base.BehindBase.{BehindBase}
@@ -9,7 +10,6 @@ use Rattle.html_urls.proofs.Bases.Headings.{base_head}
 use Rattle.html_urls.proofs.Bases.OwnBases.{own_is_base}
 use Rattle.html_urls.proofs.Shapes.SameCounts.{same_head, same_segments, same_strings}
 use Rattle.html_template.specs.declared.parts.SlotKind.{SlotKind}
-use Rattle.html_template.specs.declared.parts.SlotKind.TheVariants as kind
 use Rattle.html_template.specs.FilledUrls.{Based, FillBase, FillUrls, Fixed, Parts, TemplateUrl, Whole, begun_texts, filled_urls, slots_in}
 use Rattle.html_template.specs.PageUrls.{AllAlike, BeginsWith, FirstText, IsUrlOf, LeadAlike}
 use Rattle.html_template.specs.Slots.{MayBegin}
@@ -19,11 +19,7 @@ leads_itself url = record { head = λ base web. refl; segments = λ base web. re
 
 parts_alike : (parts : List Given) (texts others : List (List ℕ)) → FillUrl parts texts → FillUrl parts others →
     LeadAlike (url_of parts texts) (url_of parts others)
-parts_alike parts texts others full others_full = record {
-  head = λ base web. same_head base parts texts others web full others_full;
-  segments = λ base web. same_segments base parts texts others web full others_full;
-  strings = λ base web. same_strings base parts texts others web full others_full;
-}
+parts_alike parts texts others full others_full = grind (arith, nat_tests, same_head, same_segments, same_strings)
 
 -- two that are whole, and two that begin with bases: they lead alike where these texts are the same
 abbrev AreOfTexts : SlotKind → List ℕ → List ℕ → List ℕ → List ℕ → Type 0 → Type 0
@@ -34,23 +30,11 @@ begins_itself : (text : List ℕ) → BeginsWith text text
 begins_itself text = record { rest = []; is = sym (append-nil text); head = λ page web. refl }
 
 whole_alike : (kind : SlotKind) (text other : List ℕ) {Rest : Type 0} → MayBegin kind text → MayBegin kind other → Rest → AreOfTexts kind text other text other Rest
-whole_alike kind.Link text other may may_other rest =
-    (refl, (may, refl), (may_other, refl), λ same. subst (λ url. LeadAlike text url) same (leads_itself text), rest)
-whole_alike kind.OwnPath text other may may_other rest =
-    (refl, (may, refl), (may_other, refl), λ same. subst (λ url. LeadAlike text url) same (leads_itself text), rest)
-whole_alike (kind.Base behind) text other may may_other rest =
-    (refl, (may, begins_itself text), (may_other, begins_itself other), λ same. subst (λ url. LeadAlike text url) same (leads_itself text), rest)
-whole_alike (kind.OwnBase behind) text other may may_other rest =
-    (refl, (may, begins_itself text), (may_other, begins_itself other), λ same. subst (λ url. LeadAlike text url) same (leads_itself text), rest)
-whole_alike kind text other may may_other rest = absurd may
+whole_alike kind text other may may_other rest = grind (arith, nat_tests, leads_itself, begins_itself)
 
 begins_with : (behind : BehindBase) (text : List ℕ) (parts : List Given) (texts : List (List ℕ)) → is_base behind text ≡ true → FillBehind behind parts texts →
     BeginsWith text (text ++ url_of parts texts)
-begins_with behind text parts texts is full = record {
-  rest = url_of parts texts;
-  is = refl;
-  head = λ page web. base_head page behind text parts texts web is (behind_goes behind parts texts full) (fills behind text parts texts is full);
-}
+begins_with behind text parts texts is full = grind (arith, nat_tests, base_head, behind_goes, fills)
 
 same_base : (behind : BehindBase) (text other : List ℕ) (parts : List Given) (texts others : List (List ℕ)) → is_base behind text ≡ true →
     FillBehind behind parts texts → FillBehind behind parts others → text ≡ other → LeadAlike (text ++ url_of parts texts) (other ++ url_of parts others)
@@ -60,22 +44,7 @@ same_base behind text other parts texts others is full others_full same =
 
 based_alike : (kind : SlotKind) (parts : List Given) (text other : List ℕ) (texts others : List (List ℕ)) {Rest : Type 0} → MayBegin kind text → MayBegin kind other →
     FillBase kind parts texts → FillBase kind parts others → Rest → AreOfTexts kind text other (text ++ url_of parts texts) (other ++ url_of parts others) Rest
-based_alike (kind.Base behind) parts text other texts others may may_other full others_full rest = (
-  refl,
-  (may, begins_with behind text parts texts may full),
-  (may_other, begins_with behind other parts others may_other others_full),
-  same_base behind text other parts texts others may full others_full,
-  rest,
-)
-based_alike (kind.OwnBase behind) parts text other texts others may may_other full others_full rest =
-    let is = own_is_base behind text may in (
-      refl,
-      (may, begins_with behind text parts texts is full),
-      (may_other, begins_with behind other parts others (own_is_base behind other may_other) others_full),
-      same_base behind text other parts texts others is full others_full,
-      rest,
-    )
-based_alike kind parts text other texts others may may_other full others_full rest = absurd full
+based_alike kind parts text other texts others may may_other full others_full rest = grind (arith, nat_tests, begins_with, same_base, own_is_base)
 
 alike_first : (wholes more : List FirstText) (first second : List ℕ) (urls others : List (List ℕ)) → LeadAlike first second →
     AllAlike wholes more urls others → AllAlike wholes more (first ∷ urls) (second ∷ others)

@@ -1,10 +1,11 @@
 -- Markup behind a slot of a URL: what it adds to the URL, and what is open behind it.
-use Rattle.std.proofs.Common.{ℕ, ◌≡◌, ◌≢◌, ◌⊎◌, ◌&&◌, not, Bool, true, false, List, [], ◌∷◌, Option, Some, None, Ok, Err, Result, codes, inl, inr, refl, ap, ◌∙◌, ⊎_elim}
+use Rattle.std.proofs.Common.{ℕ, ◌≡◌, ◌≢◌, ◌⊎◌, ◌&&◌, not, Bool, true, false, List, [], ◌∷◌, Option, Some, None, Ok, Err, Result, inl, inr, refl, ap, ◌∙◌, arith}
+use Rattle.std.proofs.lemmas.Bool.Decides.{nat_tests}
 use Rattle.std.proofs.lemmas.Bool.{cases_Bool}
 use Rattle.std.proofs.lemmas.Slice.Eq.{bytes_eq-Decides}
 use Rattle.std.specs.Option.{option_and_then}
 use Rattle.html_template.specs.declared.faults.PartFault.{PartFault}
-use Rattle.html_template.specs.declared.faults.PartFault.TheVariants.{AfterLink, DotSegment}
+use Rattle.html_template.specs.declared.faults.PartFault.TheVariants.{AfterLink}
 use Rattle.html_template.specs.declared.open_url.OpenUrl.{OpenUrl}
 use Rattle.html_template.specs.declared.open_url.OpenUrl.TheVariants.{Outside, Within, Front}
 use Rattle.html_template.specs.OpenUrls.{after_base, behind_base_text, behind_part, behind_slot, if_plain, is_slash, plain_text, url_end}
@@ -29,14 +30,12 @@ plain_adds : (is_ended : Bool) (markup text : List ℕ) (read : Option (List ℕ
     AddsText is_ended markup text
 plain_adds is_ended markup text None is told = absurd (cc)
 plain_adds is_ended markup text (Some found) is told =
-    ⊎_elim
-    (λ (plain : is_plain found is_ended ≡ true).
-    let same : found ≡ text = some_text (rw plain at told) in
-    record { read = is ∙ ap Some same; plain = rw (← same) plain })
-    (λ (not : is_plain found is_ended ≡ false).
-    let clash : None ≡ Some text = rw not at told in
-    absurd (cc))
-    (cases_Bool (is_plain found is_ended))
+    elim (cases_Bool (is_plain found is_ended)) [
+      | inl plain ↦ let same : found ≡ text = some_text (rw plain at told) in
+          record { read = is ∙ ap Some same; plain = rw (← same) plain }
+      | inr not ↦ let clash : None ≡ Some text = rw not at told in
+          absurd (cc)
+    ]
 
 pub adds_text : (is_ended : Bool) (markup text : List ℕ) → plain_text is_ended markup ≡ Some text → AddsText is_ended markup text
 adds_text is_ended markup text told = plain_adds is_ended markup text (url_text is_ended markup) refl told
@@ -82,13 +81,7 @@ pub record IsEnded (part : OpenPart) (url : OpenUrl) : Type 0 where
   pub outside : Outside ≡ url
 
 pub is_ended : (p : SlotPlace) (part : OpenPart) (url : OpenUrl) → url_end p true part ≡ Ok url → IsEnded part url
-is_ended p part url told =
-    ⊎_elim
-    (λ (dots : may_be_dots part ≡ true).
-    let clash : Err DotSegment ≡ as_told url = rw dots at told in
-    absurd (cc))
-    (λ (none : may_be_dots part ≡ false). record { no_dots = none; outside = ok_url (rw none at told) })
-    (cases_Bool (may_be_dots part))
+is_ended p part url told = grind (arith, nat_tests)
 
 -- ---- behind a base
 
@@ -112,42 +105,28 @@ pub record BehindFront (p : SlotPlace) (behind : BehindBase) (ended : Bool) (mar
   pub how : SlashAlone p ended text url ⊎ InPartOf p behind ended text url
 
 is_open : (ended slash : Bool) → (not ended && slash) ≡ true → (ended ≡ false) × (slash ≡ true)
-is_open false true is = (refl, refl)
-is_open false false is = absurd (cc)
-is_open true slash is = absurd (cc)
+is_open ended slash is = grind (arith, nat_tests)
 
 not_alone : (ended : Bool) (text : List ℕ) → (not ended && is_slash text) ≡ false → ended ≡ false → text ≢ 47 ∷ []
-not_alone ended text none open_still same =
-    let clash : true ≡ false = rw (same, open_still) at none in
-    cc
+not_alone ended text none open_still same = grind (arith, nat_tests)
 
 part_after : (p : SlotPlace) (behind : BehindBase) (ended : Bool) (text : List ℕ) (url : OpenUrl) (after : Option OpenPart) →
     after_markup (open_behind behind) text ≡ after → (ended ≡ false → text ≢ 47 ∷ []) → behind_part p ended after ≡ Ok url → InPartOf p behind ended text url
-part_after p behind ended text url None opened long told = absurd (cc)
-part_after p behind ended text url (Some after) opened long told = record { long = long; after = after; opened = opened; told = told }
+part_after p behind ended text url after opened long told = grind (arith, nat_tests)
 
 base_text_told : (p : SlotPlace) (behind : BehindBase) (ended : Bool) (text : List ℕ) (url : OpenUrl) → behind_base_text p behind ended text ≡ Ok url →
     SlashAlone p ended text url ⊎ InPartOf p behind ended text url
-base_text_told p behind ended text url told =
-    ⊎_elim
-    (λ (alone : (not ended && is_slash text) ≡ true).
-    let both = is_open ended (is_slash text) alone in
-    inl (record { open_still = both.0; text_is = (bytes_eq-Decides text (codes "/")).0 both.1; told = ok_url (rw alone at told) }))
-    (λ (none : (not ended && is_slash text) ≡ false).
-    inr (part_after p behind ended text url (after_markup (open_behind behind) text) refl (not_alone ended text none) (rw none at told)))
-    (cases_Bool (not ended && is_slash text))
+base_text_told p behind ended text url told = grind (arith, nat_tests, not, is_open, bytes_eq-Decides, ok_url, part_after, not_alone)
 
 base_read : (p : SlotPlace) (behind : BehindBase) (ended : Bool) (markup : List ℕ) (url : OpenUrl) (read : Option (List ℕ)) →
     plain_text ended markup ≡ read → after_base p behind ended read ≡ Ok url → BehindFront p behind ended markup url
 base_read p behind ended markup url None is told = absurd (cc)
 base_read p behind ended markup url (Some text) is told =
-    ⊎_elim
-    (λ (goes : goes_as behind text ≡ true).
-    record { text = text; adds = adds_text ended markup text is; goes = goes; how = base_text_told p behind ended text url (rw goes at told) })
-    (λ (stops : goes_as behind text ≡ false).
-    let clash : Err AfterLink ≡ as_told url = rw stops at told in
-    absurd (cc))
-    (cases_Bool (goes_as behind text))
+    elim (cases_Bool (goes_as behind text)) [
+      | inl goes ↦ record { text = text; adds = adds_text ended markup text is; goes = goes; how = base_text_told p behind ended text url (rw goes at told) }
+      | inr stops ↦ let clash : Err AfterLink ≡ as_told url = rw stops at told in
+          absurd (cc)
+    ]
 
 pub base_told : (p : SlotPlace) (behind : BehindBase) (ended : Bool) (markup : List ℕ) (url : OpenUrl) →
     after_base p behind ended (plain_text ended markup) ≡ Ok url → BehindFront p behind ended markup url

@@ -1,10 +1,10 @@
 -- The URLs of a template: part by part, from the last one on.
-use Rattle.std.proofs.Common.{ℕ, ◌≡◌, ◌+◌, true, List, [], ◌∷◌, map, IsUtf8, Ok, refl, sym, subst}
+use Rattle.std.proofs.Common.{ℕ, ◌≡◌, ◌+◌, true, List, [], ◌∷◌, map, IsUtf8, Ok, refl, sym, subst, arith}
+use Rattle.std.proofs.lemmas.Bool.Decides.{nat_tests}
 use Rattle.std.specs.List.{AllByRecursion}
 use Rattle.html_template.specs.declared.open_url.OpenUrl.{OpenUrl}
-use Rattle.html_template.specs.declared.open_url.OpenUrl.TheVariants.{Outside, Within, Whole, Front}
 use Rattle.html_template.specs.declared.open_url.PlacedSlot.{PlacedSlot}
-use Rattle.html_template.specs.FilledUrls.{AreFilled, HasUrls, HasUrlsOf, piece_urls, url_texts}
+use Rattle.html_template.specs.FilledUrls.{AreFilled, HasUrls, HasUrlsOf}
 use Rattle.html_template.specs.OpenUrls.{before}
 use Rattle.html_template.specs.PageUrls.{LeadsAsAny}
 use Rattle.html_template.specs.Slots.{past_slot}
@@ -17,16 +17,12 @@ use Rattle.html_template.proofs.Pieces.{at_end, at_markup, at_slot}
 use Rattle.html_template.proofs.PageUrls.Filled.{HasLater}
 use Rattle.html_template.proofs.PageUrls.FilledAlike.{filled_alike}
 use Rattle.html_template.proofs.PageUrls.MarkupSteps.{markup_goes}
-use Rattle.html_template.proofs.PageUrls.OpenEnds.{no_end}
 use Rattle.html_template.proofs.PageUrls.Opening.{Goes, no_url_open}
 use Rattle.html_template.proofs.PageUrls.SlotSteps.{slot_goes, tame_behind}
 use Rattle.html_template.proofs.Walks.{before_suits}
 
 end_goes : (url : OpenUrl) (t : Tokenizer) (markup : List ℕ) → IsTame t → may_end t ≡ true → Goes url t markup []
-end_goes Outside t markup tame may = λ value from. record { urls = []; told = refl; filled = λ texts full utf8. record { same = refl; full = tt; whole_same = refl } }
-end_goes (Within p open_part) t markup tame may = λ stands. absurd (no_end p t tame may stands)
-end_goes (Whole p) t markup tame may = λ stands. absurd (no_end p t tame may stands)
-end_goes (Front p behind) t markup tame may = λ stands. absurd (no_end p t tame may stands)
+end_goes url t markup tame may = grind (arith, nat_tests)
 
 all_goes : (number : ℕ) (walk : Walk) (parts : List Given) (chunks : List Chunk) → pieces_from number walk parts ≡ Ok chunks → IsTame walk.tokenizer →
     Goes walk.url walk.tokenizer walk.markup chunks
@@ -69,7 +65,4 @@ has_urls_of chunks texts told full utf8 =
 
 -- so they are alike with all texts
 pub leads_as_any : (chunks : List Chunk) (texts : List (List ℕ)) → HasUrlsOf chunks texts → LeadsAsAny chunks texts
-leads_as_any chunks texts has = λ others full utf8.
-    let second = has.any others full utf8 in
-    rw (has.here.first, second.first, has.here.same, second.same)
-    (filled_alike (piece_urls chunks) (url_texts chunks texts) (url_texts chunks others) has.here.full second.full)
+leads_as_any chunks texts has = grind (arith, nat_tests, filled_alike)

@@ -1,10 +1,11 @@
 -- Markup, and what is open behind it.
-use Rattle.std.proofs.Common.{ℕ, ◌≡◌, ◌+◌, Bool, true, false, not, List, [], ◌∷◌, ◌++◌, Ok, Err, Some, length, map, take, nat_lt, refl, sym, ap, ◌∙◌, subst, ⊎_elim, append-nil, append_assoc, arith}
-use Rattle.std.proofs.lemmas.Bool.{and_parts, cases_Bool, true≢false}
+use Rattle.std.proofs.Common.{ℕ, ◌≡◌, ◌+◌, Bool, true, false, List, [], ◌∷◌, ◌++◌, Ok, Err, Some, length, map, take, nat_lt, refl, sym, ap, ◌∙◌, subst, ⊎_elim, append-nil, append_assoc, arith, inl, inr}
+use Rattle.std.proofs.lemmas.Bool.{cases_Bool, true≢false}
 use Rattle.std.proofs.lemmas.Bool.Decides.{nat_tests}
 use Rattle.html_template.specs.declared.faults.PartFault.TheVariants.{AfterLink}
 use Rattle.html_template.specs.declared.open_url.OpenUrl.{OpenUrl}
 use Rattle.html_template.specs.declared.open_url.OpenUrl.TheVariants.{Outside, Within, Whole, Front}
+use Rattle.html_tokenizer.specs.UrlValues.{url_text}
 use Rattle.html_template.specs.FilledUrls.{Fixed, url_texts}
 use Rattle.html_template.specs.OpenUrls.{url_markup, value_length}
 use Rattle.html_template.specs.PageUrls.{first_texts}
@@ -36,7 +37,7 @@ use Rattle.html_urls.specs.declared.open_part.OpenPart.TheVariants.{NewSegment}
 use Rattle.html_urls.proofs.Bases.GoesAs.{goes_alone, goes_more, slash_alone, slash_goes}
 use Rattle.html_template.proofs.PageUrls.Filled.{EndsBehind, EndsParts, GoesBehind, GoesOn, IsFilled, ends_more, fixed_before}
 use Rattle.html_template.proofs.PageUrls.EndedUrls.{ends_in, parts_end}
-use Rattle.html_template.proofs.PageUrls.LaterMarkup.{InPartOf, SlashAlone, as_told, base_told, behind_told, goes_on, is_ended, ok_url}
+use Rattle.html_template.proofs.PageUrls.LaterMarkup.{as_told, base_told, behind_told, goes_on, is_ended, ok_url}
 use Rattle.html_template.proofs.PageUrls.Opening.{Goes, behind_bytes, fresh_here, goes_told, value_place}
 use Rattle.html_template.proofs.PageUrls.Splitting.{IsCut, IsWhole, whole_or_cut}
 
@@ -62,8 +63,7 @@ outside_goes t markup bytes chunks tame goes = λ value from.
 
 -- markup that another part may follow may be the last one
 plain_anywhere : (text : List ℕ) (is_last : Bool) → is_plain text false ≡ true → is_plain text is_last ≡ true
-plain_anywhere text true plain = rw (and_parts (are_plain text) (not (ends_in_escape text)) plain).0 refl
-plain_anywhere text false plain = plain
+plain_anywhere text is_last plain = grind (arith, nat_tests)
 
 module _ (p : SlotPlace) (content : Content) (attribute : Attribute) (place : is_value_place p ≡ true) (url : is_url attribute ≡ true) where
   abbrev here : Tokenizer
@@ -99,6 +99,23 @@ module _ (p : SlotPlace) (content : Content) (attribute : Attribute) (place : is
     ends = λ value texts full utf8. rw (append-nil text) (ends.end.ends value texts full utf8);
   }
 
+  -- the value ends in the markup
+  cut_ends : (bytes text : List ℕ) (chunks : List Chunk) → is_refused (state_after here bytes).state ≡ false → IsCut (ends_value p) bytes →
+      url_text true (take (value_length p bytes) bytes) ≡ Some text → Goes Outside (state_after here bytes) bytes chunks → EndsParts here text (Markup bytes ∷ chunks)
+  cut_ends bytes text chunks unrefused cut read goes =
+      let raw : List ℕ = take (value_length p bytes) bytes in
+      let all : is_refused (state_after here (raw ++ cut.first ∷ cut.rest)).state ≡ false =
+      subst (λ (x : List ℕ). is_refused (state_after here x).state ≡ false) cut.parts unrefused in
+      let still : is_refused (consume (state_after here raw) cut.first).next.state ≡ false =
+      not_refused (consume (state_after here raw) cut.first).next cut.rest
+      (subst (λ (x : Tokenizer). is_refused x.state ≡ false) (state_after-append here raw (cut.first ∷ cut.rest)) all) in
+      let reads = reads_to_end p content attribute raw text cut.first place url cut.none cut.passes read still in
+      let there : Goes Outside (state_after here (raw ++ cut.first ∷ cut.rest)) (raw ++ cut.first ∷ cut.rest) chunks =
+      subst (λ (x : List ℕ). Goes Outside (state_after here x) x chunks) cut.parts goes in
+      subst (λ (x : List ℕ). EndsParts here text (Markup x ∷ chunks)) (sym cut.parts)
+      (subst (λ (x : List ℕ). EndsParts here x (Markup (raw ++ cut.first ∷ cut.rest) ∷ chunks)) (sym reads.whole)
+      (parts_end here reads.there (value_tame p content attribute place) (value_fresh p content attribute []) reads.url raw reads.first reads.added cut.first cut.rest chunks reads.stays reads.ends there))
+
   module _ (open_part : OpenPart) (bytes : List ℕ) (opened : OpenUrl) (chunks : List Chunk)
       (unrefused : is_refused (state_after here bytes).state ≡ false) (told : url_markup (Within p open_part) bytes ≡ Ok opened)
       (goes : Goes opened (state_after here bytes) bytes chunks) where
@@ -116,24 +133,12 @@ module _ (p : SlotPlace) (content : Content) (attribute : Attribute) (place : is
 
     cut_goes : IsCut (ends_value p) bytes → GoesOn open_part here (Markup bytes ∷ chunks)
     cut_goes cut =
-        let raw : List ℕ = take (value_length p bytes) bytes in
         let within = cut.within in
         let ends : nat_lt (value_length p bytes) (length bytes) ≡ true = grind (arith, nat_tests) in
-        let behind = behind_told p open_part true raw opened (rw ends at told) in
+        let behind = behind_told p open_part true (take (value_length p bytes) bytes) opened (rw ends at told) in
         let end = is_ended p behind.after opened behind.told in
-        let all : is_refused (state_after here (raw ++ cut.first ∷ cut.rest)).state ≡ false =
-        subst (λ (x : List ℕ). is_refused (state_after here x).state ≡ false) cut.parts unrefused in
-        let still : is_refused (consume (state_after here raw) cut.first).next.state ≡ false =
-        not_refused (consume (state_after here raw) cut.first).next cut.rest
-        (subst (λ (x : Tokenizer). is_refused x.state ≡ false) (state_after-append here raw (cut.first ∷ cut.rest)) all) in
-        let reads = reads_to_end p content attribute raw behind.text cut.first place url cut.none cut.passes behind.adds.read still in
-        let there : Goes Outside (state_after here (raw ++ cut.first ∷ cut.rest)) (raw ++ cut.first ∷ cut.rest) chunks =
-        subst (λ (x : List ℕ). Goes Outside (state_after here x) x chunks) cut.parts
-        (goes_told Outside (state_after here bytes) bytes chunks end.outside goes) in
-        subst (λ (x : List ℕ). GoesOn open_part here (Markup x ∷ chunks)) (sym cut.parts)
-        (ends_within open_part behind.after behind.text (Markup (raw ++ cut.first ∷ cut.rest) ∷ chunks) behind.adds.plain behind.opened end.no_dots
-        (subst (λ (x : List ℕ). EndsParts here x (Markup (raw ++ cut.first ∷ cut.rest) ∷ chunks)) (sym reads.whole)
-        (parts_end here reads.there (value_tame p content attribute place) (value_fresh p content attribute []) reads.url raw reads.first reads.added cut.first cut.rest chunks reads.stays reads.ends there)))
+        ends_within open_part behind.after behind.text (Markup bytes ∷ chunks) behind.adds.plain behind.opened end.no_dots
+        (cut_ends bytes behind.text chunks unrefused cut behind.adds.read (goes_told Outside (state_after here bytes) bytes chunks end.outside goes))
 
     within_goes : GoesOn open_part here (Markup bytes ∷ chunks)
     within_goes = ⊎_elim whole_goes cut_goes (whole_or_cut (ends_value p) bytes)
@@ -174,46 +179,31 @@ module _ (p : SlotPlace) (content : Content) (attribute : Attribute) (place : is
         let front = base_told p behind false bytes opened (rw (all_of_it, whole.all) at told) in
         let reads = reads_on p content attribute bytes front.text place url whole.none front.adds.read unrefused in
         let there : Tokenizer = at_value (In p) content reads.attribute in
-        ⊎_elim
-        (λ (slash : SlashAlone p false front.text opened).
-        let later : Goes (Front p Segment) there bytes chunks =
-        subst (λ (x : Tokenizer). Goes (Front p Segment) x bytes chunks) reads.stays.passes.after
-        (goes_told (Front p Segment) (state_after here bytes) bytes chunks slash.told goes) in
-        slash_within behind bytes front.text there chunks front.adds.plain front.goes slash.text_is reads.stays
-        (later (record { state_is = refl; attribute_is = reads.url })))
-        (λ (on : InPartOf p behind false front.text opened).
-        let later : Goes (Within p on.after) there bytes chunks =
-        subst (λ (x : Tokenizer). Goes (Within p on.after) x bytes chunks) reads.stays.passes.after
-        (goes_told (Within p on.after) (state_after here bytes) bytes chunks (goes_on p on.after opened on.told) goes) in
-        let next = later (record { state_is = refl; attribute_is = reads.url }) in
-        base_within behind on.after bytes front.text there chunks front.adds.plain on.opened reads.stays next
-        (goes_more behind front.text (front_of next.parts) front.goes (on.long refl)))
-        front.how
+        elim (front.how) [
+          | inl slash ↦ let later : Goes (Front p Segment) there bytes chunks =
+              subst (λ (x : Tokenizer). Goes (Front p Segment) x bytes chunks) reads.stays.passes.after
+              (goes_told (Front p Segment) (state_after here bytes) bytes chunks slash.told goes) in
+              slash_within behind bytes front.text there chunks front.adds.plain front.goes slash.text_is reads.stays
+              (later (record { state_is = refl; attribute_is = reads.url }))
+          | inr on ↦ let later : Goes (Within p on.after) there bytes chunks =
+              subst (λ (x : Tokenizer). Goes (Within p on.after) x bytes chunks) reads.stays.passes.after
+              (goes_told (Within p on.after) (state_after here bytes) bytes chunks (goes_on p on.after opened on.told) goes) in
+              let next = later (record { state_is = refl; attribute_is = reads.url }) in
+              base_within behind on.after bytes front.text there chunks front.adds.plain on.opened reads.stays next
+              (goes_more behind front.text (front_of next.parts) front.goes (on.long refl))
+        ]
 
     base_cut : IsCut (ends_value p) bytes → GoesBehind behind here (Markup bytes ∷ chunks)
     base_cut cut =
-        let raw : List ℕ = take (value_length p bytes) bytes in
         let within = cut.within in
         let ends : nat_lt (value_length p bytes) (length bytes) ≡ true = grind (arith, nat_tests) in
-        let front = base_told p behind true raw opened (rw ends at told) in
-        ⊎_elim
-        (λ (slash : SlashAlone p true front.text opened). absurd (true≢false slash.open_still))
-        (λ (on : InPartOf p behind true front.text opened).
-        let end = is_ended p on.after opened on.told in
-        let all : is_refused (state_after here (raw ++ cut.first ∷ cut.rest)).state ≡ false =
-        subst (λ (x : List ℕ). is_refused (state_after here x).state ≡ false) cut.parts unrefused in
-        let still : is_refused (consume (state_after here raw) cut.first).next.state ≡ false =
-        not_refused (consume (state_after here raw) cut.first).next cut.rest
-        (subst (λ (x : Tokenizer). is_refused x.state ≡ false) (state_after-append here raw (cut.first ∷ cut.rest)) all) in
-        let reads = reads_to_end p content attribute raw front.text cut.first place url cut.none cut.passes front.adds.read still in
-        let there : Goes Outside (state_after here (raw ++ cut.first ∷ cut.rest)) (raw ++ cut.first ∷ cut.rest) chunks =
-        subst (λ (x : List ℕ). Goes Outside (state_after here x) x chunks) cut.parts
-        (goes_told Outside (state_after here bytes) bytes chunks end.outside goes) in
-        subst (λ (x : List ℕ). GoesBehind behind here (Markup x ∷ chunks)) (sym cut.parts)
-        (base_ends behind on.after front.text (Markup (raw ++ cut.first ∷ cut.rest) ∷ chunks) front.adds.plain on.opened end.no_dots front.goes
-        (subst (λ (x : List ℕ). EndsParts here x (Markup (raw ++ cut.first ∷ cut.rest) ∷ chunks)) (sym reads.whole)
-        (parts_end here reads.there (value_tame p content attribute place) (value_fresh p content attribute []) reads.url raw reads.first reads.added cut.first cut.rest chunks reads.stays reads.ends there))))
-        front.how
+        let front = base_told p behind true (take (value_length p bytes) bytes) opened (rw ends at told) in
+        elim (front.how) [
+          | inl slash ↦ absurd (true≢false slash.open_still)
+          | inr on ↦ let end = is_ended p on.after opened on.told in
+              base_ends behind on.after front.text (Markup bytes ∷ chunks) front.adds.plain on.opened end.no_dots front.goes
+              (cut_ends bytes front.text chunks unrefused cut front.adds.read (goes_told Outside (state_after here bytes) bytes chunks end.outside goes))
+        ]
 
     base_goes : GoesBehind behind here (Markup bytes ∷ chunks)
     base_goes = ⊎_elim base_whole base_cut (whole_or_cut (ends_value p) bytes)
@@ -227,14 +217,12 @@ module _ (p : SlotPlace) (content : Content) (attribute : Attribute) (place : is
       let end = still (record { state_is = refl; attribute_is = url }) in
       record { later = end.later; told = end.told; ends = end.ends }
   link_goes (b ∷ rest) opened chunks told goes =
-      ⊎_elim
-      (λ (ends : ends_value p b ≡ true).
-      ends_in here here (value_tame p content attribute place) (value_fresh p content attribute []) url [] [] [] b rest chunks stays_none (ends_at p content attribute b place url ends)
-      (goes_told Outside (state_after here (b ∷ rest)) (b ∷ rest) chunks (ok_url (rw ends at told)) goes))
-      (λ (goes_on : ends_value p b ≡ false).
-      let clash : Err AfterLink ≡ as_told opened = rw goes_on at told in
-      absurd (cc))
-      (cases_Bool (ends_value p b))
+      elim (cases_Bool (ends_value p b)) [
+        | inl ends ↦ ends_in here here (value_tame p content attribute place) (value_fresh p content attribute []) url [] [] [] b rest chunks stays_none (ends_at p content attribute b place url ends)
+            (goes_told Outside (state_after here (b ∷ rest)) (b ∷ rest) chunks (ok_url (rw ends at told)) goes)
+        | inr goes_on ↦ let clash : Err AfterLink ≡ as_told opened = rw goes_on at told in
+            absurd (cc)
+      ]
 
 -- ---- where anything is open
 

@@ -1,9 +1,8 @@
 -- Where a URL with slots is open, the tokenizer is in its value.
-use Rattle.std.proofs.Common.{ℕ, ◌≡◌, ◌∙◌, Bool, true, false, List, [], ◌∷◌, Ok, Err, Option, Some, None, length, take, nat_lt, refl, sym, subst, ⊎_elim, arith}
+use Rattle.std.proofs.Common.{ℕ, ◌≡◌, Bool, true, false, List, Ok, Option, length, take, nat_lt, refl, sym, subst, arith, inl, inr}
 use Rattle.std.specs.Prelude.{⊤}
-use Rattle.std.proofs.lemmas.Bool.{cases_Bool, true≢false}
+use Rattle.std.proofs.lemmas.Bool.{true≢false}
 use Rattle.std.proofs.lemmas.Bool.Decides.{nat_tests}
-use Rattle.html_template.specs.declared.faults.PartFault.TheVariants.{AfterLink}
 use Rattle.html_template.specs.declared.open_url.OpenUrl.{OpenUrl}
 use Rattle.html_template.specs.declared.open_url.OpenUrl.TheVariants.{Outside, Within, Whole, Front}
 use Rattle.html_template.specs.declared.open_url.PlacedSlot.{PlacedSlot}
@@ -14,7 +13,6 @@ use Rattle.html_template.specs.Slots.{past_slot, suits}
 use Rattle.html_template.specs.TemplateFaults.{slot_at}
 use Rattle.html_tokenizer.specs.declared.elements.Content.{Content}
 use Rattle.html_tokenizer.specs.declared.reader.Standing.{Standing}
-use Rattle.html_tokenizer.specs.declared.reader.Standing.TheVariants.{Stands, InUrl, InLink, InScript, Nowhere, Barred}
 use Rattle.html_tokenizer.specs.declared.slot_place.SlotPlace.{SlotPlace}
 use Rattle.html_tokenizer.specs.Standing.{is_refused, may_end, standing}
 use Rattle.html_tokenizer.specs.Tokenizer.States.{Attribute, In, Tokenizer, at_value}
@@ -25,16 +23,12 @@ use Rattle.html_tokenizer.proofs.UrlValues.Reading.{reads_on}
 use Rattle.html_tokenizer.proofs.UrlValues.Slots.Tame.{IsTame}
 use Rattle.html_urls.specs.Bases.{behind_base}
 use Rattle.html_urls.specs.declared.base.BehindBase.{BehindBase}
-use Rattle.html_urls.specs.declared.base.BehindBase.TheVariants.{Slash, Tail, Segment}
 use Rattle.html_urls.specs.declared.open_part.OpenPart.{OpenPart}
-use Rattle.html_urls.specs.declared.open_part.OpenPart.TheVariants.{NewSegment}
-use Rattle.html_template.proofs.PageUrls.LaterMarkup.{InPartOf, SlashAlone, as_told, base_told, behind_told, goes_on, is_ended, ok_url}
-use Rattle.html_template.proofs.PageUrls.OpenEnds.{no_end}
+use Rattle.html_template.proofs.PageUrls.LaterMarkup.{base_told, behind_told, goes_on, is_ended, ok_url}
 use Rattle.html_template.proofs.PageUrls.Opening.{StandsAt, value_place}
-use Rattle.html_template.proofs.PageUrls.Placed.{InPart, IsFirst, first_told, part_told, past_markup, whole}
-use Rattle.html_template.proofs.TemplateLaw.{base_in_url, part_in_url, whole_in_url}
-use Rattle.html_template.proofs.Walks.{in_script, ok_slot, past_base, slot_suits}
-use Rattle.html_template.proofs.PageUrls.Splitting.{IsCut, IsWhole, whole_or_cut}
+use Rattle.html_template.proofs.PageUrls.Placed.{InPart, IsFirst, first_told, part_told}
+use Rattle.html_template.proofs.Walks.{in_script, ok_slot, slot_suits}
+use Rattle.html_template.proofs.PageUrls.Splitting.{whole_or_cut}
 
 abbrev pub OpenStands : OpenUrl → Tokenizer → Type 0
 OpenStands Outside t = ⊤
@@ -44,10 +38,7 @@ OpenStands (Front p behind) t = StandsAt p t
 
 -- so none is open where a template may end
 pub none_open : (url : OpenUrl) (t : Tokenizer) → IsTame t → may_end t ≡ true → OpenStands url t → url ≡ Outside
-none_open Outside t tame may stands = refl
-none_open (Within p part) t tame may stands = absurd (no_end p t tame may stands)
-none_open (Whole p) t tame may stands = absurd (no_end p t tame may stands)
-none_open (Front p behind) t tame may stands = absurd (no_end p t tame may stands)
+none_open url t tame may stands = grind (arith, nat_tests)
 
 -- ---- behind markup
 
@@ -58,58 +49,38 @@ module _ (p : SlotPlace) (content : Content) (attribute : Attribute) (place : is
   part_stands : (part : OpenPart) (bytes : List ℕ) (opened : OpenUrl) → is_refused (state_after here bytes).state ≡ false →
       url_markup (Within p part) bytes ≡ Ok opened → OpenStands opened (state_after here bytes)
   part_stands part bytes opened unrefused told =
-      ⊎_elim
-      (λ (whole : IsWhole (ends_value p) bytes).
-      let end = whole.end in
-      let all_of_it : nat_lt (value_length p bytes) (length bytes) ≡ false = grind (arith, nat_tests) in
-      let behind = behind_told p part false bytes opened (rw (all_of_it, whole.all) at told) in
-      let reads = reads_on p content attribute bytes behind.text place url whole.none behind.adds.read unrefused in
-      subst (λ (x : OpenUrl). OpenStands x (state_after here bytes)) (goes_on p behind.after opened behind.told)
-      (subst (StandsAt p) (sym reads.stays.passes.after) (record { state_is = refl; attribute_is = reads.url })))
-      (λ (cut : IsCut (ends_value p) bytes).
-      let within = cut.within in
-      let ends : nat_lt (value_length p bytes) (length bytes) ≡ true = grind (arith, nat_tests) in
-      let behind = behind_told p part true (take (value_length p bytes) bytes) opened (rw ends at told) in
-      subst (λ (x : OpenUrl). OpenStands x (state_after here bytes)) (is_ended p behind.after opened behind.told).outside tt)
-      (whole_or_cut (ends_value p) bytes)
+      elim (whole_or_cut (ends_value p) bytes) [
+        | inl uncut ↦ let end = uncut.end in
+            let all_of_it : nat_lt (value_length p bytes) (length bytes) ≡ false = grind (arith, nat_tests) in
+            let behind = behind_told p part false bytes opened (rw (all_of_it, uncut.all) at told) in
+            let reads = reads_on p content attribute bytes behind.text place url uncut.none behind.adds.read unrefused in
+            subst (λ (x : OpenUrl). OpenStands x (state_after here bytes)) (goes_on p behind.after opened behind.told)
+            (subst (StandsAt p) (sym reads.stays.passes.after) (record { state_is = refl; attribute_is = reads.url }))
+        | inr cut ↦ let within = cut.within in
+            let ends : nat_lt (value_length p bytes) (length bytes) ≡ true = grind (arith, nat_tests) in
+            let behind = behind_told p part true (take (value_length p bytes) bytes) opened (rw ends at told) in
+            subst (λ (x : OpenUrl). OpenStands x (state_after here bytes)) (is_ended p behind.after opened behind.told).outside tt
+      ]
 
   base_stands : (behind : BehindBase) (bytes : List ℕ) (opened : OpenUrl) → is_refused (state_after here bytes).state ≡ false →
       url_markup (Front p behind) bytes ≡ Ok opened → OpenStands opened (state_after here bytes)
   base_stands behind bytes opened unrefused told =
-      ⊎_elim
-      (λ (whole : IsWhole (ends_value p) bytes).
-      let end = whole.end in
-      let all_of_it : nat_lt (value_length p bytes) (length bytes) ≡ false = grind (arith, nat_tests) in
-      let front = base_told p behind false bytes opened (rw (all_of_it, whole.all) at told) in
-      let reads = reads_on p content attribute bytes front.text place url whole.none front.adds.read unrefused in
-      let stands : StandsAt p (state_after here bytes) =
-      subst (StandsAt p) (sym reads.stays.passes.after) (record { state_is = refl; attribute_is = reads.url }) in
-      ⊎_elim
-      (λ (slash : SlashAlone p false front.text opened). subst (λ (x : OpenUrl). OpenStands x (state_after here bytes)) slash.told stands)
-      (λ (on : InPartOf p behind false front.text opened).
-      subst (λ (x : OpenUrl). OpenStands x (state_after here bytes)) (goes_on p on.after opened on.told) stands)
-      front.how)
-      (λ (cut : IsCut (ends_value p) bytes).
-      let within = cut.within in
-      let ends : nat_lt (value_length p bytes) (length bytes) ≡ true = grind (arith, nat_tests) in
-      let front = base_told p behind true (take (value_length p bytes) bytes) opened (rw ends at told) in
-      ⊎_elim
-      (λ (slash : SlashAlone p true front.text opened). absurd (true≢false slash.open_still))
-      (λ (on : InPartOf p behind true front.text opened).
-      subst (λ (x : OpenUrl). OpenStands x (state_after here bytes)) (is_ended p on.after opened on.told).outside tt)
-      front.how)
-      (whole_or_cut (ends_value p) bytes)
+      elim (whole_or_cut (ends_value p) bytes) [
+        | inl uncut ↦ let end = uncut.end in
+            let all_of_it : nat_lt (value_length p bytes) (length bytes) ≡ false = grind (arith, nat_tests) in
+            let front = base_told p behind false bytes opened (rw (all_of_it, uncut.all) at told) in
+            let reads = reads_on p content attribute bytes front.text place url uncut.none front.adds.read unrefused in
+            let stands : StandsAt p (state_after here bytes) =
+            subst (StandsAt p) (sym reads.stays.passes.after) (record { state_is = refl; attribute_is = reads.url }) in
+            elim (front.how) [ inl slash ↦ subst (λ (x : OpenUrl). OpenStands x (state_after here bytes)) slash.told stands | inr on ↦ subst (λ (x : OpenUrl). OpenStands x (state_after here bytes)) (goes_on p on.after opened on.told) stands ]
+        | inr cut ↦ let within = cut.within in
+            let ends : nat_lt (value_length p bytes) (length bytes) ≡ true = grind (arith, nat_tests) in
+            let front = base_told p behind true (take (value_length p bytes) bytes) opened (rw ends at told) in
+            elim (front.how) [ inl slash ↦ absurd (true≢false slash.open_still) | inr on ↦ subst (λ (x : OpenUrl). OpenStands x (state_after here bytes)) (is_ended p on.after opened on.told).outside tt ]
+      ]
 
   whole_stands : (bytes : List ℕ) (opened : OpenUrl) → url_markup (Whole p) bytes ≡ Ok opened → OpenStands opened (state_after here bytes)
-  whole_stands [] opened told =
-      subst (λ (x : OpenUrl). OpenStands x here) (ok_url told) (record { state_is = refl; attribute_is = url })
-  whole_stands (b ∷ rest) opened told =
-      ⊎_elim
-      (λ (ends : ends_value p b ≡ true). subst (λ (x : OpenUrl). OpenStands x (state_after here (b ∷ rest))) (ok_url (rw ends at told)) tt)
-      (λ (goes_on : ends_value p b ≡ false).
-      let clash : Err AfterLink ≡ as_told opened = rw goes_on at told in
-      absurd (cc))
-      (cases_Bool (ends_value p b))
+  whole_stands bytes opened told = grind (arith, nat_tests)
 
 pub markup_stands : (before : OpenUrl) (t : Tokenizer) (bytes : List ℕ) (opened : OpenUrl) → IsTame t →
     is_refused (state_after t bytes).state ≡ false → url_markup before bytes ≡ Ok opened → OpenStands before t → OpenStands opened (state_after t bytes)
@@ -137,14 +108,10 @@ part_opens : (p : SlotPlace) (part : OpenPart) (slot : PlacedSlot) → InPart p 
 part_opens p part slot placed = subst OpensUrl placed.is (λ t url. record { state_is = refl; attribute_is = url })
 
 first_opens : (p : SlotPlace) (markup : List ℕ) (slot : PlacedSlot) → IsFirst p markup slot → OpensUrl slot
-first_opens p markup slot (whole true last is) = subst OpensUrl is (λ t url. record { state_is = refl; attribute_is = url })
-first_opens p markup slot (whole false last is) = subst OpensUrl is (λ t url. record { state_is = refl; attribute_is = url })
-first_opens p markup slot (past_markup raw last front) = part_opens p front.part slot front.placed
+first_opens p markup slot given_1 = grind (arith, nat_tests)
 
 base_opens : (p : SlotPlace) (behind : BehindBase) (slot : PlacedSlot) → behind_front p behind ≡ Ok slot → OpensUrl slot
-base_opens p Segment slot told = part_opens p NewSegment slot (part_told p NewSegment slot told)
-base_opens p Slash slot told = absurd (cc)
-base_opens p Tail slot told = absurd (cc)
+base_opens p behind slot told = grind (arith, nat_tests)
 
 url_opens : (p : SlotPlace) (is_followed : Bool) (markup : List ℕ) (url : OpenUrl) (slot : PlacedSlot) →
     url_slot p is_followed markup url ≡ Ok slot → OpensUrl slot
@@ -153,44 +120,18 @@ url_opens p is_followed markup (Within q part) slot told = part_opens p part slo
 url_opens p is_followed markup (Whole q) slot told = absurd (cc)
 url_opens p is_followed markup (Front q behind) slot told = base_opens p behind slot told
 
--- it stands in the value of an attribute that holds one
-only_in_script : (p : SlotPlace) (s : Standing) → suits kind.Literal p s ≡ true → in_script s ≡ true
-only_in_script p InScript suited = refl
-only_in_script p other suited = absurd (cc)
-
 holds_url : (found : SlotKind) (p : SlotPlace) (t : Tokenizer) → suits found p (standing t) ≡ true → suits kind.Text p (standing t) ≡ false →
     in_script (standing t) ≡ false → is_url t.attribute ≡ true
-holds_url kind.Text p t suited no_text no_script = absurd (true≢false (sym suited ∙ no_text))
-holds_url (kind.UrlPart slot) p t suited no_text no_script = (part_in_url slot p t.state t.content t.attribute suited).attribute_is
-holds_url kind.Link p t suited no_text no_script = (whole_in_url true p t.state t.content t.attribute suited).attribute_is
-holds_url kind.OwnPath p t suited no_text no_script = (whole_in_url false p t.state t.content t.attribute suited).attribute_is
-holds_url (kind.Base behind) p t suited no_text no_script = (base_in_url true behind p t.state t.content t.attribute suited).attribute_is
-holds_url (kind.OwnBase behind) p t suited no_text no_script = (base_in_url false behind p t.state t.content t.attribute suited).attribute_is
-holds_url kind.Literal p t suited no_text no_script = absurd (true≢false (sym (only_in_script p (standing t) suited) ∙ no_script))
+holds_url found p t suited no_text no_script = grind (arith, nat_tests)
 
 placed_stands : (markup : List ℕ) (url : OpenUrl) (t : Tokenizer) (s : Standing) (slot : PlacedSlot) → standing t ≡ s →
     slot_at markup url s ≡ Ok slot → OpenStands slot.url (past_slot slot.place slot.kind t)
-placed_stands markup url t (Stands p) slot is told = subst (λ (x : PlacedSlot). OpenStands x.url (past_slot x.place x.kind t)) (ok_slot told) tt
-placed_stands markup url t (InUrl p) slot is told =
-    url_opens p false markup url slot told t
-    (holds_url slot.kind slot.place t (rw is (slot_suits markup url (InUrl p) slot told).suited) (rw is refl) (rw is refl))
-placed_stands markup url t (InLink p) slot is told =
-    url_opens p true markup url slot told t
-    (holds_url slot.kind slot.place t (rw is (slot_suits markup url (InLink p) slot told).suited) (rw is refl) (rw is refl))
-placed_stands markup url t InScript slot is told = subst (λ (x : PlacedSlot). OpenStands x.url (past_slot x.place x.kind t)) (ok_slot told) tt
-placed_stands markup url t Barred slot is told = absurd (cc)
-placed_stands markup url t Nowhere slot is told = absurd (cc)
+placed_stands markup url t s slot is told = grind (arith, nat_tests, ok_slot, url_opens, holds_url, slot_suits)
 
 -- also where it is a base
 begun_stands : (t : Tokenizer) (slot : PlacedSlot) (url : OpenUrl) (following : Option BehindBase) → slot.url ≡ url →
     OpenStands slot.url (past_slot slot.place slot.kind t) → OpenStands (begun slot url following).url (past_slot (begun slot url following).place (begun slot url following).kind t)
-begun_stands t slot (Whole p) (Some behind) is stands =
-    subst (λ (x : Tokenizer). OpenStands (Front p behind) x) (past_base behind slot.kind slot.place t)
-    (subst (λ (u : OpenUrl). OpenStands u (past_slot slot.place slot.kind t)) is stands)
-begun_stands t slot (Whole p) None is stands = stands
-begun_stands t slot Outside following is stands = stands
-begun_stands t slot (Within p part) following is stands = stands
-begun_stands t slot (Front p behind) following is stands = stands
+begun_stands t slot url following is stands = grind (arith, nat_tests)
 
 pub slot_stands : (next markup : List ℕ) (url : OpenUrl) (t : Tokenizer) (s : Standing) (slot : PlacedSlot) → standing t ≡ s →
     slot_at markup url s ≡ Ok slot → OpenStands (before next slot).url (past_slot (before next slot).place (before next slot).kind t)

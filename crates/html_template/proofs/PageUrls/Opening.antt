@@ -1,5 +1,6 @@
 -- A place of a template: where the tokenizer is, what was read of the URL that is open, and what is proved from there on.
-use Rattle.std.proofs.Common.{ℕ, ◌≡◌, List, [], ◌++◌, refl, sym, ap, ◌∙◌, subst, true, false}
+use Rattle.std.proofs.Common.{ℕ, ◌≡◌, List, [], ◌++◌, sym, subst, true, false, arith}
+use Rattle.std.proofs.lemmas.Bool.Decides.{nat_tests}
 use Rattle.html_template.specs.declared.open_url.OpenUrl.{OpenUrl}
 use Rattle.html_template.specs.declared.open_url.OpenUrl.TheVariants.{Outside, Within, Whole, Front}
 use Rattle.html_template.specs.Templates.{Chunk}
@@ -10,7 +11,6 @@ use Rattle.html_tokenizer.specs.UrlValues.{is_url, open_url, urls_from}
 use Rattle.html_tokenizer.proofs.UrlValues.Appending.{urls_from-append}
 use Rattle.html_tokenizer.proofs.UrlValues.Bytes.{may_hold_url}
 use Rattle.html_tokenizer.proofs.UrlValues.Places.{is_value_place}
-use Rattle.html_tokenizer.proofs.UrlValues.Slots.AtSlots.{no_url_fresh, no_url_tame}
 use Rattle.html_tokenizer.proofs.UrlValues.Slots.Tame.{IsFresh, IsTame, fresh_after}
 use Rattle.html_template.proofs.PageUrls.Filled.{EndsBehind, GoesBehind, GoesOn, HasLater}
 use Rattle.html_template.proofs.TemplateLaw.{IsInUrl}
@@ -45,25 +45,12 @@ pub value_place : (p : SlotPlace) (t : Tokenizer) → IsTame t → StandsAt p t 
 value_place p t tame stands = subst (λ s. may_hold_url s ≡ true) stands.state_is (tame stands.attribute_is)
 
 pub no_url_open : (t : Tokenizer) (value : List ℕ) → is_url t.attribute ≡ false → FromMarkup t [] value
-no_url_open t value none = record {
-  start = t;
-  tame = no_url_tame t none;
-  before = value;
-  fresh = no_url_fresh t value none;
-  after = refl;
-  is = refl;
-}
+no_url_open t value none = grind (arith, nat_tests)
 
 pub fresh_here : {t : Tokenizer} {markup value : List ℕ} → FromMarkup t markup value → IsFresh t value
-fresh_here {t} {markup} {value} from =
-    subst (λ (x : Tokenizer). IsFresh x value) (sym from.after)
-    (subst (IsFresh (state_after from.start markup)) (sym from.is) (fresh_after from.start from.before markup from.tame from.fresh))
+fresh_here from = grind (arith, nat_tests, fresh_after)
 
 -- bytes in which no URL ends, and others
 pub behind_bytes : (t : Tokenizer) {u : Tokenizer} {found : List ℕ} (value bytes rest : List ℕ) → urls_from t value bytes ≡ [] → state_after t bytes ≡ u →
     open_url t value bytes ≡ found → urls_from t value (bytes ++ rest) ≡ urls_from u found rest
-behind_bytes t {u} {found} value bytes rest none after is =
-    urls_from-append t value bytes rest
-    ∙ ap (λ x. x ++ urls_from (state_after t bytes) (open_url t value bytes) rest) none
-    ∙ ap (λ x. urls_from x (open_url t value bytes) rest) after
-    ∙ ap (λ x. urls_from u x rest) is
+behind_bytes t value bytes rest none after is = grind (arith, nat_tests, urls_from-append)

@@ -1,18 +1,17 @@
 -- What a slot in a URL was told to be.
-use Rattle.std.proofs.Common.{ℕ, ◌≡◌, Bool, false, List, [], ◌∷◌, Option, Some, None, Ok, refl}
+use Rattle.std.proofs.Common.{ℕ, ◌≡◌, Bool, false, List, [], ◌∷◌, Option, Some, None, Ok, refl, arith}
+use Rattle.std.proofs.lemmas.Bool.Decides.{nat_tests}
 use Rattle.html_template.specs.declared.open_url.OpenUrl.TheVariants.{Within, Whole}
 use Rattle.html_template.specs.declared.open_url.PlacedSlot.{PlacedSlot}
 use Rattle.html_template.specs.declared.parts.SlotKind.TheVariants as kind
 use Rattle.html_template.specs.OpenUrls.{at_open, behind_text, first_slot, in_part, plain_text, whole_slot}
 use Rattle.html_template.specs.Slots.{whole_kind}
 use Rattle.html_tokenizer.specs.declared.slot_place.SlotPlace.{SlotPlace}
-use Rattle.html_tokenizer.specs.declared.slot_place.SlotPlace.TheVariants as place
 use Rattle.html_tokenizer.specs.UrlValues.{after_last, begins_value}
 use Rattle.html_urls.specs.OpenParts.{after_text, open_of, slot_at}
 use Rattle.html_urls.specs.declared.open_part.OpenPart.{OpenPart}
 use Rattle.html_urls.specs.declared.parts.UrlSlot.{UrlSlot}
 use Rattle.html_template.proofs.PageUrls.LaterMarkup.{AddsText, adds_text}
-use Rattle.html_template.proofs.Walks.{ok_slot}
 
 abbrev pub part_slot : SlotPlace → OpenPart → UrlSlot → PlacedSlot
 part_slot p part slot = record { place = p; kind = kind.UrlPart slot; url = Within p (after_text part) }
@@ -28,8 +27,7 @@ pub record InPart (p : SlotPlace) (part : OpenPart) (slot : PlacedSlot) : Type 0
 
 found_told : (p : SlotPlace) (part : OpenPart) (found : Option UrlSlot) (slot : PlacedSlot) → slot_at part ≡ found →
     at_open p part found ≡ Ok slot → InPart p part slot
-found_told p part None slot at told = absurd (cc)
-found_told p part (Some found) slot at told = record { found = found; at = at; is = ok_slot told }
+found_told p part found slot at told = grind (arith, nat_tests)
 
 pub part_told : (p : SlotPlace) (part : OpenPart) (slot : PlacedSlot) → in_part p (Some part) ≡ Ok slot → InPart p part slot
 part_told p part slot told = found_told p part (slot_at part) slot refl told
@@ -55,9 +53,7 @@ front_told p raw slot (Some text) is told =
     opened_told p raw text slot (open_of text) (adds_text false raw text is) refl told
 
 whole_told : (is_followed : Bool) (p : SlotPlace) (slot : PlacedSlot) → whole_slot p is_followed ≡ Ok slot → quoted_slot p is_followed ≡ slot
-whole_told is_followed place.DoubleQuoted slot told = ok_slot told
-whole_told is_followed place.SingleQuoted slot told = ok_slot told
-whole_told is_followed p slot told = absurd (cc)
+whole_told is_followed p slot told = grind (arith, nat_tests)
 
 -- it is a whole URL, or stands behind markup
 pub data IsFirst (p : SlotPlace) (markup : List ℕ) (slot : PlacedSlot) : Type 0 where

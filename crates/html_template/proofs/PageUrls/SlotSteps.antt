@@ -1,10 +1,10 @@
 -- A slot, and what is open behind it.
-use Rattle.std.proofs.Common.{ℕ, ◌≡◌, Bool, true, false, List, [], ◌∷◌, Ok, Option, Some, None, refl, ◌∙◌, subst}
+use Rattle.std.proofs.Common.{ℕ, ◌≡◌, Bool, true, false, List, [], ◌∷◌, Ok, Option, Some, None, refl, ◌∙◌, subst, arith}
+use Rattle.std.proofs.lemmas.Bool.Decides.{nat_tests}
 use Rattle.html_template.specs.declared.open_url.OpenUrl.{OpenUrl}
 use Rattle.html_template.specs.declared.open_url.OpenUrl.TheVariants.{Outside, Within, Whole, Front}
 use Rattle.html_template.specs.declared.open_url.PlacedSlot.{PlacedSlot}
 use Rattle.html_template.specs.declared.parts.SlotKind.{SlotKind}
-use Rattle.html_template.specs.declared.parts.SlotKind.TheVariants as kind
 use Rattle.html_template.specs.OpenUrls.{before, begun, behind_front, url_slot}
 use Rattle.html_template.specs.Slots.{past_slot, suits}
 use Rattle.html_template.specs.TemplateFaults.{slot_at}
@@ -15,37 +15,28 @@ use Rattle.html_tokenizer.specs.declared.slot_place.SlotPlace.{SlotPlace}
 use Rattle.html_tokenizer.specs.declared.slot_place.SlotPlace.TheVariants as place
 use Rattle.html_tokenizer.specs.Standing.{standing}
 use Rattle.html_tokenizer.specs.Tokenizer.States.{Tokenizer}
-use Rattle.html_tokenizer.proofs.UrlValues.Slots.AtSlots.{in_url, no_url_tame, open_at_slot}
+use Rattle.html_tokenizer.proofs.UrlValues.Slots.AtSlots.{in_url, open_at_slot}
 use Rattle.html_tokenizer.proofs.UrlValues.Slots.Tame.{IsTame}
 use Rattle.html_urls.specs.Bases.{behind_base}
 use Rattle.html_urls.specs.declared.base.BehindBase.{BehindBase}
-use Rattle.html_urls.specs.declared.base.BehindBase.TheVariants.{Slash, Tail, Segment}
 use Rattle.html_urls.specs.declared.open_part.OpenPart.{OpenPart}
-use Rattle.html_urls.specs.declared.open_part.OpenPart.TheVariants.{NewSegment}
 use Rattle.html_template.proofs.PageUrls.Filled.{GoesBehind, GoesOn, HasLater}
-use Rattle.html_template.proofs.PageUrls.OpenEnds.{no_literal_stands, no_slot_behind, no_text_stands}
-use Rattle.html_template.proofs.PageUrls.Opening.{FromMarkup, Goes, StandsAt, value_place}
+use Rattle.html_template.proofs.PageUrls.OpenEnds.{no_literal_stands, no_text_stands}
+use Rattle.html_template.proofs.PageUrls.Opening.{FromMarkup, Goes, StandsAt}
 use Rattle.html_template.proofs.PageUrls.Placed.{IsFirst, first_told, part_told, past_markup, quoted_slot, whole}
-use Rattle.html_template.proofs.PageUrls.TextSlots.{literal_goes, text_goes, text_stands_apart}
-use Rattle.html_template.proofs.PageUrls.UrlSlots.{base_goes, first_goes, later_goes, quoted_place, slot_behind, whole_goes}
+use Rattle.html_template.proofs.PageUrls.TextSlots.{literal_goes, text_goes}
+use Rattle.html_template.proofs.PageUrls.UrlSlots.{base_goes, first_goes, later_goes, slot_behind, whole_goes}
 use Rattle.html_template.proofs.TemplateLaw.{base_in_url, part_in_url, whole_in_url}
 use Rattle.html_template.proofs.Walks.{before_suits, ok_slot, same_itself}
 
 -- ---- a URL is open behind it only where one is open before it
 
 tame_of_kind : (kind : SlotKind) (p : SlotPlace) (t : Tokenizer) → IsTame t → suits kind p (standing t) ≡ true → IsTame (past_slot p kind t)
-tame_of_kind kind.Text p t tame suited = no_url_tame (past_slot p kind.Text t) (text_stands_apart p t suited).no_url
-tame_of_kind (kind.UrlPart slot) p t tame suited = λ is. value_place p t tame (part_in_url slot p t.state t.content t.attribute suited)
-tame_of_kind kind.Link p t tame suited = λ is. quoted_place p t tame (whole_in_url true p t.state t.content t.attribute suited)
-tame_of_kind kind.OwnPath p t tame suited = λ is. quoted_place p t tame (whole_in_url false p t.state t.content t.attribute suited)
-tame_of_kind (kind.Base behind) p t tame suited = λ is. quoted_place p t tame (base_in_url true behind p t.state t.content t.attribute suited)
-tame_of_kind (kind.OwnBase behind) p t tame suited = λ is. quoted_place p t tame (base_in_url false behind p t.state t.content t.attribute suited)
-tame_of_kind kind.Literal p t tame suited = tame
+tame_of_kind kind p t tame suited = grind (arith, nat_tests)
 
 pub tame_behind : (next markup : List ℕ) (url : OpenUrl) (t : Tokenizer) (slot : PlacedSlot) → IsTame t →
     slot_at markup url (standing t) ≡ Ok slot → IsTame (past_slot (before next slot).place (before next slot).kind t)
-tame_behind next markup url t slot tame told =
-    tame_of_kind (before next slot).kind (before next slot).place t tame (before_suits next markup url (standing t) slot told).suited
+tame_behind next markup url t slot tame told = grind (arith, nat_tests, tame_of_kind, before_suits)
 
 -- ---- where no URL with a slot is open, and where one is
 
@@ -105,12 +96,7 @@ module _ (t : Tokenizer) (chunks : List Chunk) (tame : IsTame t) where
 
   url_within : (following : Option BehindBase) (p q : SlotPlace) (is_followed : Bool) (open_part : OpenPart) (markup : List ℕ) (slot : PlacedSlot) →
       url_slot p is_followed markup (Within q open_part) ≡ Ok slot → FromBegun (GoesOn open_part t) following slot
-  url_within following p q is_followed open_part markup slot told =
-      let placed = part_told p open_part slot told in
-      subst (FromBegun (GoesOn open_part t) following) placed.is
-      (λ suited goes.
-      later_goes t p placed.found chunks tame suited open_part placed.at
-      (goes (record { state_is = refl; attribute_is = (part_in_url placed.found p t.state t.content t.attribute suited).attribute_is })))
+  url_within following p q is_followed open_part markup slot told = grind (arith, nat_tests, part_told, later_goes, part_in_url)
 
   within : (following : Option BehindBase) (q : SlotPlace) (open_part : OpenPart) (markup : List ℕ) (slot : PlacedSlot) (s : Standing) → standing t ≡ s → StandsAt q t →
       slot_at markup (Within q open_part) s ≡ Ok slot → FromBegun (GoesOn open_part t) following slot
@@ -124,14 +110,7 @@ module _ (t : Tokenizer) (chunks : List Chunk) (tame : IsTame t) where
   -- behind a base that ends in `/`
   url_behind : (following : Option BehindBase) (p : SlotPlace) (behind : BehindBase) (slot : PlacedSlot) →
       behind_front p behind ≡ Ok slot → FromBegun (GoesBehind behind t) following slot
-  url_behind following p Segment slot told =
-      let placed = part_told p NewSegment slot told in
-      subst (FromBegun (GoesBehind Segment t) following) placed.is
-      (λ suited goes.
-      slot_behind t p placed.found chunks tame suited placed.at
-      (goes (record { state_is = refl; attribute_is = (part_in_url placed.found p t.state t.content t.attribute suited).attribute_is })))
-  url_behind following p Slash slot told = absurd (cc)
-  url_behind following p Tail slot told = absurd (cc)
+  url_behind following p behind slot told = grind (arith, nat_tests, part_told, slot_behind, part_in_url)
 
   behind_a_base : (following : Option BehindBase) (q : SlotPlace) (behind : BehindBase) (markup : List ℕ) (slot : PlacedSlot) (s : Standing) → standing t ≡ s →
       StandsAt q t → slot_at markup (Front q behind) s ≡ Ok slot → FromBegun (GoesBehind behind t) following slot
@@ -149,11 +128,6 @@ pub slot_goes : (next markup : List ℕ) (url : OpenUrl) (t : Tokenizer) (slot :
     Goes url t markup (Slot (before next slot).place (before next slot).kind ∷ chunks)
 slot_goes next markup Outside t slot chunks tame told goes = λ value from.
     from_markup t chunks tame (behind_base next) markup value slot (standing t) refl from told (before_suits next markup Outside (standing t) slot told).suited goes
-slot_goes next markup (Within p open_part) t slot chunks tame told goes = λ stands.
-    within t chunks tame (behind_base next) p open_part markup slot (standing t) refl stands told
-    (before_suits next markup (Within p open_part) (standing t) slot told).suited goes
-slot_goes next markup (Whole p) t slot chunks tame told goes = λ stands.
-    absurd (no_slot_behind markup p t slot (standing t) refl stands told)
-slot_goes next markup (Front p behind) t slot chunks tame told goes = λ stands.
-    behind_a_base t chunks tame (behind_base next) p behind markup slot (standing t) refl stands told
-    (before_suits next markup (Front p behind) (standing t) slot told).suited goes
+slot_goes next markup (Within p open_part) t slot chunks tame told goes = grind (arith, nat_tests, within, before_suits)
+slot_goes next markup (Whole p) t slot chunks tame told goes = grind (arith, nat_tests)
+slot_goes next markup (Front p behind) t slot chunks tame told goes = grind (arith, nat_tests, behind_a_base, before_suits)

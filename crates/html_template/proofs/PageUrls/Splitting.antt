@@ -1,5 +1,5 @@
 -- Bytes up to the first that passes a test.
-use Rattle.std.proofs.Common.{ℕ, suc, ◌≡◌, ◌<◌, ◌⊎◌, Bool, true, false, List, [], ◌∷◌, ◌++◌, length, take, inl, inr, refl, ap, ⊎_elim, arith}
+use Rattle.std.proofs.Common.{ℕ, suc, ◌≡◌, ◌<◌, ◌⊎◌, Bool, true, false, List, [], ◌∷◌, ◌++◌, length, take, inl, inr, refl, ap, arith}
 use Rattle.std.proofs.lemmas.Bool.{cases_Bool}
 use Rattle.std.specs.List.{list_any, position_or_len}
 
@@ -24,33 +24,29 @@ later test b bytes fails = rw fails (omega arith)
 pub whole_or_cut : (test : ℕ → Bool) (bytes : List ℕ) → IsWhole test bytes ⊎ IsCut test bytes
 whole_or_cut test [] = inl (record { all = refl; end = refl; none = refl })
 whole_or_cut test (b ∷ bytes) =
-    ⊎_elim
-    (λ (passes : test b ≡ true).
-    inr (record {
-      first = b;
-      rest = bytes;
-      parts = rw passes refl;
-      passes = passes;
-      within = rw passes (omega arith);
-      none = rw passes refl;
-    }))
-    (λ (fails : test b ≡ false).
-    let next = later test b bytes fails in
-    ⊎_elim
-    (λ (whole : IsWhole test bytes).
-    inl (record {
-      all = rw next (ap (λ more. b ∷ more) whole.all);
-      end = rw next (ap suc whole.end);
-      none = rw fails whole.none;
-    }))
-    (λ (cut : IsCut test bytes).
-    inr (record {
-      first = cut.first;
-      rest = cut.rest;
-      parts = rw next (ap (λ more. b ∷ more) cut.parts);
-      passes = cut.passes;
-      within = let within = cut.within in rw next (omega arith);
-      none = rw next (rw fails cut.none);
-    }))
-    (whole_or_cut test bytes))
-    (cases_Bool (test b))
+    elim (cases_Bool (test b)) [
+      | inl passes ↦ inr (record {
+        first = b;
+        rest = bytes;
+        parts = rw passes refl;
+        passes = passes;
+        within = rw passes (omega arith);
+        none = rw passes refl;
+      })
+      | inr fails ↦ let next = later test b bytes fails in
+          elim (whole_or_cut test bytes) [
+            | inl whole ↦ inl (record {
+              all = rw next (ap (λ more. b ∷ more) whole.all);
+              end = rw next (ap suc whole.end);
+              none = rw fails whole.none;
+            })
+            | inr cut ↦ inr (record {
+              first = cut.first;
+              rest = cut.rest;
+              parts = rw next (ap (λ more. b ∷ more) cut.parts);
+              passes = cut.passes;
+              within = let within = cut.within in rw next (omega arith);
+              none = rw next (rw fails cut.none);
+            })
+          ]
+    ]

@@ -1,8 +1,8 @@
 -- A slot for a text or a string literal, which stands in no URL.
-use Rattle.std.proofs.Common.{ℕ, ◌≡◌, true, false, List, [], ◌∷◌, refl, ap, ◌∙◌}
+use Rattle.std.proofs.Common.{ℕ, ◌≡◌, true, false, List, [], ◌∷◌, refl, arith}
+use Rattle.std.proofs.lemmas.Bool.Decides.{nat_tests}
 use Rattle.std.specs.List.{AllByRecursion}
 use Rattle.std.specs.Str.{IsUtf8}
-use Rattle.std.proofs.lemmas.Bool.{false≢true}
 use Rattle.html_template.specs.declared.open_url.OpenUrl.TheVariants.{Outside}
 use Rattle.html_template.specs.declared.parts.SlotKind.{SlotKind}
 use Rattle.html_template.specs.declared.parts.SlotKind.TheVariants as kind
@@ -10,37 +10,24 @@ use Rattle.html_template.specs.FilledUrls.{OpenValue, Value, open_at_slot, url_t
 use Rattle.html_template.specs.PageUrls.{first_text, first_texts}
 use Rattle.html_template.specs.Slots.{MayFill, handed, past_slot, suits, written}
 use Rattle.html_template.specs.Templates.{Chunk, Fill, Slot, page}
-use Rattle.html_tokenizer.specs.declared.elements.Content.{Content}
 use Rattle.html_tokenizer.specs.declared.slot_place.SlotPlace.{SlotPlace}
-use Rattle.html_tokenizer.specs.Standing.{standing, standing_in}
-use Rattle.html_tokenizer.specs.Tokenizer.States.{AfterName, Attribute, Name, State, Tokenizer}
+use Rattle.html_tokenizer.specs.Standing.{standing}
+use Rattle.html_tokenizer.specs.Tokenizer.States.{Tokenizer}
 use Rattle.html_tokenizer.specs.Tokenizer.Tokenization.{state_after}
-use Rattle.html_tokenizer.specs.UrlValues.{is_url, open_url, urls_from}
+use Rattle.html_tokenizer.specs.UrlValues.{is_url, urls_from}
 use Rattle.html_tokenizer.proofs.UrlValues.Appending.{urls_from-anew}
 use Rattle.html_tokenizer.proofs.UrlValues.Apart.Bytes.{StaysApart}
 use Rattle.html_tokenizer.proofs.UrlValues.Apart.OneByte.{IsApart}
 use Rattle.html_tokenizer.proofs.UrlValues.Apart.Texts.{literal_apart, text_apart}
-use Rattle.html_tokenizer.proofs.UrlValues.Names.{is_named}
 use Rattle.html_template.proofs.PageUrls.Filled.{HasLater, IsFilled}
 use Rattle.html_template.proofs.PageUrls.Opening.{Goes, behind_bytes, no_url_open}
-use Rattle.html_template.proofs.TemplateLaw.{literal_in_script, slot_ordinary, slot_passes}
-
-unnamed : (p : SlotPlace) (s : State) (content : Content) (attribute : Attribute) → suits kind.Text p (standing_in s content attribute) ≡ true →
-    is_named s ≡ false
-unnamed p (Name name) content attribute suited = absurd (false≢true suited)
-unnamed p (AfterName name) content attribute suited = absurd (false≢true suited)
-unnamed p other content attribute suited = refl
+use Rattle.html_template.proofs.TemplateLaw.{slot_passes}
 
 pub text_stands_apart : (p : SlotPlace) (t : Tokenizer) → suits kind.Text p (standing t) ≡ true → IsApart t
-text_stands_apart p t suited = record {
-  no_url = ap is_url (slot_ordinary p t.state t.content t.attribute suited);
-  unnamed = unnamed p t.state t.content t.attribute suited;
-}
+text_stands_apart p t suited = grind (arith, nat_tests)
 
 pub literal_stands_apart : (p : SlotPlace) (t : Tokenizer) → suits kind.Literal p (standing t) ≡ true → IsApart t
-literal_stands_apart p t suited =
-    let is = literal_in_script p t.state t.content t.attribute suited in
-    record { no_url = ap is_url is.attribute_is; unnamed = ap is_named is.state_is }
+literal_stands_apart p t suited = grind (arith, nat_tests)
 
 -- the text of such a slot is in no URL
 record IsApartKind (found : SlotKind) : Type 0 where
@@ -59,18 +46,7 @@ module _ {found : SlotKind} (apart_kind : IsApartKind found) (p : SlotPlace) (t 
     (passes : (text : List ℕ) → MayFill p found text → IsUtf8 text → StaysApart t (written p found text) next × (state_after t (written p found text) ≡ next)) where
   filled_apart : (later : HasLater next [] chunks) (texts : List (List ℕ)) → Fill (Slot p found ∷ chunks) texts → AllByRecursion IsUtf8 texts →
       IsFilled (urls_from t value (page (Slot p found ∷ chunks) texts)) (first_texts (Slot p found ∷ chunks) texts) later.urls (url_texts (Slot p found ∷ chunks) texts)
-  filled_apart later [] full utf8 = absurd full
-  filled_apart later (text ∷ texts) full utf8 =
-      let bytes : List ℕ = written p found text in
-      let here = passes text full.0 utf8.0 in
-      let filled = later.filled texts full.1 utf8.1 in
-      rw (apart_kind.first text, apart_kind.none text) (record {
-        same = behind_bytes t value bytes (page chunks texts) (here.0.none_ends value) here.1 refl
-            ∙ urls_from-anew next (open_url t value bytes) [] (page chunks texts) no_url
-            ∙ filled.same;
-        full = filled.full;
-        whole_same = filled.whole_same;
-      })
+  filled_apart later texts full utf8 = grind (arith, nat_tests, behind_bytes, urls_from-anew)
 
   goes_apart : Goes Outside next [] chunks → HasLater t value (Slot p found ∷ chunks)
   goes_apart goes =

@@ -1,7 +1,7 @@
 -- A slot for a part of a URL, and one that is a whole URL.
-use Rattle.std.proofs.Common.{ℕ, ◌≡◌, ◌+◌, Bool, map, true, false, List, [], ◌∷◌, ◌++◌, IsUtf8, IsOkAnd, Ok, Some, drop, take, refl, sym, ap, ◌∙◌, subst, append-nil, append_assoc}
+use Rattle.std.proofs.Common.{ℕ, ◌≡◌, ◌+◌, Bool, map, true, false, List, [], ◌∷◌, ◌++◌, IsUtf8, IsOkAnd, Ok, Some, drop, take, refl, sym, ap, ◌∙◌, subst, append-nil, append_assoc, arith}
+use Rattle.std.proofs.lemmas.Bool.Decides.{nat_tests}
 use Rattle.std.specs.List.{AllByRecursion}
-use Rattle.std.proofs.lemmas.Bool.{false≢true}
 use Rattle.hesc_places.specs.Places.ReadBack.{read_back}
 use Rattle.html_template.specs.declared.parts.SlotKind.{SlotKind}
 use Rattle.html_template.specs.declared.parts.SlotKind.TheVariants as kind
@@ -11,7 +11,6 @@ use Rattle.html_template.specs.PageUrls.{first_texts}
 use Rattle.html_template.specs.Slots.{MayBegin, base_kind, is_quoted, suits, whole_kind, written}
 use Rattle.html_template.specs.Templates.{Chunk, Fill, Slot, page}
 use Rattle.html_tokenizer.specs.declared.slot_place.SlotPlace.{SlotPlace}
-use Rattle.html_tokenizer.specs.declared.slot_place.SlotPlace.TheVariants as place
 use Rattle.html_tokenizer.specs.Standing.{standing}
 use Rattle.html_tokenizer.specs.Tokenizer.Actions.{read_byte}
 use Rattle.html_tokenizer.specs.Tokenizer.States.{In, Tokenizer, at_value}
@@ -67,8 +66,7 @@ module _ (t : Tokenizer) (p : SlotPlace) (slot : UrlSlot) (chunks : List Chunk) 
   module _ (open_part : OpenPart) (placed : slot_at open_part ≡ Some slot) (behind : GoesOn (after_text open_part) part_next chunks) where
     slots_fit : (texts : List (List ℕ)) → Fill (Slot p (kind.UrlPart slot) ∷ chunks) texts →
         FillSlots (slot ∷ behind.slots) (take (slots_in (part.Slot ∷ behind.parts)) (url_texts (Slot p (kind.UrlPart slot) ∷ chunks) texts))
-    slots_fit [] full = absurd full
-    slots_fit (text ∷ texts) full = (full.0, behind.fits texts full.1)
+    slots_fit texts full = grind (arith, nat_tests)
 
     slots_end : (value : List ℕ) (texts : List (List ℕ)) → Fill (Slot p (kind.UrlPart slot) ∷ chunks) texts → AllByRecursion IsUtf8 texts →
         EndsFirst (urls_from t value (page (Slot p (kind.UrlPart slot) ∷ chunks) texts)) (first_texts (Slot p (kind.UrlPart slot) ∷ chunks) texts)
@@ -122,9 +120,7 @@ module _ (t : Tokenizer) (p : SlotPlace) (slot : UrlSlot) (chunks : List Chunk) 
 -- ---- a whole URL, and a base
 
 itself_back : (p : SlotPlace) → is_quoted p ≡ true → (bytes : List ℕ) → read_back (encoder_for p) bytes ≡ bytes
-itself_back place.DoubleQuoted quoted bytes = refl
-itself_back place.SingleQuoted quoted bytes = refl
-itself_back p quoted bytes = absurd (false≢true quoted)
+itself_back p quoted bytes = grind (arith, nat_tests)
 
 pub quoted_place : (p : SlotPlace) (t : Tokenizer) → IsTame t → IsInQuotes p t.state t.attribute → is_value_place p ≡ true
 quoted_place p t tame stands = value_place p t tame (record { state_is = stands.state_is; attribute_is = stands.attribute_is })
@@ -136,9 +132,7 @@ module _ (t : Tokenizer) (p : SlotPlace) (chunks : List Chunk) (tame : IsTame t)
   -- what is written for the text is read as the text, and then what is behind it
   text_keeps : (text bytes : List ℕ) → IsInQuotes p t.state t.attribute →
       Passes t bytes (map (read_byte p) (read_back (encoder_for p) text)) whole_next → KeepsUrl t bytes text
-  text_keeps text bytes stands passes =
-      subst (λ (x : List ℕ). KeepsUrl t bytes x) (itself_back p stands.quoted text)
-      (text_in_url p t whole_next bytes (read_back (encoder_for p) text) (quoted_place p t tame stands) tame stands.attribute_is stands.attribute_is passes)
+  text_keeps text bytes stands passes = grind (arith, nat_tests, itself_back, text_in_url, quoted_place)
 
   text_filled : (kind : SlotKind) (text bytes : List ℕ) (texts : List (List ℕ)) (end : EndsBehind whole_next [] chunks) → IsInQuotes p t.state t.attribute →
       Passes t bytes (map (read_byte p) (read_back (encoder_for p) text)) whole_next → MayBegin kind text → Fill chunks texts → AllByRecursion IsUtf8 texts →

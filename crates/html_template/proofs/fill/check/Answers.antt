@@ -1,7 +1,7 @@
 use Rattle.std.proofs.Common.{◌≡◌, arith, sym, length, map}
 use Rattle.html_template.specs.FillFaults.{slot_count}
 use Rattle.html_template.specs.Templates.{chunk_of}
-use Rattle.html_template.proofs.FillByCount.{no_fault}
+use Rattle.html_template.proofs.FillFaults.{no_fault}
 use Rattle.html_template.proofs.FillFaults.{fills}
 use Rattle.html_template.proofs.fill.check.Goals as goal
 

@@ -1,7 +1,7 @@
 use Rattle.std.proofs.Common.{drop, map}
 use Rattle.hesc_sinks.proofs.Progress.{Progress-stop, on_err}
 use Rattle.html_template.specs.Templates.{chunk_of, page, written}
-use Rattle.html_template.proofs.FirstPieces.{markup_first, slot_first}
+use Rattle.html_template.proofs.Pieces.FirstPieces.{markup_first, slot_first}
 use Rattle.html_template.proofs.page.put_pieces.Goals as goal
 
 pub returns-in_err-put_markup-in-Markup-clause-err_taken : goal.returns-in_err-put_markup-in-Markup-clause-err_taken

@@ -2,7 +2,7 @@ use Rattle.std.proofs.Common.{ap, map, sym}
 use Rattle.html_template.specs.declared.open_url.PlacedSlot.{PlacedSlot}
 use Rattle.html_template.specs.declared.stored.Stored.TheVariants as stored
 use Rattle.html_template.specs.Templates.{GivenMarkup, GivenSlot, Markup, Slot, chunk_of, given}
-use Rattle.html_template.specs.Walks.{walk_of}
+use Rattle.html_template.specs.TemplateFaults.{walk_of}
 use Rattle.html_template.proofs.Pieces.{fault_more, pushed_more, slot_chunk}
 use Rattle.html_template.proofs.template.take_part.Goals as goal
 

@@ -1,8 +1,6 @@
-use Rattle.std.proofs.Common.{◌≡◌, ◌-◌, ◌∙◌, length, not, sym, ap, true, false, arith}
+use Rattle.std.proofs.Common.{◌-◌, ◌∙◌, length, not, sym, ap, arith}
 use Rattle.std.specs.Option.{is_some}
-use Rattle.html_template.specs.FirstFault.{first_fault}
 use Rattle.html_template.specs.Templates.{texts_of}
-use Rattle.html_template_source.specs.Bindings.{binding_faults, binding_told, bindings_of}
 use Rattle.html_template_source.proofs.FirstFaults.{doubled_here, sound_here, unknown_here}
 use Rattle.html_template_source.proofs.first_fault.first_refused.Goals as goal
 

@@ -1,8 +1,7 @@
 use Rattle.std.proofs.Common.{◌-◌, ap, length, map, sym, ◌∙◌}
 use Rattle.html_template.specs.FillFaults.{has_checked, slot_count}
-use Rattle.html_template.specs.TemplateFaults.{told_chunks}
+use Rattle.html_template.specs.TemplateFaults.{told_chunks, walk_of}
 use Rattle.html_template.specs.Templates.{chunk_of, given}
-use Rattle.html_template.specs.Walks.{walk_of}
 use Rattle.html_template.proofs.Pieces.{is_template, none_left, unfinished}
 use Rattle.html_template.proofs.template.Template.new.Goals as goal
 

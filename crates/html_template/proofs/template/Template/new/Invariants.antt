@@ -1,7 +1,6 @@
 use Rattle.std.proofs.Common.{◌≡◌, ◌≤◌, ◌-◌, length, map}
-use Rattle.html_template.specs.TemplateFaults.{template_of, told_behind}
+use Rattle.html_template.specs.TemplateFaults.{template_of, told_behind, walk_of}
 use Rattle.html_template.specs.Templates.{chunk_of, given}
-use Rattle.html_template.specs.Walks.{walk_of}
 use Rattle.html_template.proofs.template.Template.new.Given as goal
 
 abbrev pub invariant-parts : goal.invariant-parts

@@ -1,6 +1,6 @@
 use Rattle.std.proofs.Common.{sym, ◌∙◌}
 use Rattle.html_tokenizer.specs.Tokenizer.Phases.{tokenizer_of}
-use Rattle.html_template.specs.Walks.{walk_of}
+use Rattle.html_template.specs.TemplateFaults.{walk_of}
 use Rattle.html_template.proofs.Walks.{taken_slot}
 use Rattle.html_template.proofs.walk.Walk.take_slot.Goals as goal
 
