@@ -8,7 +8,7 @@ use Rattle.std.proofs.lemmas.List.{length-map}
 use Rattle.html_view.specs.declared.node.Node.{Node, Section, the_lemmas}
 use Rattle.html_view.specs.declared.node.Opening.{Opening}
 use Rattle.html_view.specs.declared.node.Placed.{Placed}
-use Rattle.hesc_views.specs.Checks.{body_sign, has_none, lines_of, node_lines, otherwise_sign, section_lines, tag_line}
+use Rattle.hesc_views.specs.Checks.{body_lines, body_sign, has_none, lines_of, node_lines, otherwise_sign, section_lines, tag_line}
 
 pub vec_has_none : {X A : Type 0} (v : Vec X A) → (vec_len v == 0) ≡ has_none v.items
 vec_has_none v = ap (λ n. n == 0) v.ok.0
@@ -27,29 +27,26 @@ section_fold opening body otherwise = search (rules, the_lemmas)
 -- the lines of a section are those of its tags and of its nodes
 section_node : {A : Type 0} (opening : Opening) (body otherwise : Vec (Node Placed A) A) →
     node_lines (Section opening body otherwise)
-    ≡ tag_line (body_sign opening.times (has_none body.items) (has_none otherwise.items)) opening
-    ++ (lines_of body.items ++ (tag_line (otherwise_sign (has_none otherwise.items)) opening ++ lines_of otherwise.items))
+    ≡ body_lines opening.times opening (body_sign opening.times (has_none body.items) (has_none otherwise.items)) (lines_of body.items)
+    ++ (tag_line (otherwise_sign (has_none otherwise.items)) opening ++ lines_of otherwise.items)
 section_node opening body otherwise =
     section_fold opening body otherwise
     ∙ rw (has_none-map node_lines body.items, has_none-map node_lines otherwise.items, concat-lines body.items, concat-lines otherwise.items) refl
 
-four : (old a b c d : List ℕ) → ((((old ++ a) ++ b) ++ c) ++ d) ≡ old ++ (a ++ (b ++ (c ++ d)))
-four old a b c d =
-    append_assoc ((old ++ a) ++ b) c d
-    ∙ (append_assoc (old ++ a) b (c ++ d)
-    ∙ append_assoc old a (b ++ (c ++ d)))
+three : (old a b c : List ℕ) → (((old ++ a) ++ b) ++ c) ≡ old ++ (a ++ (b ++ c))
+three old a b c = append_assoc (old ++ a) b c ∙ append_assoc old a (b ++ c)
 
 -- the lines of a section were appended one after the other
 pub section_appended : {A T E : Type 0} (opening : Opening) (body otherwise : Vec (Node Placed A) A) (node : Node Placed A)
-    (old first second third new : List ℕ) (sign other : Option (List ℕ)) (result : Result T E) → node ≡ Section opening body otherwise →
+    (old first second new : List ℕ) (sign other : Option (List ℕ)) (result : Result T E) → node ≡ Section opening body otherwise →
     sign ≡ body_sign opening.times (has_none body.items) (has_none otherwise.items) → other ≡ otherwise_sign (has_none otherwise.items) →
-    first ≡ old ++ tag_line sign opening → second ≡ first ++ lines_of body.items → third ≡ second ++ tag_line other opening →
-    OnOk result (new ≡ third ++ lines_of otherwise.items) → OnOk result (new ≡ old ++ node_lines node)
-section_appended opening body otherwise node old first second third new sign other (Ok done) is opens opens_other one two three four_is =
-    four_is ∙ rw (three, two, one, opens, opens_other, is, section_node opening body otherwise)
-    (four old (tag_line (body_sign opening.times (has_none body.items) (has_none otherwise.items)) opening) (lines_of body.items)
+    first ≡ old ++ body_lines opening.times opening sign (lines_of body.items) → second ≡ first ++ tag_line other opening →
+    OnOk result (new ≡ second ++ lines_of otherwise.items) → OnOk result (new ≡ old ++ node_lines node)
+section_appended opening body otherwise node old first second new sign other (Ok done) is opens opens_other one two three_is =
+    three_is ∙ rw (two, one, opens, opens_other, is, section_node opening body otherwise)
+    (three old (body_lines opening.times opening (body_sign opening.times (has_none body.items) (has_none otherwise.items)) (lines_of body.items))
     (tag_line (otherwise_sign (has_none otherwise.items)) opening) (lines_of otherwise.items))
-section_appended opening body otherwise node old first second third new sign other (Err fault) is opens opens_other one two three four_is = tt
+section_appended opening body otherwise node old first second new sign other (Err fault) is opens opens_other one two three_is = tt
 
 -- the lines of one node more were appended
 pub lines_more : {A : Type 0} (nodes all : List (Node Placed A)) (i j : ℕ) (node : Node Placed A) (old before after : List ℕ) →

@@ -12,7 +12,7 @@ use Rattle.html_view.specs.declared.node.Node.TheOpen.{Node-F}
 use Rattle.html_view.specs.declared.node.Opening.{Opening}
 use Rattle.html_view.specs.declared.node.Placed.{Placed}
 use Rattle.html_view.specs.declared.node.Times.{Times}
-use Rattle.html_view.specs.declared.node.Times.TheVariants.{Each, Once, If, Whether}
+use Rattle.html_view.specs.declared.node.Times.TheVariants.{Attributes, Each, Given, If, Once, Whether}
 use Rattle.hesc_specs.specs.Text.Ascii.{line_feed}
 
 -- ---- slots
@@ -61,6 +61,8 @@ body_sign Once bodiless always = Some (codes "#")
 body_sign If true false = None
 body_sign If bodiless always = Some (codes "?")
 body_sign Whether bodiless always = None
+body_sign Given bodiless always = Some (codes "?")
+body_sign Attributes bodiless always = None
 
 abbrev pub otherwise_sign : Bool → Option (List ℕ)
 otherwise_sign true = None
@@ -69,11 +71,20 @@ otherwise_sign false = Some (codes "^")
 abbrev pub has_none : {X : Type 0} → List X → Bool
 has_none xs = length xs == 0
 
+-- a slot between attributes has no sign, and nothing is told of its body, which has each attribute
+abbrev pub attributes_line : Opening → List ℕ
+attributes_line opening = opening.name.now ++ (codes " attributes" ++ line_feed ∷ [])
+
+-- by the sign of the tag and the lines of the body
+abbrev pub body_lines : Times → Opening → Option (List ℕ) → List ℕ → List ℕ
+body_lines Attributes opening sign body = attributes_line opening
+body_lines other opening sign body = tag_line sign opening ++ body
+
 -- by the lines of its nodes
 abbrev pub section_lines : Opening → List (List ℕ) → List (List ℕ) → List ℕ
 section_lines opening body otherwise =
-    tag_line (body_sign opening.times (has_none body) (has_none otherwise)) opening
-    ++ (concat body ++ (tag_line (otherwise_sign (has_none otherwise)) opening ++ concat otherwise))
+    body_lines opening.times opening (body_sign opening.times (has_none body) (has_none otherwise)) (concat body)
+    ++ (tag_line (otherwise_sign (has_none otherwise)) opening ++ concat otherwise)
 
 -- ---- nodes
 

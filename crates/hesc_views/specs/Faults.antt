@@ -52,6 +52,7 @@ wrong_part part.AfterLink = codes "a slot begins this URL; it may go on with one
 abbrev pub wrong_value : ValueFault → List ℕ
 wrong_value value.Missing = codes "no value has this name"
 wrong_value value.NotAText = codes "the value is no text"
+wrong_value value.NotAttributes = codes "the value is no object of attributes; this slot stands between attributes"
 wrong_value value.Repeated = codes "the list has two items or more, and this section stands once"
 wrong_value (value.Unfit text.EmptyUnquoted) = codes "the text is empty; write quotes around the slot"
 wrong_value (value.Unfit text.EmptySegment) = codes "the text is empty, and a segment of a URL is not"

@@ -2,7 +2,8 @@
 use Rattle.std.specs.Prelude.{◌≡◌, ⊤, ℕ, List, [], ◌∷◌, map, Option, Result, Ok, Err}
 use Rattle.std.specs.Io.KnownBytes.{Appends, Keeps}
 use Rattle.html_view.specs.Nodes.{Nodes, Placed, written}
-use Rattle.html_view.specs.Reading.{IsSource, PartialText}
+use Rattle.html_view.specs.Reading.{PartialText}
+use Rattle.html_view.specs.Spelled.{IsSpelled}
 use Rattle.html_view.specs.Unrolled.{AreTemplates}
 use Rattle.json.specs.Json.{Json}
 use Rattle.hesc_specs.specs.Text.Beginning.{AppendsBeginning}
@@ -37,7 +38,7 @@ partials_named paths texts = []
 
 -- the nodes are those of a view of this text, and of partials with these paths and texts
 pub record AreOfView (paths : List (List ℕ)) (view : List ℕ) (partials : List (List ℕ)) (nodes : Nodes Placed) : Type 0 where
-  pub source : IsSource (partials_named paths partials) view (written nodes)
+  pub source : IsSpelled (partials_named paths partials) view (written nodes)
   pub sound : AreTemplates nodes
 
 -- the text is a page of a view for the JSON that was read; or nothing was read, where the command only checks

@@ -1,6 +1,7 @@
 //! What slots and sections a view has.
 ghost use Rattle.std.specs.Prelude.{◌≡◌, ◌++◌, option_map, string_bytes, OnOk};
 ghost use Rattle.hesc_views.specs.Checks.{
+  body_lines,
   body_sign,
   kind_word,
   lines_of,
@@ -18,7 +19,8 @@ use std::alloc::{AllocError, Allocator};
 
 /// Appends a line for each slot and each section of nodes, in the order of the page: of a slot its name,
 /// its place and what text it takes, of a section its sign and its name. What stands where a section does
-/// not comes behind a line of its own, by the sign `^`.
+/// not comes behind a line of its own, by the sign `^`. A slot between attributes has a line as other slots, whose
+/// place is `attributes`.
 ///
 /// Of `<p>`, a slot named `title` and `</p>` it is the line `title text`.
 #[cycle(append)]
@@ -48,12 +50,31 @@ fn append_node<A: Allocator, B: Allocator>(
         Node::Slot(slot) => append_slot(output, slot),
         Node::Section(opening, body, otherwise) => {
             let sign = body_sign(opening.times, body.is_empty(), otherwise.is_empty());
-            append_tag(output, sign, opening)?;
-            append_nodes(output, body)?;
+            append_body(output, sign, opening, body)?;
             append_tag(output, otherwise_sign(otherwise.is_empty()), opening)?;
             append_nodes(output, otherwise)
         }
     }
+}
+
+// Appends the lines of a section where its body stands.
+#[cycle(append)]
+fn append_body<A: Allocator, B: Allocator>(
+    output: &mut String<B>,
+    sign: Option<&str>,
+    opening: &Opening<'_>,
+    body: &Vec<Node<'_, Placed<'_>, A>, A>,
+) -> Result<(), AllocError>
+    ensures { OnOk result (string_bytes output.new ≡ string_bytes output.old
+        ++ body_lines opening.now.times opening.now (option_map (λ sign. sign.now) sign.entry)
+        (lines_of body.now.items)) }
+{
+    if opening.times == Times::Attributes {
+        output.push_str(opening.name)?;
+        return output.push_str(" attributes\n");
+    }
+    append_tag(output, sign, opening)?;
+    append_nodes(output, body)
 }
 
 // The sign of the tag that opens a body, by whether there is no body, and nothing that stands where it does
@@ -64,8 +85,8 @@ fn body_sign(times: Times, is_bodiless: bool, is_always: bool) -> Option<&'stati
     match times {
         Times::Each | Times::Once => Some("#"),
         Times::If if is_bodiless && !is_always => None,
-        Times::If => Some("?"),
-        Times::Whether => None,
+        Times::If | Times::Given => Some("?"),
+        Times::Whether | Times::Attributes => None,
     }
 }
 

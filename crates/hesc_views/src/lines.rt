@@ -215,6 +215,9 @@ fn wrong_value(fault: ValueFault) -> &'static str
     match fault {
         ValueFault::Missing => "no value has this name",
         ValueFault::NotAText => "the value is no text",
+        ValueFault::NotAttributes => {
+            "the value is no object of attributes; this slot stands between attributes"
+        }
         ValueFault::Repeated => "the list has two items or more, and this section stands once",
         ValueFault::Unfit(TextFault::EmptyUnquoted) => {
             "the text is empty; write quotes around the slot"

@@ -13,7 +13,7 @@ use Rattle.html_view.specs.declared.node.Node.{Markup, Node, Section, Slot, the_
 use Rattle.html_view.specs.declared.node.Opening.{Opening}
 use Rattle.html_view.specs.declared.node.Placed.{Placed}
 use Rattle.html_view.specs.declared.node.Times.{Times}
-use Rattle.html_view.specs.declared.node.Times.TheVariants.{Each, If, Once, Whether}
+use Rattle.html_view.specs.declared.node.Times.TheVariants.{Attributes, Each, Given, If, Once, Whether}
 
 -- nothing is followed yet
 pub followed_none : (ways here : List Way) → here ≡ ways → Follows (λ rest. rest) (λ rest. rest) ways here
@@ -42,7 +42,7 @@ placed_more : {A : Type 0} (nodes : List (Node Placed A)) (last : Node Placed A)
 placed_more [] last rest = refl
 placed_more (first ∷ nodes) last rest = ap (placed_node first) (placed_more nodes last rest)
 
-asked_more : {A : Type 0} (nodes : List (Node Asked A)) (i : ℕ) (next : Node Asked A) (rest : Nodes node.Asked) → i < length nodes →
+pub asked_more : {A : Type 0} (nodes : List (Node Asked A)) (i : ℕ) (next : Node Asked A) (rest : Nodes node.Asked) → i < length nodes →
     next ≡ get_or nodes i next → asked_nodes (take (suc i) nodes) rest ≡ asked_nodes (take i nodes) (asked_node next rest)
 asked_more [] i next rest below is = absurd (omega arith)
 asked_more (first ∷ nodes) zero next rest below is = ap (λ (n : Node Asked _). asked_node n rest) (sym is)
@@ -189,6 +189,8 @@ leads_once Each out head not_each = absurd (not_each refl)
 leads_once Once out head not_each = tt
 leads_once If out head not_each = tt
 leads_once Whether out head not_each = tt
+leads_once Given out head not_each = tt
+leads_once Attributes out head not_each = tt
 
 -- a body that stands once
 pub body_once : (asked : Before node.Asked) (placed : Before node.Placed) (times : Times) (ways here out : List Way) → times ≢ Each → here ≡ ways →

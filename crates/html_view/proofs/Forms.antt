@@ -10,16 +10,18 @@ use Rattle.html_tokenizer.specs.Tokenizer.States.{data_state}
 use Rattle.html_tokenizer.specs.Tokenizer.Tokenization.{actions_of}
 use Rattle.html_template.proofs.Pieces.{sound_told}
 use Rattle.html_template.proofs.Structure.{structure_of_page}
+use Rattle.html_view.specs.Attributes.{refused_for}
 use Rattle.html_view.specs.Data as data_of
-use Rattle.html_view.specs.Data.{Datum, Fields, Flag, ItemList, Items, Record, Stack, Text, around, bare, field, field_of, first_of, has_items, innermost, inside, is_filled, item, item_stacks, list_stacks, look_up, member_of, no_items, once, stacks, within}
+use Rattle.html_view.specs.Data.{Datum, Fields, Flag, ItemList, Items, Record, Stack, Text, around, bare, field, field_of, filled_stacks, first_of, first_value, given_stacks, has_items, innermost, inside, is_filled, item, item_stacks, list_stacks, look_up, member_of, no_items, once, stacks, within}
 use Rattle.html_view.specs.Forms.{SameFields, SameForm, SameItems}
 use Rattle.html_view.specs.Nodes as node
 use Rattle.html_view.specs.Nodes.{Nodes, Opening, Placed, Words}
 use Rattle.html_view.specs.Rendered.{Unrolled, Unrolling, no_unrolling, put_front, put_markup, put_text, rendered, text_for, unrolled, unrolled_each, unrolled_section, unrolled_times}
 use Rattle.html_view.specs.Unrolled.{AreTemplates, joined}
 use Rattle.html_view.specs.Ways.{on_ok}
+use Rattle.html_view.specs.declared.faults.ValueFault.{ValueFault}
 use Rattle.html_view.specs.declared.node.Times.{Times}
-use Rattle.html_view.specs.declared.node.Times.TheVariants.{Each, Once, If, Whether}
+use Rattle.html_view.specs.declared.node.Times.TheVariants.{Attributes, Each, Given, If, Once, Whether}
 use Rattle.html_view.proofs.Sound.{joined_fill, joined_page}
 use Rattle.html_view.proofs.Unrolling.{found_in, is_unrolling}
 
@@ -90,10 +92,17 @@ same_innermost [] [] same = tt
 same_innermost (value ∷ stack) (other ∷ others) same = same.0
 same_innermost stack others same = absurd same
 
+same_first_value : (words : Words) (word : List ℕ) (stack others : Stack) → SameStack stack others →
+    SameOption (first_value words word stack) (first_value words word others)
+same_first_value [] word stack others same = same_around word stack others same
+same_first_value (next ∷ words) [] stack others same = same_innermost stack others same
+same_first_value (next ∷ words) (b ∷ word) stack others same = same_around (b ∷ word) stack others same
+
 same_look_up : (name : Words) (stack others : Stack) → SameStack stack others → SameOption (look_up name stack) (look_up name others)
 same_look_up [] stack others same = same_innermost stack others same
 same_look_up (word ∷ words) stack others same =
-    same_then (within words) (same_within words) (around word stack) (around word others) (same_around word stack others same)
+    same_then (within words) (same_within words) (first_value words word stack) (first_value words word others)
+    (same_first_value words word stack others same)
 
 -- ---- sections
 
@@ -123,6 +132,10 @@ same_list If items others stack around_other same around =
     same_once (has_items items) (has_items others) stack around_other (same_has_items items others same) around
 same_list Whether items others stack around_other same around =
     same_once (has_items items) (has_items others) stack around_other (same_has_items items others same) around
+same_list Given items others stack around_other same around =
+    same_once (has_items items) (has_items others) stack around_other (same_has_items items others same) around
+same_list Attributes items others stack around_other same around =
+    same_once (has_items items) (has_items others) stack around_other (same_has_items items others same) around
 
 same_inside : (times : Times) (value other : Datum) (stack others : Stack) → SameForm value other → SameStack stack others →
     SameStack (inside times value stack) (inside times other others)
@@ -130,19 +143,40 @@ same_inside Each value other stack others same around = (same, around)
 same_inside Once value other stack others same around = (same, around)
 same_inside If value other stack others same around = (same, around)
 same_inside Whether value other stack others same around = around
+same_inside Given value other stack others same around = (same, around)
+same_inside Attributes value other stack others same around = (same, around)
+
+same_filled : (times : Times) (a b : Option Datum) (stack others : Stack) → SameOption a b → SameStack stack others →
+    SameStacks (filled_stacks times a stack) (filled_stacks times b others)
+same_filled times None None stack others same around = tt
+same_filled times (Some data_of.Nothing) (Some data_of.Nothing) stack others same around = tt
+same_filled times (Some (Text text)) (Some (Text other)) stack others same around =
+    same_once (is_filled text) (is_filled other) (inside times (Text text) stack) (inside times (Text other) others) same
+    (same_inside times (Text text) (Text other) stack others same around)
+same_filled times (Some (Flag flag)) (Some (Flag other)) stack others same around = same_once flag other stack others same around
+same_filled times (Some (Items items)) (Some (Items more)) stack others same around = same_list times items more stack others same around
+same_filled times (Some (Record fields)) (Some (Record more)) stack others same around =
+    (same_inside times (Record fields) (Record more) stack others same around, tt)
+same_filled times a b stack others same around = absurd same
+
+same_given : (a b : Option Datum) (stack others : Stack) → SameOption a b → SameStack stack others →
+    SameStacks (given_stacks a stack) (given_stacks b others)
+same_given None None stack others same around = tt
+same_given (Some data_of.Nothing) (Some data_of.Nothing) stack others same around = tt
+same_given (Some (Text text)) (Some (Text other)) stack others same around = ((same, around), tt)
+same_given (Some (Flag flag)) (Some (Flag other)) stack others same around = ((same, around), tt)
+same_given (Some (Items items)) (Some (Items more)) stack others same around = ((same, around), tt)
+same_given (Some (Record fields)) (Some (Record more)) stack others same around = ((same, around), tt)
+same_given a b stack others same around = absurd same
 
 same_stacks : (times : Times) (a b : Option Datum) (stack others : Stack) → SameOption a b → SameStack stack others →
     SameStacks (stacks times a stack) (stacks times b others)
-same_stacks times None None stack others same around = tt
-same_stacks times (Some data_of.Nothing) (Some data_of.Nothing) stack others same around = tt
-same_stacks times (Some (Text text)) (Some (Text other)) stack others same around =
-    same_once (is_filled text) (is_filled other) (inside times (Text text) stack) (inside times (Text other) others) same
-    (same_inside times (Text text) (Text other) stack others same around)
-same_stacks times (Some (Flag flag)) (Some (Flag other)) stack others same around = same_once flag other stack others same around
-same_stacks times (Some (Items items)) (Some (Items more)) stack others same around = same_list times items more stack others same around
-same_stacks times (Some (Record fields)) (Some (Record more)) stack others same around =
-    (same_inside times (Record fields) (Record more) stack others same around, tt)
-same_stacks times a b stack others same around = absurd same
+same_stacks Given a b stack others same around = same_given a b stack others same around
+same_stacks Each a b stack others same around = same_filled Each a b stack others same around
+same_stacks Once a b stack others same around = same_filled Once a b stack others same around
+same_stacks If a b stack others same around = same_filled If a b stack others same around
+same_stacks Whether a b stack others same around = same_filled Whether a b stack others same around
+same_stacks Attributes a b stack others same around = same_filled Attributes a b stack others same around
 
 -- ---- pieces
 
@@ -199,15 +233,23 @@ same_times opening If body each stack other stacks others same more = absurd mor
 same_times opening Whether body each stack other [] [] same more = each stack other same
 same_times opening Whether body each stack other (a ∷ stacks) (b ∷ others) same more = λ first second told_first told_second. absurd (cc)
 same_times opening Whether body each stack other stacks others same more = absurd more
+same_times opening Given body each stack other [] [] same more = each stack other same
+same_times opening Given body each stack other (a ∷ stacks) (b ∷ others) same more = λ first second told_first told_second. absurd (cc)
+same_times opening Given body each stack other stacks others same more = absurd more
+same_times opening Attributes body each stack other [] [] same more = each stack other same
+same_times opening Attributes body each stack other (a ∷ stacks) (b ∷ others) same more = λ first second told_first told_second. absurd (cc)
+same_times opening Attributes body each stack other stacks others same more = absurd more
 
-same_section : (opening : Opening) (body : Stack → Unrolled) (otherwise again : Unrolled) →
+same_section : (opening : Opening) (refused again_refused : Option ValueFault) (body : Stack → Unrolled) (otherwise again : Unrolled) →
     ((stack other : Stack) → SameStack stack other → Agree (body stack) (body other)) → Agree otherwise again →
     (stacks others : List Stack) → SameStacks stacks others →
-    Agree (unrolled_section opening body otherwise stacks) (unrolled_section opening body again others)
-same_section opening body otherwise again each else_branch [] [] same = else_branch
-same_section opening body otherwise again each else_branch (stack ∷ stacks) (other ∷ others) same =
+    Agree (unrolled_section opening refused body otherwise stacks) (unrolled_section opening again_refused body again others)
+same_section opening None None body otherwise again each else_branch [] [] same = else_branch
+same_section opening None None body otherwise again each else_branch (stack ∷ stacks) (other ∷ others) same =
     same_times opening opening.times body each stack other stacks others same.0 same.1
-same_section opening body otherwise again each else_branch stacks others same = absurd same
+same_section opening None None body otherwise again each else_branch stacks others same = absurd same
+same_section opening (Some why) refused body otherwise again each else_branch stacks others same = λ first second told_first told_second. absurd (cc)
+same_section opening None (Some why) body otherwise again each else_branch stacks others same = λ first second told_first told_second. absurd (cc)
 
 pub same_pieces : (nodes : Nodes Placed) (stack others : Stack) → SameStack stack others → Agree (unrolled nodes stack) (unrolled nodes others)
 same_pieces node.End stack others same first second told_first told_second = same_none first second told_first told_second
@@ -236,10 +278,12 @@ same_pieces (node.Slot slot rest) stack others same first second told_first told
 same_pieces (node.Section opening body otherwise rest) stack others same first second told_first told_second =
     let here = stacks opening.times (look_up opening.name stack) stack in
     let there = stacks opening.times (look_up opening.name others) others in
-    both_front (unrolled_section opening (λ inner. unrolled body inner) (unrolled otherwise stack) here)
-    (unrolled_section opening (λ inner. unrolled body inner) (unrolled otherwise others) there)
+    let refused = refused_for opening.times (look_up opening.name stack) in
+    let again = refused_for opening.times (look_up opening.name others) in
+    both_front (unrolled_section opening refused (λ inner. unrolled body inner) (unrolled otherwise stack) here)
+    (unrolled_section opening again (λ inner. unrolled body inner) (unrolled otherwise others) there)
     (unrolled rest stack) (unrolled rest others)
-    (same_section opening (λ inner. unrolled body inner) (unrolled otherwise stack) (unrolled otherwise others)
+    (same_section opening refused again (λ inner. unrolled body inner) (unrolled otherwise stack) (unrolled otherwise others)
     (λ inner other is. same_pieces body inner other is) (same_pieces otherwise stack others same) here there
     (same_stacks opening.times (look_up opening.name stack) (look_up opening.name others) stack others
     (same_look_up opening.name stack others same) same))

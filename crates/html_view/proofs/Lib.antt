@@ -7,6 +7,7 @@ pub mod Steps
 pub mod Runs
 pub mod Sound
 pub mod Followed
+pub mod Spelling
 pub mod Unrolling
 pub mod CutNames
 pub mod Putting

@@ -1,5 +1,5 @@
 -- What is put for a node, and for those behind it.
-use Rattle.std.proofs.Common.{ℕ, ◌≡◌, ◌<◌, ◌+◌, List, [], ◌∷◌, ◌++◌, IsUtf8, Result, Ok, Err, refl, sym, ap, ◌∙◌, subst, append_assoc, append-nil, arith}
+use Rattle.std.proofs.Common.{ℕ, ◌≡◌, ◌<◌, ◌+◌, List, [], ◌∷◌, ◌++◌, IsUtf8, Option, Some, None, Result, Ok, Err, refl, sym, ap, ◌∙◌, subst, append_assoc, append-nil, arith}
 use Rattle.std.specs.List.{AllByRecursion}
 use Rattle.hesc_sinks.proofs.Progress.{TookBeginning-following, TookBeginning-front}
 use Rattle.hesc_specs.specs.Text.Beginning.{TookBeginning}
@@ -12,9 +12,9 @@ use Rattle.html_view.specs.Nodes.{Nodes, Opening, Placed}
 use Rattle.html_view.specs.Rendered.{Unrolled, Unrolling, no_unrolling, put_front, put_markup, put_text, rendered, text_for, unrolled, unrolled_each, unrolled_section, unrolled_times}
 use Rattle.html_view.specs.Unrolled.{chunk_of}
 use Rattle.html_view.specs.Ways.{on_ok}
-use Rattle.html_view.specs.declared.faults.ValueFault.TheVariants.{Repeated}
+use Rattle.html_view.specs.declared.faults.ValueFault.{ValueFault}
 use Rattle.html_view.specs.declared.node.Times.{Times}
-use Rattle.html_view.specs.declared.node.Times.TheVariants.{Each, Once, If, Whether}
+use Rattle.html_view.specs.declared.node.Times.TheVariants.{Attributes, Each, Given, If, Once, Whether}
 use Rattle.html_view.specs.declared.unroll.Refusal.{Refusal}
 use Rattle.html_view.specs.declared.unroll.Stop.{Stop}
 use Rattle.html_view.specs.declared.unroll.Stop.TheVariants.{Refused, Failed}
@@ -222,28 +222,29 @@ stands_once opening Each body stack = once_told (body stack)
 stands_once opening Once body stack = refl
 stands_once opening If body stack = refl
 stands_once opening Whether body stack = refl
+stands_once opening Given body stack = refl
+stands_once opening Attributes body stack = refl
 
--- what a section is, by how its body stands
-pub never_told : (opening : Opening) (body : Stack → Unrolled) (otherwise : Unrolled) (told : List Stack) → told ≡ [] →
-    unrolled_section opening body otherwise told ≡ otherwise
-never_told opening body otherwise told is = ap (λ t. unrolled_section opening body otherwise t) is
+-- what a section is, by how its body stands, where its value is not refused
+pub never_told : (opening : Opening) (refused : Option ValueFault) (body : Stack → Unrolled) (otherwise : Unrolled) (told : List Stack) →
+    refused ≡ None → told ≡ [] → unrolled_section opening refused body otherwise told ≡ otherwise
+never_told opening None body otherwise told none is = ap (λ t. unrolled_section opening None body otherwise t) is
+never_told opening (Some why) body otherwise told none is = absurd (cc)
 
-pub stands_told : (opening : Opening) (body : Stack → Unrolled) (otherwise : Unrolled) (told : List Stack) (inner : Stack) → told ≡ inner ∷ [] →
-    unrolled_section opening body otherwise told ≡ body inner
-stands_told opening body otherwise told inner is =
-    ap (λ t. unrolled_section opening body otherwise t) is ∙ stands_once opening opening.times body inner
+pub stands_told : (opening : Opening) (refused : Option ValueFault) (body : Stack → Unrolled) (otherwise : Unrolled) (told : List Stack) (inner : Stack) →
+    refused ≡ None → told ≡ inner ∷ [] → unrolled_section opening refused body otherwise told ≡ body inner
+stands_told opening None body otherwise told inner none is =
+    ap (λ t. unrolled_section opening None body otherwise t) is ∙ stands_once opening opening.times body inner
+stands_told opening (Some why) body otherwise told inner none is = absurd (cc)
 
-pub each_told : (opening : Opening) (body : Stack → Unrolled) (otherwise : Unrolled) (told items : List Stack) (first : Stack) (more : List Stack) →
-    opening.times ≡ Each → told ≡ first ∷ more → told ≡ items → unrolled_section opening body otherwise told ≡ unrolled_each body items
-each_told opening body otherwise told items first more times some is =
-    ap (λ t. unrolled_section opening body otherwise t) some
+pub each_told : (opening : Opening) (refused : Option ValueFault) (body : Stack → Unrolled) (otherwise : Unrolled) (told items : List Stack) (first : Stack)
+    (more : List Stack) → refused ≡ None → opening.times ≡ Each → told ≡ first ∷ more → told ≡ items →
+    unrolled_section opening refused body otherwise told ≡ unrolled_each body items
+each_told opening None body otherwise told items first more none times some is =
+    ap (λ t. unrolled_section opening None body otherwise t) some
     ∙ ap (λ t. unrolled_times opening t body first more) times
     ∙ ap (unrolled_each body) (sym some ∙ is)
-
-pub repeated_told : (opening : Opening) (body : Stack → Unrolled) (otherwise : Unrolled) (told : List Stack) (first second : Stack) (more : List Stack) →
-    opening.times ≡ Once → told ≡ first ∷ second ∷ more → unrolled_section opening body otherwise told ≡ Err (opening.position, Repeated)
-repeated_told opening body otherwise told first second more times several =
-    ap (λ t. unrolled_section opening body otherwise t) several ∙ ap (λ t. unrolled_times opening t body first (second ∷ more)) times
+each_told opening (Some why) body otherwise told items first more none times some is = absurd (cc)
 
 pub front_same : {F : Type 0} (told again : Nodes Placed → Unrolled) (stack : Stack) (old new : List ℕ) (refusal : Refusal)
     (result : Result (Unit {0}) (Stop F)) → ((rest : Nodes Placed) → again rest ≡ told rest) → PutsFront told stack old new refusal result →

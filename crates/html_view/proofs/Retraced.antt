@@ -15,7 +15,8 @@ use Rattle.html_view.specs.declared.node.Asked as asked
 use Rattle.html_view.specs.declared.node.Node.{Markup, Node, Section, Slot}
 use Rattle.html_view.specs.declared.node.Opening as code
 use Rattle.html_view.specs.declared.node.Times.{Times}
-use Rattle.html_view.specs.declared.node.Times.TheVariants.{Each, Once, If, Whether}
+use Rattle.html_view.specs.declared.node.Times.TheVariants as times
+use Rattle.html_view.specs.declared.node.Times.TheVariants.{Each, If, Once, Whether}
 use Rattle.html_view.specs.declared.retrace.Frame.{Frame}
 use Rattle.html_view.proofs.Followed.{asked_markup, asked_section, asked_slot, take_whole}
 use Rattle.html_view.specs.Following.{MovedPast}
@@ -97,6 +98,8 @@ told_written Each standing position = refl
 told_written Once standing position = refl
 told_written If standing position = refl
 told_written Whether standing position = refl
+told_written times.Given standing position = refl
+told_written times.Attributes standing position = refl
 
 -- of a section that the code keeps, whose body may be repeated
 pub led_again : {A : Type 0} (frame : Frame A) (opening : code.Opening) (number : ℕ) (body otherwise : Nodes Asked) (rest : List (Node asked.Asked A))

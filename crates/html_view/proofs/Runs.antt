@@ -11,7 +11,7 @@ use Rattle.html_view.specs.Nodes.{Nodes, Placed}
 use Rattle.html_view.specs.Takes.{Among, AreAmong, GoesOn, GoesPast, LeadsBack, Takes}
 use Rattle.html_view.specs.Unrolled.{Stands, Unrolls, all_of}
 use Rattle.html_view.specs.declared.node.Times.{Times}
-use Rattle.html_view.specs.declared.node.Times.TheVariants.{Each, Once, If, Whether}
+use Rattle.html_view.specs.declared.node.Times.TheVariants.{Attributes, Each, Given, If, Once, Whether}
 use Rattle.html_view.specs.Ways.{Way, past_slot, way_behind, way_slot}
 
 -- one way through a slot at this place
@@ -74,6 +74,8 @@ body_runs Each body head out runs back pieces stands way among =
 body_runs Once body head out runs back pieces stands way among = runs pieces stands way among
 body_runs If body head out runs back pieces stands way among = runs pieces stands way among
 body_runs Whether body head out runs back pieces stands way among = runs pieces stands way among
+body_runs Given body head out runs back pieces stands way among = runs pieces stands way among
+body_runs Attributes body head out runs back pieces stands way among = runs pieces stands way among
 
 -- each unrolling of nodes leads a way where the nodes do
 pub leads : (nodes : Nodes Placed) (ways others : List Way) → Takes ways nodes others → (pieces : List Chunk) → Unrolls nodes pieces →

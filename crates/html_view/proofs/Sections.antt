@@ -1,13 +1,13 @@
 -- What is put for a step.
-use Rattle.std.proofs.Common.{Vec, rules, ℕ, zero, suc, ◌≡◌, ◌<◌, ◌+◌, List, [], ◌∷◌, length, get_or, drop, arith, Option, Ok, Err, Result, refl, sym, ap, ◌∙◌, subst}
+use Rattle.std.proofs.Common.{Vec, rules, ℕ, zero, suc, ◌≡◌, ◌<◌, ◌+◌, List, [], ◌∷◌, length, get_or, drop, arith, Option, Ok, Result, sym, ap, ◌∙◌, subst}
 use Rattle.html_template.specs.Templates.{Fill}
 use Rattle.html_template.specs.declared.stored.StoredMarkup.{StoredMarkup}
+use Rattle.html_view.specs.Attributes.{refused_for}
 use Rattle.html_view.specs.Data.{Datum, Stack, look_up, stacks}
 use Rattle.html_view.specs.Nodes as node
 use Rattle.html_view.specs.Nodes.{Nodes, Opening}
 use Rattle.html_view.specs.Putting.{Puts, PutsFront}
-use Rattle.html_view.specs.Rendered.{Unrolled, Unrolling, text_for, unrolled, unrolled_section}
-use Rattle.html_view.specs.declared.faults.Position.{Position}
+use Rattle.html_view.specs.Rendered.{Unrolled, Unrolling, unrolled, unrolled_section}
 use Rattle.html_view.specs.declared.faults.ValueFault.{ValueFault}
 use Rattle.html_view.specs.Stepped.{opened_of, slot_of, step_node, stepped}
 use Rattle.html_view.specs.declared.step.OpeningStep.{OpeningStep}
@@ -62,31 +62,28 @@ section_step {A} step opening body otherwise stack old new refusal result is put
     step_put step (λ rest. node.Section (opened_of opening) (stepped body.items) (stepped otherwise.items) rest) stack old new refusal result
     (λ rest. ap (λ (s : Step A). step_node s rest) is ∙ stepped_section opening body otherwise rest) puts
 
--- a text that is refused
-pub slot_refused : (slot : node.Placed) (stack : Stack) (position : Position) (why : ValueFault) → text_for slot (look_up slot.asked.name stack) ≡ Err (position, why) →
-    (rest : Nodes node.Placed) → unrolled (node.Slot slot rest) stack ≡ Err (position, why)
-slot_refused slot stack position why told rest = rw told refl
-
 pub nodes_fill : (nodes : Nodes node.Placed) (stack : Stack) (found : Unrolling) → unrolled nodes stack ≡ Ok found → Fill found.pieces found.texts
 nodes_fill nodes stack found told = (is_unrolling nodes stack found told).full
 
-section_fills : (opening : Opening) (body otherwise : Nodes node.Placed) (stack : Stack) (around : List Stack) (found : Unrolling) →
-    unrolled_section opening (λ inner. unrolled body inner) (unrolled otherwise stack) around ≡ Ok found → Fill found.pieces found.texts
-section_fills opening body otherwise stack around found told =
-    (are_either opening body otherwise (λ inner. unrolled body inner) (unrolled otherwise stack)
+section_fills : (opening : Opening) (refused : Option ValueFault) (body otherwise : Nodes node.Placed) (stack : Stack) (around : List Stack) (found : Unrolling) →
+    unrolled_section opening refused (λ inner. unrolled body inner) (unrolled otherwise stack) around ≡ Ok found → Fill found.pieces found.texts
+section_fills opening refused body otherwise stack around found told =
+    (are_either opening refused body otherwise (λ inner. unrolled body inner) (unrolled otherwise stack)
     (λ inner value is. is_unrolling body inner value is) (λ value is. is_unrolling otherwise stack value is) around found told).full
 
 -- a section whose name means this value makes what is put
 pub section_made : {F : Type 0} (opening : Opening) (body otherwise : Nodes node.Placed) (value : Option Datum) (stack : Stack)
     (told : Unrolled) (old new : List ℕ) (refusal : Refusal) (result : Result (Unit {0}) (Stop F)) → value ≡ look_up opening.name stack →
-    unrolled_section opening (λ inner. unrolled body inner) (unrolled otherwise stack) (stacks opening.times value stack) ≡ told →
+    unrolled_section opening (refused_for opening.times value) (λ inner. unrolled body inner) (unrolled otherwise stack) (stacks opening.times value stack) ≡ told →
     Puts told old new refusal result → PutsFront (λ rest. unrolled (node.Section opening body otherwise rest) stack) stack old new refusal result
 section_made opening body otherwise value stack told old new refusal result means same puts =
+    let refused = refused_for opening.times (look_up opening.name stack) in
     let around = stacks opening.times (look_up opening.name stack) stack in
-    section_put (unrolled_section opening (λ inner. unrolled body inner) (unrolled otherwise stack) around) stack old new refusal result
-    (section_fills opening body otherwise stack around)
-    (same_told told (unrolled_section opening (λ inner. unrolled body inner) (unrolled otherwise stack) around) old new refusal result
-    (ap (λ v. unrolled_section opening (λ inner. unrolled body inner) (unrolled otherwise stack) (stacks opening.times v stack)) (sym means) ∙ same) puts)
+    let made = unrolled_section opening refused (λ inner. unrolled body inner) (unrolled otherwise stack) around in
+    section_put made stack old new refusal result (section_fills opening refused body otherwise stack around)
+    (same_told told made old new refusal result
+    (ap (λ v. unrolled_section opening (refused_for opening.times v) (λ inner. unrolled body inner) (unrolled otherwise stack) (stacks opening.times v stack)) (sym means)
+    ∙ same) puts)
 
 -- ---- steps from one on
 

@@ -11,7 +11,7 @@ use Rattle.html_view.specs.declared.node.Asked.{Asked}
 use Rattle.html_view.specs.declared.node.Node.{Markup, Node, Section, Slot, the_lemmas}
 use Rattle.html_view.specs.declared.node.Opening.{Opening}
 use Rattle.html_view.specs.declared.node.Times.{Times}
-use Rattle.html_view.specs.declared.node.Times.TheVariants.{Each, If, Once, Whether}
+use Rattle.html_view.specs.declared.node.Times.TheVariants.{Attributes, Each, Given, If, Once, Whether}
 use Rattle.html_view.specs.declared.source.cursor.Piece.{Piece}
 use Rattle.html_view.specs.declared.source.cursor.Tag.{Tag}
 use Rattle.html_view.specs.declared.source.tag.Sign.{Sign}
@@ -86,11 +86,13 @@ marked_some (b ∷ markup) after some = refl
 
 -- ---- sections
 
-written_same : (times : Times) → times ≢ Once → written_times times ≡ times
+pub written_same : (times : Times) → times ≢ Once → written_times times ≡ times
 written_same Each other = refl
 written_same Once other = absurd (other refl)
 written_same If other = refl
 written_same Whether other = refl
+written_same Given other = refl
+written_same Attributes other = refl
 
 pub opened_is : (opening : Opening) (tag : Tag) (times : Times) → opening.name.now ≡ tag.name.now → opening.position ≡ tag.position →
     opening.times ≡ times → times ≢ Once → written_opening (opening_of opening) ≡ opened tag times

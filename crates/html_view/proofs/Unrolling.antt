@@ -17,6 +17,7 @@ use Rattle.html_urls.specs.Links.{is_link}
 use Rattle.html_urls.specs.OwnPaths.{is_own_path}
 use Rattle.html_urls.specs.Slots.{may_fill}
 use Rattle.html_urls.specs.declared.parts.UrlSlot.{UrlSlot}
+use Rattle.html_view.specs.Attributes.{refused_for}
 use Rattle.html_view.specs.Data.{Datum, Stack, look_up, stacks}
 use Rattle.html_view.specs.Data as data_of
 use Rattle.html_view.specs.Nodes as node
@@ -24,8 +25,9 @@ use Rattle.html_view.specs.Nodes.{Nodes, Opening, Placed}
 use Rattle.html_view.specs.Rendered.{Unrolled, Unrolling, fitting, flag_text, no_unrolling, put_front, put_markup, put_text, rendered, text_for, unrolled, unrolled_each, unrolled_section, unrolled_times}
 use Rattle.html_view.specs.Unrolled.{AreTemplates, Stands, Unrolls, all_of, joined}
 use Rattle.html_view.specs.Ways.{on_ok}
+use Rattle.html_view.specs.declared.faults.ValueFault.{ValueFault}
 use Rattle.html_view.specs.declared.node.Times.{Times}
-use Rattle.html_view.specs.declared.node.Times.TheVariants.{Each, Once, If, Whether}
+use Rattle.html_view.specs.declared.node.Times.TheVariants.{Attributes, Each, Given, If, Once, Whether}
 use Rattle.html_view.proofs.Sound.{is_page_of}
 
 -- ---- a text that has no fault may fill its slot
@@ -173,14 +175,21 @@ are_some opening If body otherwise rendering each stack (another ∷ stacks) fou
 are_some opening Whether body otherwise rendering each stack [] found told =
     let here = each stack found told in record { either = inl here.unrolls; full = here.full }
 are_some opening Whether body otherwise rendering each stack (another ∷ stacks) found told = absurd (cc)
+are_some opening Given body otherwise rendering each stack [] found told =
+    let here = each stack found told in record { either = inl here.unrolls; full = here.full }
+are_some opening Given body otherwise rendering each stack (another ∷ stacks) found told = absurd (cc)
+are_some opening Attributes body otherwise rendering each stack [] found told =
+    let here = each stack found told in record { either = inl here.unrolls; full = here.full }
+are_some opening Attributes body otherwise rendering each stack (another ∷ stacks) found told = absurd (cc)
 
-pub are_either : (opening : Opening) (body otherwise : Nodes Placed) (rendering : Stack → Unrolled) (other : Unrolled) →
+pub are_either : (opening : Opening) (refused : Option ValueFault) (body otherwise : Nodes Placed) (rendering : Stack → Unrolled) (other : Unrolled) →
     ((inner : Stack) (found : Unrolling) → rendering inner ≡ Ok found → IsUnrolling body found) →
     ((found : Unrolling) → other ≡ Ok found → IsUnrolling otherwise found) →
-    (around : List Stack) (found : Unrolling) → unrolled_section opening rendering other around ≡ Ok found → AreSome opening.times body otherwise found
-are_either opening body otherwise rendering other each else_branch [] found told =
+    (around : List Stack) (found : Unrolling) → unrolled_section opening refused rendering other around ≡ Ok found → AreSome opening.times body otherwise found
+are_either opening (Some why) body otherwise rendering other each else_branch around found told = absurd (cc)
+are_either opening None body otherwise rendering other each else_branch [] found told =
     let here = else_branch found told in record { either = inr here.unrolls; full = here.full }
-are_either opening body otherwise rendering other each else_branch (stack ∷ stacks) found told =
+are_either opening None body otherwise rendering other each else_branch (stack ∷ stacks) found told =
     are_some opening opening.times body otherwise rendering each stack stacks found told
 
 pub is_unrolling : (nodes : Nodes Placed) (stack : Stack) (found : Unrolling) → unrolled nodes stack ≡ Ok found → IsUnrolling nodes found
@@ -205,10 +214,11 @@ is_unrolling (node.Slot slot rest) stack found told =
     })
 is_unrolling (node.Section opening body otherwise rest) stack found told =
     let around = stacks opening.times (look_up opening.name stack) stack in
-    let part = unrolled_section opening (λ inner. unrolled body inner) (unrolled otherwise stack) around in
+    let refused = refused_for opening.times (look_up opening.name stack) in
+    let part = unrolled_section opening refused (λ inner. unrolled body inner) (unrolled otherwise stack) around in
     let one = found_in part (λ front. on_ok (unrolled rest stack) (put_front front)) found told in
     let more = found_in (unrolled rest stack) (put_front one.value) found one.goes in
-    let front = are_either opening body otherwise (λ inner. unrolled body inner) (unrolled otherwise stack)
+    let front = are_either opening refused body otherwise (λ inner. unrolled body inner) (unrolled otherwise stack)
     (λ inner value is. is_unrolling body inner value is) (λ value is. is_unrolling otherwise stack value is) around one.value one.is in
     let here = is_unrolling rest stack more.value more.is in
     let goes : Ok (record { pieces = one.value.pieces ++ more.value.pieces; texts = one.value.texts ++ more.value.texts }) ≡ Ok found = more.goes in

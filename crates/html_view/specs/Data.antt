@@ -3,7 +3,7 @@ use Rattle.std.specs.Prelude.{ℕ, Bool, true, false, List, [], ◌∷◌, Optio
 use Rattle.std.specs.Option.{option_and_then}
 use Rattle.html_view.specs.Nodes.{Words}
 use Rattle.html_view.specs.declared.node.Times.{Times}
-use Rattle.html_view.specs.declared.node.Times.TheVariants.{If, Whether}
+use Rattle.html_view.specs.declared.node.Times.TheVariants.{Each, Given, Once, Whether}
 
 mutual
   -- nothing, a text, a flag, a list, or named values
@@ -54,9 +54,15 @@ abbrev pub innermost : Stack → Option Datum
 innermost [] = None
 innermost (value ∷ stack) = Some value
 
+-- an empty word before others is the innermost value: what `.name` means is a member of it
+abbrev pub first_value : Words → List ℕ → Stack → Option Datum
+first_value [] word stack = around word stack
+first_value (next ∷ words) [] stack = innermost stack
+first_value (next ∷ words) (b ∷ word) stack = around (b ∷ word) stack
+
 abbrev pub look_up : Words → Stack → Option Datum
 look_up [] stack = innermost stack
-look_up (word ∷ words) stack = option_and_then (within words) (around word stack)
+look_up (word ∷ words) stack = option_and_then (within words) (first_value words word stack)
 
 -- ---- sections
 
@@ -79,21 +85,34 @@ once false stack = []
 
 -- a condition only asks a list whether it is empty
 abbrev pub list_stacks : Times → ItemList → Stack → List Stack
-list_stacks If items stack = once (has_items items) stack
-list_stacks Whether items stack = once (has_items items) stack
-list_stacks other items stack = item_stacks items stack
+list_stacks Each items stack = item_stacks items stack
+list_stacks Once items stack = item_stacks items stack
+list_stacks other items stack = once (has_items items) stack
 
 -- named values and a text are around in the body
 abbrev pub inside : Times → Datum → Stack → Stack
 inside Whether value stack = stack
 inside other value stack = value ∷ stack
 
--- what is around in the body, each time that it stands: never where its name is missing, or means nothing, `false` or an empty
--- text or list
+-- never where its name is missing, or means nothing, `false` or an empty text or list
+abbrev pub filled_stacks : Times → Option Datum → Stack → List Stack
+filled_stacks times None stack = []
+filled_stacks times (Some Nothing) stack = []
+filled_stacks times (Some (Text text)) stack = once (is_filled text) (inside times (Text text) stack)
+filled_stacks times (Some (Flag flag)) stack = once flag stack
+filled_stacks times (Some (Items items)) stack = list_stacks times items stack
+filled_stacks times (Some (Record fields)) stack = inside times (Record fields) stack ∷ []
+
+abbrev pub is_nothing : Datum → Bool
+is_nothing Nothing = true
+is_nothing other = false
+
+-- never where its name is missing, or means nothing, and else once with the value around
+abbrev pub given_stacks : Option Datum → Stack → List Stack
+given_stacks None stack = []
+given_stacks (Some value) stack = if is_nothing value then [] else (value ∷ stack) ∷ []
+
+-- what is around in the body, each time that it stands
 abbrev pub stacks : Times → Option Datum → Stack → List Stack
-stacks times None stack = []
-stacks times (Some Nothing) stack = []
-stacks times (Some (Text text)) stack = once (is_filled text) (inside times (Text text) stack)
-stacks times (Some (Flag flag)) stack = once flag stack
-stacks times (Some (Items items)) stack = list_stacks times items stack
-stacks times (Some (Record fields)) stack = inside times (Record fields) stack ∷ []
+stacks Given value stack = given_stacks value stack
+stacks other value stack = filled_stacks other value stack

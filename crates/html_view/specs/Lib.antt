@@ -9,11 +9,13 @@ pub mod Unrolled
 pub mod Ways
 pub mod Takes
 pub mod Kept
+pub mod Spelled
 pub mod Stepped
 pub mod Following
 pub mod Reached
 pub mod Frames
 pub mod Data
+pub mod Attributes
 pub mod JsonData
 pub mod Values
 pub mod Rendered

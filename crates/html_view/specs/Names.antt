@@ -1,4 +1,4 @@
--- Names: `.`, which is the innermost value, or words with dots between them.
+-- Names: `.`, which is the innermost value, or words with dots between them. Where a dot stands before them, the first word is empty.
 use Rattle.std.specs.Prelude.{ℕ, List, [], ◌∷◌, ◌++◌, ◌==◌, bytes_eq, if◌then◌else◌}
 use Rattle.html_view.specs.Nodes.{Words}
 

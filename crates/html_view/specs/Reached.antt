@@ -6,11 +6,13 @@ use Rattle.html_template.specs.declared.faults.PartFault.{PartFault}
 use Rattle.html_template.specs.declared.faults.TemplateFault.TheVariants as template
 use Rattle.html_view.specs.Nodes as node
 use Rattle.html_view.specs.Nodes.{Asked, Nodes, Opening}
-use Rattle.html_view.specs.Reading.{IsSource, PartialText}
+use Rattle.html_view.specs.Reading.{PartialText}
+use Rattle.html_view.specs.Spelled.{IsSpelled}
 use Rattle.html_view.specs.declared.faults.Position.{Position}
 use Rattle.html_view.specs.declared.faults.ViewFault.{ViewFault}
 use Rattle.html_view.specs.declared.faults.ViewFault.TheVariants.{Part, Unfinished}
 use Rattle.html_view.specs.declared.node.Times.{Times}
+use Rattle.html_view.specs.declared.node.Times.TheVariants as times
 use Rattle.html_view.specs.declared.node.Times.TheVariants.{Each, Whether}
 
 -- what is read behind a body that stood: where it may be repeated, the same section, with nothing where it does not stand again
@@ -18,9 +20,11 @@ abbrev pub behind_body : Times → Opening → Nodes Asked → Nodes Asked → N
 behind_body Each opening body rest = node.Section opening body node.End rest
 behind_body other opening body rest = rest
 
--- the sections that stand, with one more: that around white space between two sides has the tag of the section within it
+-- the sections that stand, with one more: that around white space between two sides has the tag of the section within it, and that of
+-- an attribute the tag of the section around it
 abbrev pub told_with : Times → List Position → Position → List Position
 told_with Whether standing position = standing
+told_with times.Given standing position = standing
 told_with other standing position = standing ++ position ∷ []
 
 -- of these nodes this may be reached: the sections that stand so far, by their tags; markup and slots by turns, up to the last slot;
@@ -78,6 +82,6 @@ Shows nodes standing other = ⊤
 -- the same of the nodes of a source
 abbrev pub ShowsOf : List PartialText → List ℕ → List Position → ViewFault → Type 0
 ShowsOf partials source standing (Part position why) =
-    (nodes : Nodes Asked) × IsSource partials source nodes × RefusedWith nodes standing position why
-ShowsOf partials source standing Unfinished = (nodes : Nodes Asked) × IsSource partials source nodes × UnfinishedWith nodes standing
+    (nodes : Nodes Asked) × IsSpelled partials source nodes × RefusedWith nodes standing position why
+ShowsOf partials source standing Unfinished = (nodes : Nodes Asked) × IsSpelled partials source nodes × UnfinishedWith nodes standing
 ShowsOf partials source standing other = ⊤

@@ -3,6 +3,7 @@ use Rattle.std.specs.Prelude.{ℕ, List, [], ◌∷◌, ◌++◌, Bool, true, fa
 use Rattle.html_template.specs.FillFaults.{text_fault}
 use Rattle.html_template.specs.Templates.{Chunk, Markup, page}
 use Rattle.html_template.specs.declared.faults.TextFault.{TextFault}
+use Rattle.html_view.specs.Attributes.{refused_for}
 use Rattle.html_view.specs.Data.{Datum, Stack, look_up, stacks}
 use Rattle.html_view.specs.Data as data_of
 use Rattle.html_view.specs.Nodes as node
@@ -74,10 +75,11 @@ unrolled_times opening Each body stack stacks = unrolled_each body (stack ∷ st
 unrolled_times opening other body stack [] = body stack
 unrolled_times opening other body stack (another ∷ stacks) = Err (opening.position, Repeated)
 
--- or else what stands where it does not
-abbrev pub unrolled_section : Opening → (Stack → Unrolled) → Unrolled → List Stack → Unrolled
-unrolled_section opening body otherwise [] = otherwise
-unrolled_section opening body otherwise (stack ∷ stacks) = unrolled_times opening opening.times body stack stacks
+-- or else what stands where it does not; but first why its value is refused
+abbrev pub unrolled_section : Opening → Option ValueFault → (Stack → Unrolled) → Unrolled → List Stack → Unrolled
+unrolled_section opening (Some why) body otherwise stacks = Err (opening.position, why)
+unrolled_section opening None body otherwise [] = otherwise
+unrolled_section opening None body otherwise (stack ∷ stacks) = unrolled_times opening opening.times body stack stacks
 
 abbrev pub unrolled : Nodes Placed → Stack → Unrolled
 unrolled node.End stack = Ok no_unrolling
@@ -86,7 +88,7 @@ unrolled (node.Slot slot rest) stack =
     on_ok (text_for slot (look_up slot.asked.name stack)) (λ text. on_ok (unrolled rest stack) (put_text slot text))
 unrolled (node.Section opening body otherwise rest) stack =
     on_ok
-    (unrolled_section opening (λ inner. unrolled body inner) (unrolled otherwise stack)
+    (unrolled_section opening (refused_for opening.times (look_up opening.name stack)) (λ inner. unrolled body inner) (unrolled otherwise stack)
     (stacks opening.times (look_up opening.name stack) stack))
     (λ front. on_ok (unrolled rest stack) (put_front front))
 

@@ -1,10 +1,10 @@
 -- Tags: a sign and a name between `{{` and `}}`, with white space around them.
-use Rattle.std.specs.Prelude.{◌≡◌, ◌≢◌, ⊤, ℕ, Bool, true, false, ◌||◌, List, [], ◌++◌, ◌==◌, codes}
+use Rattle.std.specs.Prelude.{◌≡◌, ◌≢◌, ⊤, ℕ, Bool, true, false, ◌||◌, List, [], ◌∷◌, ◌++◌, ◌==◌, codes}
 use Rattle.std.specs.Char.{is_ascii_alphanumeric, is_not_whitespace, is_whitespace}
 use Rattle.std.specs.List.{AllByRecursion, list_all}
 use Rattle.std.specs.Str.{NoCharPasses}
 use Rattle.html_template_source.specs.Sources.{quoted_opening}
-use Rattle.html_view.specs.Names.{words_of}
+use Rattle.html_view.specs.Names.{dot, words_behind}
 use Rattle.html_view.specs.declared.source.tag.Sign.{Sign}
 use Rattle.html_view.specs.declared.source.tag.Sign.TheVariants.{Block, Comment, Each, End, If, Layout, Partial, Quoted, Slot, Unless}
 
@@ -38,9 +38,15 @@ pub record IsWord (word : List ℕ) : Type 0 where
   pub some : word ≢ []
   pub letters : list_all is_letter word ≡ true
 
--- words with dots between them, or `.`
-abbrev pub IsName : List ℕ → Type 0
-IsName name = AllByRecursion IsWord (words_of name)
+-- words with dots between them
+abbrev pub AreWords : List ℕ → Type 0
+AreWords name = AllByRecursion IsWord (words_behind [] name)
+
+-- words, which a dot may stand before, or the dot alone
+pub data IsName : List ℕ → Type 0 where
+  innermost : IsName (dot ∷ [])
+  words : {name : List ℕ} → AreWords name → IsName name
+  behind_dot : {name : List ℕ} → AreWords name → IsName (dot ∷ name)
 
 -- what no name of a partial has: white space and braces
 abbrev pub is_apart : ℕ → Bool

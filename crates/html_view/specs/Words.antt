@@ -5,6 +5,7 @@ pub use Rattle.html_view.specs.JsonData.{datum_of_json}
 pub use Rattle.html_view.specs.Nodes.{written}
 pub use Rattle.html_view.specs.Reading.{IsSource, partials_of}
 pub use Rattle.html_view.specs.Rendered.{Unrolled, Unrolling, rendered, unrolled}
+pub use Rattle.html_view.specs.Spelled.{IsSpelled, spelled}
 pub use Rattle.html_view.specs.Unrolled.{AreTemplates, Unrolls}
 pub use Rattle.html_view.specs.Values.{datum_of}
 pub use Rattle.html_view.specs.Views.{AddsPage, Renders, Writes, WritesPage, nodes_in, parts_of, unrolled_by}

@@ -151,6 +151,23 @@ fn innermost<'s, 'p, 't>(around: &Around<'s, 'p, 't>) -> Option<Value<'p, 't>>
     }
 }
 
+// The value of a name's first word: of none before others the innermost value.
+#[inline(always)]
+fn first_value<'s, 'p, 't>(
+    others: &[&str],
+    word: &str,
+    around: &Around<'s, 'p, 't>,
+) -> Option<Value<'p, 't>>
+    ensures { option_map datum_of result
+        ≡ data_of.first_value (texts_of others.now) word.now (stack_of around.now) }
+{
+    if word.is_empty() && !others.is_empty() {
+        innermost(around)
+    } else {
+        find(around, word)
+    }
+}
+
 /// What a name means: the innermost value of its first word, and in that what its other words mean.
 #[inline(always)]
 pub(crate) fn look_up<'s, 'p, 't, A: Allocator>(
@@ -163,7 +180,7 @@ pub(crate) fn look_up<'s, 'p, 't, A: Allocator>(
     match name {
         Words::Innermost => innermost(around),
         Words::One(word) => find(around, *word),
-        Words::Several(first, others) => match find(around, *first) {
+        Words::Several(first, others) => match first_value(others, *first, around) {
             None => None,
             Some(found) => within(others, found),
         },

@@ -79,6 +79,8 @@ pub enum ValueFault {
     Missing,
     /// The name of a slot means a list or named values.
     NotAText,
+    /// The name of a slot between attributes means something else than named values that are attributes.
+    NotAttributes,
     /// The name of a section means a list of two items or more, and its body cannot be repeated.
     Repeated,
     /// The text may not stand in its slot.

@@ -156,6 +156,16 @@ fn follow_body<'a, A: Allocator + Copy>(
             ways,
             heads,
         ),
+        Times::Given => return follow_once(alloc, Times::Given, number, body, next, ways, heads),
+        Times::Attributes => return follow_once(
+            alloc,
+            Times::Attributes,
+            number,
+            body,
+            next,
+            ways,
+            heads,
+        ),
         Times::Each | Times::Once => {}
     }
     match heads.known(number) {

@@ -7,6 +7,7 @@
 #![tactic(auto)]
 
 mod append;
+mod attributes;
 mod checked;
 mod data;
 mod faults;
@@ -18,6 +19,7 @@ mod names;
 mod node;
 mod retrace;
 mod source;
+mod spelled;
 mod step;
 mod unroll;
 mod view;

@@ -15,6 +15,10 @@ pub enum Times {
     If,
     /// The same, with nothing more around in the body than around the section.
     Whether,
+    /// Once, with the value around, if there is one: also an empty text, and `false`.
+    Given,
+    /// Once, with named values around that are attributes. Another value is a fault.
+    Attributes,
 }
 
 /// The tag that opens a section.

@@ -69,7 +69,9 @@ impl<'n, 'a, A: Allocator + Copy> Trace<'n, 'a, A> {
         self.tell(opening)?;
         match opening.times {
             Times::Each | Times::Once => self.add(frame.nodes, Some(number))?,
-            Times::If | Times::Whether => self.add(rest, None)?,
+            Times::If | Times::Whether | Times::Given | Times::Attributes => {
+                self.add(rest, None)?
+            }
         }
         self.add(body.as_slice(), None)
     }
@@ -81,8 +83,11 @@ impl<'n, 'a, A: Allocator + Copy> Trace<'n, 'a, A> {
         ensures work { self.new.work ≡ self.old.work }
     {
         match opening.times {
-            Times::Whether => Ok(()),
-            Times::Each | Times::Once | Times::If => match self.standing.push(opening.position) {
+            Times::Whether | Times::Given => Ok(()),
+            Times::Each | Times::Once | Times::If | Times::Attributes => match self
+                .standing
+                .push(opening.position)
+            {
                 Ok(()) => Ok(()),
                 Err(_) => Err(AllocError),
             },

@@ -9,7 +9,7 @@ mod blocks;
 mod cursor;
 mod lines;
 mod reader;
-mod sections;
+pub(crate) mod sections;
 mod tag;
 
 use crate::faults::ViewFault;

@@ -3,13 +3,15 @@ ghost use Rattle.std.specs.Prelude.{◌≡◌, [], ◌∷◌, IfErr, IfOk, Ok, E
 ghost use Rattle.std.specs.Str.{IsUtf8};
 ghost use Rattle.html_view.specs.CutNames.{words_in};
 ghost use Rattle.html_view.specs.Data as data_of;
-ghost use Rattle.html_view.specs.Data.{inside, item_stacks, list_stacks, stacks};
+ghost use Rattle.html_view.specs.Data.{filled_stacks, given_stacks, inside, is_nothing, item_stacks, list_stacks, stacks};
 ghost use Rattle.html_view.specs.Nodes as node;
 ghost use Rattle.html_view.specs.Putting.{Puts, PutsFront, StandsSo};
 ghost use Rattle.html_view.specs.Rendered.{text_for, unrolled, unrolled_each};
 ghost use Rattle.html_view.specs.Stepped.{slot_of, step_node, stepped};
 ghost use Rattle.html_view.specs.Values.{datum_of, items_in, stack_of};
+ghost use Rattle.html_view.specs.declared.node.Times.TheVariants.{Given};
 
+use crate::attributes::refused_for;
 use crate::data::{Around, Items, Value, find, look_up};
 use crate::faults::{Position, ValueFault};
 use crate::node::Times;
@@ -173,7 +175,7 @@ fn stand_once<'s, 'p, 't>(
     let _around = around;
     match times {
         Times::Whether => Stand::Here,
-        Times::Each | Times::Once | Times::If => Stand::Inside(value),
+        _ => Stand::Inside(value),
     }
 }
 
@@ -197,7 +199,29 @@ fn stand_of_list<'s, 'p, 't>(
             None => Stand::Inside(first),
             Some(_) => Stand::Repeated,
         },
-        Times::If | Times::Whether => Stand::Here,
+        Times::If | Times::Whether | Times::Given | Times::Attributes => Stand::Here,
+    }
+}
+
+fn is_nothing(value: Value<'_, '_>) -> bool
+    ensures { result ≡ is_nothing (datum_of value.entry) }
+{
+    matches!(value, Value::Null)
+}
+
+// How a body stands that stands for whatever is given.
+fn stand_of_given<'s, 'p, 't>(
+    value: Option<Value<'p, 't>>,
+    around: &Around<'s, 'p, 't>,
+) -> Stand<'p, 't>
+    ensures { StandsSo Given (given_stacks (option_map datum_of value.entry) (stack_of around.now))
+        (stack_of around.now) result }
+{
+    let _around = around;
+    match value {
+        None => Stand::Never,
+        Some(value) if is_nothing(value) => Stand::Never,
+        Some(value) => Stand::Inside(value),
     }
 }
 
@@ -209,6 +233,22 @@ fn stand_of<'s, 'p, 't>(
     around: &Around<'s, 'p, 't>,
 ) -> Stand<'p, 't>
     ensures { StandsSo times (stacks times (option_map datum_of value.entry) (stack_of around.now))
+        (stack_of around.now) result }
+{
+    match times {
+        Times::Given => stand_of_given(value, around),
+        _ => stand_of_filled(times, value, around),
+    }
+}
+
+// The same of a body that does not stand for `false`, or for what is empty.
+#[inline(always)]
+fn stand_of_filled<'s, 'p, 't>(
+    times: Times,
+    value: Option<Value<'p, 't>>,
+    around: &Around<'s, 'p, 't>,
+) -> Stand<'p, 't>
+    ensures { StandsSo times (filled_stacks times (option_map datum_of value.entry) (stack_of around.now))
         (stack_of around.now) result }
 {
     match value {
@@ -247,6 +287,13 @@ fn put_step<'s, 'a, 'p, 't: 'p, A: Allocator, S: Sink>(
         Step::Slot(slot) => put_slot(slot, around, sink, refusal),
         Step::Section(opening, body, otherwise) => {
             let value = look_up(&opening.name, around);
+            if let Some(why) = refused_for(opening.times, value) {
+                *refusal = Refusal {
+                    position: opening.position,
+                    why,
+                };
+                return Err(Stop::Refused);
+            }
             match stand_of(opening.times, value, around) {
                 Stand::Never => put_steps(otherwise, around, sink, refusal),
                 Stand::Here => put_steps(body, around, sink, refusal),

@@ -6,7 +6,8 @@ ghost use Rattle.html_view.specs.Kept.{asked_nodes, nodes_of};
 ghost use Rattle.html_view.specs.Nodes as node;
 ghost use Rattle.html_view.specs.Nodes.{written};
 ghost use Rattle.html_view.specs.Reached.{Shows, ShowsOf};
-ghost use Rattle.html_view.specs.Reading.{IsSource, partials_of};
+ghost use Rattle.html_view.specs.Reading.{partials_of};
+ghost use Rattle.html_view.specs.Spelled.{IsSpelled, spelled};
 ghost use Rattle.html_view.specs.Stepped.{MakeTheSame};
 ghost use Rattle.html_view.specs.Unrolled.{AreTemplates};
 ghost use Rattle.html_view.specs.Values.{datum_of};
@@ -21,10 +22,12 @@ use crate::names::{Name, add_names};
 use crate::node::{Asked, Node, Placed};
 use crate::retrace::{refused, without};
 use crate::source::read;
+use crate::spelled::spell;
 use crate::step::{Step, steps_of};
 use crate::ways::Ways;
 use core::mem::replace_with;
 use html_template::WriteFault;
+use html_tokenizer::Reader;
 use std::alloc::{AllocError, Allocator, Global};
 use std::io::Write;
 
@@ -49,6 +52,8 @@ impl<'a, A: Allocator + Copy> View<'a, A> {
     pub fn new(alloc: A, nodes: &Vec<Node<'a, Asked<'a>, A>, A>) -> Result<View<'a, A>, Refused<A>>
         ensures nodes { IfOk result (λ view. written (nodes_in view)
             ≡ asked_nodes nodes.now.items node.End) }
+        ensures spelled { IfOk result (λ view. spelled (asked_nodes nodes.now.items node.End)
+            ≡ asked_nodes nodes.now.items node.End) }
         ensures refused { IfErr result (λ refused. Shows (asked_nodes nodes.now.items node.End)
             refused.standing.items refused.fault) }
     {
@@ -65,7 +70,9 @@ impl<'a, A: Allocator + Copy> View<'a, A> {
         nodes: &Vec<Node<'a, Asked<'a>, A>, A>,
         heads: &mut Heads<A>,
     ) -> Result<View<'a, A>, ViewFault>
-        ensures { IfOk result (λ view. written (nodes_in view)
+        ensures nodes { IfOk result (λ view. written (nodes_in view)
+            ≡ asked_nodes nodes.now.items node.End) }
+        ensures spelled { IfOk result (λ view. spelled (asked_nodes nodes.now.items node.End)
             ≡ asked_nodes nodes.now.items node.End) }
     {
         let mut ways = Ways::first(alloc);
@@ -81,9 +88,35 @@ impl<'a, A: Allocator + Copy> View<'a, A> {
         })
     }
 
+    // The view of these nodes, with each slot between attributes spelled out. Most have none: they are a view as
+    // they are, unless they are refused.
+    fn of_spelled(
+        alloc: A,
+        nodes: &Vec<Node<'a, Asked<'a>, A>, A>,
+    ) -> Result<View<'a, A>, Refused<A>>
+        ensures nodes { IfOk result (λ view. written (nodes_in view)
+            ≡ spelled (asked_nodes nodes.now.items node.End)) }
+        ensures refused { IfErr result (λ refused. Shows (spelled (asked_nodes nodes.now.items node.End))
+            refused.standing.items refused.fault) }
+    {
+        match View::new(alloc, nodes) {
+            Ok(view) => return Ok(view),
+            Err(refused) if refused.fault == ViewFault::Memory => return Err(refused),
+            Err(_) => {}
+        }
+        let mut reader = Reader::new(alloc);
+        match spell(alloc, nodes, &mut reader) {
+            Ok(nodes) => View::new(alloc, &nodes),
+            // It has no other fault.
+            Err(_) => Err(without(alloc, ViewFault::Memory)),
+        }
+    }
+
     /// The view of a source, and of partials, each a name and a source. Its tags are those of Mustache:
     ///
-    /// - `{{name}}`, a slot, and `{{"{{"}}`, a `{{` of the markup
+    /// - `{{name}}`, a slot, and `{{"{{"}}`, a `{{` of the markup; between the attributes of a start tag the slot is
+    ///   spelled out, as a section of [`Times::Attributes`](crate::Times::Attributes) with one for each attribute that
+    ///   its named values may have
     /// - `{{#name}}`..`{{/name}}` and `{{?name}}`..`{{/name}}`, a section for each item and a condition, and
     ///   `{{^name}}`..`{{/name}}`, what stands where that of this name before it does not
     /// - `{{! text }}`, a comment
@@ -99,13 +132,13 @@ impl<'a, A: Allocator + Copy> View<'a, A> {
         source: &'a str,
         partials: &[(&str, &'a str)],
     ) -> Result<View<'a, A>, Refused<A>>
-        ensures nodes { IfOk result (λ view. IsSource (partials_of partials.now) source.now
+        ensures nodes { IfOk result (λ view. IsSpelled (partials_of partials.now) source.now
             (written (nodes_in view))) }
         ensures refused { IfErr result (λ refused. ShowsOf (partials_of partials.now) source.now
             refused.standing.items refused.fault) }
     {
         match read(alloc, source, partials) {
-            Ok(nodes) => View::new(alloc, &nodes),
+            Ok(nodes) => View::of_spelled(alloc, &nodes),
             Err(ViewFault::Tag(position, why)) => Err(without(
                 alloc,
                 ViewFault::Tag(position, why),

@@ -7,7 +7,7 @@
 //! The answer is a fault, or the nodes. Behind a fault stands `with TEXT:BYTE` for each section that stands
 //! where it shows, by the position of its tag. Markup stands as it is, a slot as `{name Place}`, and a section as
 //! `[each name: body]`, where the first word says how often it may stand. What stands where it does not
-//! follows after `|`, if there is anything.
+//! follows after `|`, if there is anything. A slot between attributes is `{name Attributes}`.
 //!
 //! A row `page PAGE JSON SOURCE` and so on has the page of JSON data, or the fault of the data, and a row
 //! `names NAMES SOURCE` the names that a view asks for.

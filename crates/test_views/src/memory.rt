@@ -1,6 +1,7 @@
 //! Memory that is refused.
 use html_view::{DataFault, Value, View, ViewFault};
 use json::Scratch;
+use std::alloc::Global;
 use std::test::Fail;
 use test_support::Refusing;
 
@@ -12,21 +13,35 @@ static PARTIALS: [(&str, &str); 2] = [
     ("l", "{{?z}}{{\"{{\"}}{{/z}}{{$b}}{{/b}}{{! }}"),
 ];
 
-#[test]
-fn every_request_of_parse_is_refused_in_turn(rt: HostRuntime) -> Result<(), Fail> {
-    let heap = Refusing::new(rt.alloc(), 0);
-    assert!(rt; View::parse(&heap, SOURCE, &PARTIALS).is_ok());
+// Whether each request is refused in turn, and each refusal told. There are so many requests at least.
+fn refuses_each(alloc: Global, source: &str, partials: &[(&str, &str)], least: u64) -> bool {
+    let heap = Refusing::new(alloc, 0);
+    if View::parse(&heap, source, partials).is_err() {
+        return false;
+    }
     let requests = heap.asked(0);
-    assert!(rt; requests >= 20, "{requests}");
     for number in 1..=requests {
         heap.refuse(number);
-        let fault = match View::parse(&heap, SOURCE, &PARTIALS) {
+        let fault = match View::parse(&heap, source, partials) {
             Ok(_) => None,
             Err(refused) => Some(refused.fault),
         };
-        assert!(rt; fault == Some(ViewFault::Memory), "{number}");
-        assert!(rt; heap.asked(number) == number);
+        if fault != Some(ViewFault::Memory) || heap.asked(number) != number {
+            return false;
+        }
     }
+    requests >= least
+}
+
+#[test]
+fn every_request_of_parse_is_refused_in_turn(rt: HostRuntime) -> Result<(), Fail> {
+    assert!(rt; refuses_each(rt.alloc(), SOURCE, &PARTIALS, 20));
+    Ok(())
+}
+
+#[test]
+fn every_request_of_spelling_is_refused_in_turn(rt: HostRuntime) -> Result<(), Fail> {
+    assert!(rt; refuses_each(rt.alloc(), "<p {{a}}>{{?b}}{{c}}{{/b}}", &[], 200));
     Ok(())
 }
 

@@ -1,4 +1,5 @@
-//! The names that the view of a source asks for, a section's behind a `#`.
+//! The names that the view of a source asks for, a section's behind a `#`, and that of
+//! a record of attributes behind an `@`.
 use crate::refusals::refusal_of;
 use html_view::{Name, View};
 use std::alloc::{AllocError, Global};
@@ -19,6 +20,7 @@ pub fn names_of(
         match name {
             Name::Slot(name) => write!(shown, " {name}")?,
             Name::Section(name) => write!(shown, " #{name}")?,
+            Name::Attributes(name) => write!(shown, " @{name}")?,
         }
     }
     Ok(shown)

@@ -8,6 +8,8 @@ fn word_of(times: Times) -> &'static str {
         Times::Once => "once",
         Times::If => "if",
         Times::Whether => "whether",
+        Times::Given => "given",
+        Times::Attributes => "attributes",
     }
 }
 
@@ -31,6 +33,11 @@ fn show_node(shown: &mut String, node: &Node<'_, Placed<'_>, Global>) -> Result<
             let name = slot.asked.name;
             let place = slot.place;
             write!(shown, "{{{name} {place:?}}}")
+        }
+        // Its body has a section for each attribute, which pages show.
+        Node::Section(opening, _, _) if opening.times == Times::Attributes => {
+            let name = opening.name;
+            write!(shown, "{{{name} Attributes}}")
         }
         Node::Section(opening, body, others) => {
             open_section(shown, *opening)?;

@@ -138,11 +138,14 @@ fn sign_of(first: char) -> Result<Sign, TagFault>
     }
 }
 
-// `.`, or words with dots between them.
+// `.`, or words with dots between them, also behind a dot.
 fn is_name(name: &str) -> bool
     ensures { IsTrue result → IsName name.now }
 {
-    name == "." || are_words(name.as_bytes())
+    match name.strip_prefix(".") {
+        None => are_words(name.as_bytes()),
+        Some(words) => words.is_empty() || are_words(words.as_bytes()),
+    }
 }
 
 fn are_words(bytes: &[u8]) -> bool

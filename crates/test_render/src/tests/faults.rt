@@ -161,10 +161,10 @@ static OF_VIEWS: [Refusal; 13] = [
     ),
     (
         &["check", "v"],
-        &[("v", b"<p {{a}}>")],
+        &[("v", b"<p{{a}}>")],
         b"",
         1,
-        "hesc: v:1:4: no text may stand here\n",
+        "hesc: v:1:3: no text may stand here\n",
     ),
     (
         &["check", "v"],
@@ -228,35 +228,35 @@ static OF_VIEWS: [Refusal; 13] = [
     ),
     (
         &["check", "v"],
-        &[("v", b"{{?y}}b{{/y}}\n{{?x}}<p {{/x}}{{a}}")],
+        &[("v", b"{{?y}}b{{/y}}\n{{?x}}<!--{{/x}}{{a}}")],
         b"",
         1,
-        "hesc: v:2:16: no text may stand here (if the section at v:2:1 stands)\n",
+        "hesc: v:2:17: no text may stand here (if the section at v:2:1 stands)\n",
     ),
     (
         &["check", "v", "p/row.html"],
         &[
             ("v", b"{{#l}}{{>row}}{{/l}}"),
-            ("p/row.html", b"{{?x}}\n<p {{/x}}{{a}}"),
+            ("p/row.html", b"{{?x}}\n<!--{{/x}}{{a}}"),
         ],
         b"",
         1,
-        "hesc: p/row.html:2:10: no text may stand here (if the sections at v:1:1 and p/row.html:1:1 stand)\n",
+        "hesc: p/row.html:2:11: no text may stand here (if the sections at v:1:1 and p/row.html:1:1 stand)\n",
     ),
     (
         &["check", "v"],
         &[(
             "v",
-            b"{{#a}}{{#b}}{{#c}}{{?d}}<p {{e}}{{/d}}{{/c}}{{/b}}{{/a}}",
+            b"{{#a}}{{#b}}{{#c}}{{?d}}<!--{{e}}{{/d}}{{/c}}{{/b}}{{/a}}",
         )],
         b"",
         1,
-        "hesc: v:1:28: no text may stand here (if the sections at v:1:13 and v:1:19 stand, and 2 before them)\n",
+        "hesc: v:1:29: no text may stand here (if the sections at v:1:13 and v:1:19 stand, and 2 before them)\n",
     ),
 ];
 
 /// Of the input and of values.
-static OF_DATA: [Refusal; 19] = [
+static OF_DATA: [Refusal; 20] = [
     // The input.
     (
         &["render", "v"],
@@ -296,10 +296,10 @@ static OF_DATA: [Refusal; 19] = [
     // What is wrong with a view comes before what is wrong with the input.
     (
         &["render", "v"],
-        &[("v", b"<p {{a}}>")],
+        &[("v", b"<p{{a}}>")],
         b"\xFF",
         1,
-        "hesc: v:1:4: no text may stand here\n",
+        "hesc: v:1:3: no text may stand here\n",
     ),
     // Values.
     (
@@ -329,6 +329,13 @@ static OF_DATA: [Refusal; 19] = [
         b"{\"a\": {}}",
         1,
         "hesc: v:1:2: the value is no text\n",
+    ),
+    (
+        &["render", "v"],
+        &[("v", b"<p {{a}}>")],
+        b"{\"a\": \"b\"}",
+        1,
+        "hesc: v:1:4: the value is no object of attributes; this slot stands between attributes\n",
     ),
     (
         &["render", "v"],

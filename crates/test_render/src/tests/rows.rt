@@ -46,7 +46,7 @@ const INDEX: &[u8] = b"{{<layout}}\n\
 
 const FOOT: &[u8] = b"<footer>{{?year}}{{year}}{{/year}}{{^year}}-{{/year}}</footer>\n";
 
-pub static PAGES: [Success; 14] = [
+pub static PAGES: [Success; 15] = [
     (
         ONE,
         &[("v", LIST)],
@@ -127,6 +127,12 @@ pub static PAGES: [Success; 14] = [
     (ONE, &[("v", b"")], b" null\n", b""),
     (
         ONE,
+        &[("v", b"<p {{a}}>")],
+        b"{\"a\": {\"class\": \"b\", \"hidden\": true}}",
+        b"<p  class=\"b\" hidden=\"\">",
+    ),
+    (
+        ONE,
         &[("v", b"<a href=\"/u/{{a}}?q={{b}}#{{c}}\">")],
         b"{\"a\": \"x/y\", \"b\": \"a b&c\", \"c\": \"\"}",
         b"<a href=\"/u/x%2Fy?q=a%20b%26c#\">",
@@ -149,7 +155,7 @@ pub static PAGES: [Success; 14] = [
 // What views have. The input is never read.
 const CHECK: &[&str] = &["check", "v"];
 
-pub static CHECKS: [Success; 7] = [
+pub static CHECKS: [Success; 8] = [
     (
         CHECK,
         &[("v", LIST)],
@@ -210,5 +216,12 @@ pub static CHECKS: [Success; 7] = [
         &[("v", b"<option {{#x}}selected{{/x}}>")],
         b"not read",
         b"#x\n",
+    ),
+    // Of a slot between attributes the attributes are not told.
+    (
+        CHECK,
+        &[("v", b"<p {{a}}>{{b}}</p>")],
+        b"not read",
+        b"a attributes\nb text\n",
     ),
 ];

@@ -1,4 +1,5 @@
-use Rattle.std.proofs.Common.{refl, ◌+◌, ◌∙◌, ◌∷◌, Ok, Err, subst, arith, drop, option_map}
+use Rattle.std.proofs.Common.{refl, sym, ◌+◌, ◌∙◌, ◌∷◌, Ok, Err, subst, arith, drop, option_map}
+use Rattle.html_view.specs.Attributes.{refused_for}
 use Rattle.html_view.specs.Data.{item_stacks, stacks}
 use Rattle.html_view.specs.Rendered.{unrolled, unrolled_each}
 use Rattle.html_view.specs.Stepped.{opened_of, step_node, stepped}
@@ -64,8 +65,8 @@ put_step-returns-in-Never-clause-puts g t c =
     (g.S.Sink.taken c.put_steps.new.sink) c.put_steps.new.refusal c.put_steps.result c.in-Section.is
     (section_made opening (stepped c.in-Section.body.items) (stepped c.in-Section.otherwise.items) (option_map datum_of c.look_up-value.result) stack
     (unrolled (stepped c.in-Section.otherwise.items) stack) _ _ _ _ c.look_up-value.ensures
-    (never_told opening (λ inner. unrolled (stepped c.in-Section.body.items) inner) (unrolled (stepped c.in-Section.otherwise.items) stack)
-    (stacks c.in-Section.opening.times (option_map datum_of c.look_up-value.result) stack) c.in-Never.ensures)
+    (never_told opening (refused_for c.in-Section.opening.times (option_map datum_of c.look_up-value.result)) (λ inner. unrolled (stepped c.in-Section.body.items) inner) (unrolled (stepped c.in-Section.otherwise.items) stack)
+    (stacks c.in-Section.opening.times (option_map datum_of c.look_up-value.result) stack) (sym c.refused_for.ensures ∙ c.in_default.is) c.in-Never.ensures)
     c.put_steps.ensures.puts)
 
 pub put_step-returns-in-Here-clause-puts : goal.put_step-returns-in-Here-clause-puts
@@ -76,8 +77,8 @@ put_step-returns-in-Here-clause-puts g t c =
     (g.S.Sink.taken c.put_steps-in-Here.new.sink) c.put_steps-in-Here.new.refusal c.put_steps-in-Here.result c.in-Section.is
     (section_made opening (stepped c.in-Section.body.items) (stepped c.in-Section.otherwise.items) (option_map datum_of c.look_up-value.result) stack
     (unrolled (stepped c.in-Section.body.items) stack) _ _ _ _ c.look_up-value.ensures
-    (stands_told opening (λ inner. unrolled (stepped c.in-Section.body.items) inner) (unrolled (stepped c.in-Section.otherwise.items) stack)
-    (stacks c.in-Section.opening.times (option_map datum_of c.look_up-value.result) stack) stack c.in-Here.ensures)
+    (stands_told opening (refused_for c.in-Section.opening.times (option_map datum_of c.look_up-value.result)) (λ inner. unrolled (stepped c.in-Section.body.items) inner) (unrolled (stepped c.in-Section.otherwise.items) stack)
+    (stacks c.in-Section.opening.times (option_map datum_of c.look_up-value.result) stack) stack (sym c.refused_for.ensures ∙ c.in_default.is) c.in-Here.ensures)
     c.put_steps-in-Here.ensures.puts)
 
 pub put_step-returns-in-Inside-clause-puts : goal.put_step-returns-in-Inside-clause-puts
@@ -88,8 +89,8 @@ put_step-returns-in-Inside-clause-puts g t c =
     (g.S.Sink.taken c.put_inside.new.sink) c.put_inside.new.refusal c.put_inside.result c.in-Section.is
     (section_made opening (stepped c.in-Section.body.items) (stepped c.in-Section.otherwise.items) (option_map datum_of c.look_up-value.result) stack
     (unrolled (stepped c.in-Section.body.items) (datum_of c.in-Inside.value ∷ stack)) _ _ _ _ c.look_up-value.ensures
-    (stands_told opening (λ inner. unrolled (stepped c.in-Section.body.items) inner) (unrolled (stepped c.in-Section.otherwise.items) stack)
-    (stacks c.in-Section.opening.times (option_map datum_of c.look_up-value.result) stack) (datum_of c.in-Inside.value ∷ stack) c.in-Inside.ensures)
+    (stands_told opening (refused_for c.in-Section.opening.times (option_map datum_of c.look_up-value.result)) (λ inner. unrolled (stepped c.in-Section.body.items) inner) (unrolled (stepped c.in-Section.otherwise.items) stack)
+    (stacks c.in-Section.opening.times (option_map datum_of c.look_up-value.result) stack) (datum_of c.in-Inside.value ∷ stack) (sym c.refused_for.ensures ∙ c.in_default.is) c.in-Inside.ensures)
     c.put_inside.ensures.puts)
 
 pub put_step-returns-in-Each-clause-puts : goal.put_step-returns-in-Each-clause-puts
@@ -100,9 +101,9 @@ put_step-returns-in-Each-clause-puts g t c =
     (g.S.Sink.taken c.put_each.new.sink) c.put_each.new.refusal c.put_each.result c.in-Section.is
     (section_made opening (stepped c.in-Section.body.items) (stepped c.in-Section.otherwise.items) (option_map datum_of c.look_up-value.result) stack
     (unrolled_each (λ inner. unrolled (stepped c.in-Section.body.items) inner) (item_stacks (items_in c.in-Each.items) stack)) _ _ _ _ c.look_up-value.ensures
-    (each_told opening (λ inner. unrolled (stepped c.in-Section.body.items) inner) (unrolled (stepped c.in-Section.otherwise.items) stack)
+    (each_told opening (refused_for c.in-Section.opening.times (option_map datum_of c.look_up-value.result)) (λ inner. unrolled (stepped c.in-Section.body.items) inner) (unrolled (stepped c.in-Section.otherwise.items) stack)
     (stacks c.in-Section.opening.times (option_map datum_of c.look_up-value.result) stack) (item_stacks (items_in c.in-Each.items) stack) c.in-Each.ensures.1
-    c.in-Each.ensures.2 c.in-Each.ensures.0 c.in-Each.ensures.3 c.in-Each.ensures.4)
+    c.in-Each.ensures.2 (sym c.refused_for.ensures ∙ c.in_default.is) c.in-Each.ensures.0 c.in-Each.ensures.3 c.in-Each.ensures.4)
     c.put_each.ensures.puts)
 
 pub put_steps-loop-step-init : goal.put_steps-loop-step-init

@@ -5,7 +5,7 @@ use Rattle.html_view.specs.Nodes as node
 use Rattle.html_view.specs.Nodes.{Asked, Nodes, Opening, written_times}
 use Rattle.html_view.specs.Reached.{behind_body}
 use Rattle.html_view.specs.declared.node.Times.{Times}
-use Rattle.html_view.specs.declared.node.Times.TheVariants.{Each, Once, If, Whether}
+use Rattle.html_view.specs.declared.node.Times.TheVariants.{Attributes, Each, Given, If, Once, Whether}
 use Rattle.html_view.specs.declared.retrace.Trace.{Trace}
 use Rattle.html_view.proofs.Retraced.{led_again, led_once}
 use Rattle.html_view.proofs.SourceReads.{on_ok}
@@ -38,7 +38,9 @@ returns g c = elim c.match-opening.branch [
       c.args.self.now.standing.items c.add-2.new.self.standing.items (work_of c.args.self.now.work.items) (work_of c.add-2.new.self.work.items)
       c.requires.1
       (⊎_elim (λ (is : c.args.opening.times ≡ If). once_of c.args.opening.times If (λ made b r. refl) is)
-      (λ (is : c.args.opening.times ≡ Whether). once_of c.args.opening.times Whether (λ made b r. refl) is) w.in-If.is)
+      (⊎_elim (λ (is : c.args.opening.times ≡ Whether). once_of c.args.opening.times Whether (λ made b r. refl) is)
+      (⊎_elim (λ (is : c.args.opening.times ≡ Given). once_of c.args.opening.times Given (λ made b r. refl) is)
+      (λ (is : c.args.opening.times ≡ Attributes). once_of c.args.opening.times Attributes (λ made b r. refl) is))) w.in-If.is)
       (ap (λ (s : Vec _ _). s.items) c.add-2.ensures.standing ∙ ap (λ (t : Trace _). t.standing.items) w.self-is
       ∙ ap (λ (s : Vec _ _). s.items) w.add-in-If.ensures.standing ∙ c.in_ok-tell.ensures.standing)
       (more ∙ ap (λ n. asked_nodes n node.End ∷ work_of c.match-opening.self.work.items) c.as_slice.ensures.value

@@ -3,6 +3,7 @@ use Rattle.html_view.specs.Following.{ways_of}
 use Rattle.html_view.specs.Kept.{asked_nodes, placed_nodes}
 use Rattle.html_view.specs.Nodes as node
 use Rattle.html_view.specs.Rendered.{unrolled}
+use Rattle.html_view.proofs.Spelling.{view_plain}
 use Rattle.html_view.proofs.Views.{are_templates}
 use Rattle.html_view.proofs.view.View.placed.Goals as goal
 
@@ -13,5 +14,10 @@ invariant_of-result g c = record {
   same = λ stack. ap (λ n. unrolled n stack) c.in_ok-steps.ensures;
 }
 
-pub returns : goal.returns
-returns g c = c.in_ok-nodes.ensures.same node.End
+pub returns-clause-nodes : goal.returns-clause-nodes
+returns-clause-nodes g c = c.in_ok-nodes.ensures.same node.End
+
+pub returns-clause-spelled : goal.returns-clause-spelled
+returns-clause-spelled g c =
+    view_plain (asked_nodes c.args.nodes.now.items) (placed_nodes c.in_ok-nodes.nodes.items) (ways_of c.first-ways.result)
+    (ways_of c.follow.new.ways) c.first-ways.ensures c.in_ok-nodes.ensures
