@@ -1,6 +1,6 @@
 -- The table of flags against the definitions: each of the 256 bytes, computed.
 use Rattle.std.proofs.Common.{◌≡◌, ℕ, ◌<◌, Bool, true, not, ◌||◌, nat_eq, get_or, bit_and, bit_or, refl}
-use Rattle.std.proofs.lemmas.Bool.{agree_below, agree_below_at}
+use Rattle.std.proofs.lemmas.Bool.{agree_below_at}
 use Rattle.html_tokenizer.specs.declared.flags.TheConstants.{FLAGS}
 use Rattle.html_tokenizer.specs.Tokenizer.Code.Words.{is_name_byte}
 use Rattle.std.specs.Char.{to_ascii_lowercase}

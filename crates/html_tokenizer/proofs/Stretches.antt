@@ -1,7 +1,7 @@
 -- A byte that neither ends a value nor begins something in it is read as itself, and at each byte that ends no stretch the tokenizer stays where it is.
 use Rattle.std.proofs.Common.{ℕ, ◌≡◌, Bool, false, [], ◌∷◌, ◌==◌, ◌||◌, refl, ap, ◌∙◌, List, take, arith, true≢false}
 use Rattle.std.proofs.lemmas.Bool.{or_parts}
-use Rattle.hesc_specs.specs.Text.Ascii.{ampersand, backslash, double_quote, greater_than, less_than, single_quote, slash}
+use Rattle.hesc_specs.specs.Text.Ascii.{ampersand, backslash, double_quote, greater_than, less_than, single_quote}
 use Rattle.hesc_grammars.specs.Html.{is_unquoted_error}
 use Rattle.hesc_grammars.specs.StyleStrings.{is_newline_or_nul}
 use Rattle.html_tokenizer.specs.declared.elements.Content.{Content}
@@ -24,7 +24,7 @@ use Rattle.html_tokenizer.specs.declared.elements.OpenElement.TheVariants.{Scrip
 use Rattle.html_tokenizer.specs.declared.states.Code.{Code}
 use Rattle.html_tokenizer.specs.declared.states.Code.TheVariants as code
 use Rattle.html_tokenizer.specs.Tokenizer.Code.{code_byte}
-use Rattle.html_tokenizer.specs.Tokenizer.Code.Characters.{asterisk, at_sign, closing_parenthesis, opening_parenthesis}
+use Rattle.html_tokenizer.specs.Tokenizer.Code.Characters.{asterisk}
 use Rattle.html_tokenizer.specs.Tokenizer.Code.Escapes.{escaped_byte}
 use Rattle.html_tokenizer.specs.Tokenizer.Code.Styles.{front_comment_byte, style_byte, url_byte}
 use Rattle.html_tokenizer.specs.Tokenizer.Comments.{dash}

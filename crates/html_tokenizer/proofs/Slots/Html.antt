@@ -1,17 +1,15 @@
 -- What an HTML encoder writes stays in the value, and is read as the text.
 use Rattle.std.proofs.Common.{ℕ, ◌≡◌, ◌≢◌, true, false, List, [], ◌∷◌, ◌++◌, ◌==◌, Some, length, map, flat_map, encode_utf8, refl, subst, sym, ap, ◌∙◌, append_assoc, append-nil, arith, ne_eqb}
-use Rattle.std.proofs.lemmas.Bool.{and_parts, or_parts}
+use Rattle.std.proofs.lemmas.Bool.{and_parts}
 use Rattle.std.proofs.lemmas.Bool.Decides.{nat_tests}
-use Rattle.hesc_specs.specs.Text.Ascii.{carriage_return, double_quote, ampersand, single_quote, semicolon, less_than, equals_sign, greater_than, backtick}
+use Rattle.hesc_specs.specs.Text.Ascii.{double_quote, ampersand, single_quote, semicolon, less_than, greater_than}
 use Rattle.hesc_specs.specs.Text.Classes.{in_class, IsHtml}
 use Rattle.hesc_specs.specs.Html.{encoding}
 use Rattle.hesc_specs.specs.Text.Nul.{nul}
 use Rattle.hesc_specs.specs.declared.classes.Class.{Class}
 use Rattle.hesc_specs.specs.declared.classes.Class.TheVariants as class
 use Rattle.hesc_specs.proofs.Html.Images.{in_class-ampersand, kept_is_other}
-use Rattle.hesc_grammars.specs.Html.{ends_unquoted, is_unquoted_error}
 use Rattle.hesc_grammars.specs.References.{body_character}
-use Rattle.hesc_grammars.specs.Words.{is_white_space}
 use Rattle.hesc_grammars.proofs.HtmlPieces.{ReadsPieces, read_image, encoding_reads, image_reads}
 use Rattle.hesc_grammars.proofs.ReadBacks.{read_back-text, read_back-nul}
 use Rattle.html_tokenizer.specs.declared.slot_place.SlotPlace.{SlotPlace}
