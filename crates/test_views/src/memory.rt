@@ -14,7 +14,12 @@ static PARTIALS: [(&str, &str); 2] = [
 ];
 
 // Whether each request is refused in turn, and each refusal told. There are so many requests at least.
-fn refuses_each(alloc: Global, source: &str, partials: &[(&str, &str)], least: u64) -> bool {
+fn refuses_each<'x>(
+    alloc: Global,
+    source: &'x str,
+    partials: &[(&'x str, &'x str)],
+    least: u64,
+) -> bool {
     let heap = Refusing::new(alloc, 0);
     if View::parse(&heap, source, partials).is_err() {
         return false;
