@@ -18,3 +18,4 @@ mod source;
 
 pub use crate::faults::{BindFault, SourceFault};
 pub use crate::named::NamedTemplate;
+pub use crate::source::cut_at;

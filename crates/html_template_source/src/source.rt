@@ -64,8 +64,10 @@ impl<'a, A: Allocator + Copy> Source<'a, A> {
     }
 }
 
-// What stands before the first such mark, and after it.
-fn cut_at<'s>(text: &'s str, mark: &str) -> Option<(&'s str, &'s str)>
+/// What stands before the first such mark, and after it.
+///
+/// Of `a{{b` and the mark `{{` it is `a` and `b`.
+pub fn cut_at<'s>(text: &'s str, mark: &str) -> Option<(&'s str, &'s str)>
     requires { 0 < length mark.now }
     ensures whole { IfSome result (λ c. text.now ≡ c.0.now ++ (mark.now ++ c.1.now)) }
     ensures first { IfSome result (λ c. Lacks mark.now c.0.now) }

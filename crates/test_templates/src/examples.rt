@@ -3,7 +3,7 @@ use hesc_places::{Place, read_place};
 use html_template::{
     Content, FillFault, Part, PartFault, Template, TemplateFault, TextFault, Texts, laws,
 };
-use html_template_source::{BindFault, NamedTemplate, SourceFault, laws as source_laws};
+use html_template_source::{BindFault, NamedTemplate, SourceFault, cut_at, laws as source_laws};
 use html_tokenizer::{Reader, SlotPlace, Standing};
 use std::alloc::{AllocError, Global};
 use std::process::Abort;
@@ -78,6 +78,7 @@ fn a_source_is_parsed_and_filled_as_it_is_said_to_be(rt: HostRuntime) {
     assert!(rt; page.as_str() == "<p>a&lt;b</p>");
     let fault = NamedTemplate::parse(rt.alloc(), "<p {{name}}>").err();
     assert!(rt; fault == Some(SourceFault::NoTemplate(TemplateFault::Part(1, PartFault::NoPlace))));
+    assert!(rt; matches!(cut_at("a{{b", "{{"), Some(("a", "b"))));
 }
 
 // How many tags a page of plain tags has.

@@ -1,10 +1,10 @@
 //! A cursor over one text: the next tag, and the markup before it.
-ghost use Rattle.std.specs.Prelude.{◌≡◌, ◌+◌, ◌++◌, ◌<◌, ◌≤◌, ◌^◌, IfErr, IfNone, IfOk, IfSome, IsSome, IsTrue, length};
-ghost use Rattle.html_template_source.specs.Sources.{Lacks};
+ghost use Rattle.std.specs.Prelude.{◌≡◌, ◌+◌, ◌<◌, ◌≤◌, ◌^◌, IfErr, IfOk, IsSome, IsTrue, length};
 
 use crate::faults::{Position, TagFault, ViewFault};
 use crate::source::lines::{before_line, behind_line};
 use crate::source::tag::{Sign, signed_name};
+use html_template_source::cut_at;
 
 /// What stands between `{{` and `}}`, and where.
 #[derive(Clone, Copy)]
@@ -152,14 +152,4 @@ impl<'a> Cursor<'a> {
             byte: self.byte,
         }
     }
-}
-
-// What stands before the first such mark, and after it.
-fn cut_at<'s>(text: &'s str, mark: &str) -> Option<(&'s str, &'s str)>
-    requires { 0 < length mark.now }
-    ensures whole { IfSome result (λ cut. text.now ≡ cut.0.now ++ (mark.now ++ cut.1.now)) }
-    ensures first { IfSome result (λ cut. Lacks mark.now cut.0.now) }
-    ensures none { IfNone result (Lacks mark.now text.now) }
-{
-    text.split_once(mark)
 }
