@@ -1,5 +1,6 @@
 //! A source, cut into parts.
 ghost use Rattle.std.specs.Prelude.{◌≡◌, ◌<◌, ◌++◌, ℕ, List, IfNone, IfOk, IfSome, OnOk, length, map, true};
+ghost use Rattle.memchr.specs.Find.{FindsNeedle};
 ghost use Rattle.html_template.specs.Templates.{given, texts_of};
 ghost use Rattle.html_template_source.specs.SourceFaults.{AnswersSource};
 ghost use Rattle.html_template_source.specs.Sources.{
@@ -15,7 +16,9 @@ ghost use Rattle.html_template_source.specs.Sources.{
 };
 
 use crate::faults::SourceFault;
+use hesc_scan::find::first_byte;
 use html_template::Part;
+use memchr::memmem;
 use std::alloc::{AllocError, Allocator, Global};
 
 // What stands between `{{` and `}}` where `{{` is markup.
@@ -64,6 +67,23 @@ impl<'a, A: Allocator + Copy> Source<'a, A> {
     }
 }
 
+// The place of the first such mark. Its first byte mostly stands nowhere before it, and is found with less to set
+// up; where it does, as in code, the mark is searched for from there on.
+fn find(mark: &[u8], bytes: &[u8]) -> Option<usize>
+    requires { 0 < length mark.now }
+    ensures { FindsNeedle bytes.now mark.now 0 result }
+{
+    let place = first_byte(mark[0], bytes, 0);
+    let rest = &bytes[place..];
+    if rest.starts_with(mark) {
+        return Some(place);
+    }
+    match memmem::find(rest, mark) {
+        Some(distance) => Some(place + distance),
+        None => None,
+    }
+}
+
 /// What stands before the first such mark, and after it.
 ///
 /// Of `a{{b` and the mark `{{` it is `a` and `b`.
@@ -73,7 +93,12 @@ pub fn cut_at<'s>(text: &'s str, mark: &str) -> Option<(&'s str, &'s str)>
     ensures first { IfSome result (λ c. Lacks mark.now c.0.now) }
     ensures none { IfNone result (Lacks mark.now text.now) }
 {
-    text.split_once(mark)
+    let Some(place) = find(mark.as_bytes(), text.as_bytes()) else {
+        return None;
+    };
+    let (front, _) = text.split_at(place);
+    let (_, behind) = text.split_at(place + mark.len());
+    Some((front, behind))
 }
 
 fn is_name(name: &str) -> bool
