@@ -18,7 +18,7 @@ use Rattle.hesc_views.specs.Places.{spot_at, text_at}
 use Rattle.hesc_views.specs.declared.faults.Fault.{Fault}
 use Rattle.hesc_views.specs.declared.faults.Fault.TheVariants.{Usage, UnreadableFile, FileNotUtf8, At, Unfinished, UnreadableInput, InputNotUtf8, NotJson, RepeatedKey, Memory, Write}
 use Rattle.hesc_views.specs.declared.faults.Refusal.{Refusal}
-use Rattle.hesc_views.specs.declared.faults.Refusal.TheVariants.{Tag, Part, Ambiguous, TooManyWays, Value}
+use Rattle.hesc_views.specs.declared.faults.Refusal.TheVariants.{Tag, Part, Ambiguous, NotInText, TooManyWays, Value}
 use Rattle.hesc_views.specs.declared.faults.Standing.{Standing}
 use Rattle.hesc_views.specs.declared.faults.Standing.TheVariants.{None, One, Behind}
 use Rattle.hesc_views.specs.declared.place.Spot.{Spot}
@@ -33,7 +33,7 @@ status_of other = 1
 abbrev pub wrong_tag : TagFault → List ℕ
 wrong_tag tag.Unclosed = codes "no }} ends this tag"
 wrong_tag tag.BadName = codes "bad name; a name is of letters, digits, _ and -, with dots between words"
-wrong_tag tag.Raw = codes "no text stands in a page as it is; write {{name}}"
+wrong_tag tag.Raw = codes "no }}} ends this tag"
 wrong_tag tag.BadTag = codes "no tag begins like this; for a {{ in the page write {{\"{{\"}}"
 wrong_tag tag.Unopened = codes "nothing of this name is open here"
 wrong_tag tag.Unended = codes "this has no end; write {{/name}}"
@@ -52,6 +52,7 @@ wrong_part part.AfterLink = codes "a slot begins this URL; it may go on with one
 abbrev pub wrong_value : ValueFault → List ℕ
 wrong_value value.Missing = codes "no value has this name"
 wrong_value value.NotAText = codes "the value is no text"
+wrong_value value.NotAFragment = codes "the value is no fragment, as no value of JSON is; write {{name}} for its text"
 wrong_value value.NotAttributes = codes "the value is no object of attributes; this slot stands between attributes"
 wrong_value value.Repeated = codes "the list has two items or more, and this section stands once"
 wrong_value (value.Unfit text.EmptyUnquoted) = codes "the text is empty; write quotes around the slot"
@@ -67,6 +68,7 @@ wrong_here (Tag why) = wrong_tag why
 wrong_here (Part why standing) = wrong_part why
 wrong_here (Value why) = wrong_value why
 wrong_here Ambiguous = codes "this slot stands in two places, or before two kinds of markup; write one slot for each"
+wrong_here NotInText = codes "no fragment may stand here, but in text"
 wrong_here TooManyWays = codes "too many sections stand within one tag; let each hold whole attributes or whole tags"
 
 abbrev pub what_is_wrong : Fault → List ℕ
@@ -139,6 +141,7 @@ abbrev pub view_fault : List (List ℕ) → List Position → ViewFault → Faul
 view_fault texts sections (of_view.Tag position why) = At (spot_at texts position) (Tag why)
 view_fault texts sections (of_view.Part position why) = At (spot_at texts position) (Part why (standing_at texts sections))
 view_fault texts sections (of_view.Ambiguous position) = At (spot_at texts position) Ambiguous
+view_fault texts sections (of_view.NotInText position) = At (spot_at texts position) NotInText
 view_fault texts sections (of_view.TooManyWays position) = At (spot_at texts position) TooManyWays
 view_fault texts sections of_view.Unfinished = Unfinished (standing_at texts sections)
 view_fault texts sections of_view.Memory = Memory

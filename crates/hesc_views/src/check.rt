@@ -3,6 +3,7 @@ ghost use Rattle.std.specs.Prelude.{◌≡◌, ◌++◌, option_map, string_byte
 ghost use Rattle.hesc_views.specs.Checks.{
   body_lines,
   body_sign,
+  fragment_line,
   kind_word,
   lines_of,
   node_lines,
@@ -14,19 +15,19 @@ ghost use Rattle.hesc_views.specs.Checks.{
 
 use html_template::{SlotKind, SlotPlace};
 use html_urls::UrlPlace;
-use html_view::{Node, Opening, Placed, Times};
+use html_view::{Named, Opened, Placed, PlacedNode, Times};
 use std::alloc::{AllocError, Allocator};
 
 /// Appends a line for each slot and each section of nodes, in the order of the page: of a slot its name,
 /// its place and what text it takes, of a section its sign and its name. What stands where a section does
 /// not comes behind a line of its own, by the sign `^`. A slot between attributes has a line as other slots, whose
-/// place is `attributes`.
+/// place is `attributes`, and one for a fragment one with `fragment`.
 ///
 /// Of `<p>`, a slot named `title` and `</p>` it is the line `title text`.
 #[cycle(append)]
 pub fn append_nodes<A: Allocator, B: Allocator>(
     output: &mut String<B>,
-    nodes: &Vec<Node<'_, Placed<'_>, A>, A>,
+    nodes: &Vec<PlacedNode<'_, A>, A>,
 ) -> Result<(), AllocError>
     ensures { OnOk result
         (string_bytes output.new ≡ string_bytes output.old ++ lines_of nodes.now.items) }
@@ -40,18 +41,19 @@ pub fn append_nodes<A: Allocator, B: Allocator>(
 #[cycle(append)]
 fn append_node<A: Allocator, B: Allocator>(
     output: &mut String<B>,
-    node: &Node<'_, Placed<'_>, A>,
+    node: &PlacedNode<'_, A>,
 ) -> Result<(), AllocError>
     ensures { OnOk result
         (string_bytes output.new ≡ string_bytes output.old ++ node_lines node.now) }
 {
     match node {
-        Node::Markup(_, _) => Ok(()),
-        Node::Slot(slot) => append_slot(output, slot),
-        Node::Section(opening, body, otherwise) => {
-            let sign = body_sign(opening.times, body.is_empty(), otherwise.is_empty());
-            append_body(output, sign, opening, body)?;
-            append_tag(output, otherwise_sign(otherwise.is_empty()), opening)?;
+        PlacedNode::Markup(_) => Ok(()),
+        PlacedNode::Slot(slot) => append_slot(output, slot),
+        PlacedNode::Fragment(slot) => append_fragment(output, slot),
+        PlacedNode::Section(opened, body, otherwise) => {
+            let sign = body_sign(opened.times, body.is_empty(), otherwise.is_empty());
+            append_body(output, sign, opened, body)?;
+            append_tag(output, otherwise_sign(otherwise.is_empty()), &opened.tag)?;
             append_nodes(output, otherwise)
         }
     }
@@ -62,18 +64,18 @@ fn append_node<A: Allocator, B: Allocator>(
 fn append_body<A: Allocator, B: Allocator>(
     output: &mut String<B>,
     sign: Option<&str>,
-    opening: &Opening<'_>,
-    body: &Vec<Node<'_, Placed<'_>, A>, A>,
+    opened: &Opened<'_, A>,
+    body: &Vec<PlacedNode<'_, A>, A>,
 ) -> Result<(), AllocError>
     ensures { OnOk result (string_bytes output.new ≡ string_bytes output.old
-        ++ body_lines opening.now.times opening.now (option_map (λ sign. sign.now) sign.entry)
+        ++ body_lines opened.now.times opened.now.tag (option_map (λ sign. sign.now) sign.entry)
         (lines_of body.now.items)) }
 {
-    if opening.times == Times::Attributes {
-        output.push_str(opening.name)?;
+    if opened.times == Times::Attributes {
+        output.push_str(opened.tag.name)?;
         return output.push_str(" attributes\n");
     }
-    append_tag(output, sign, opening)?;
+    append_tag(output, sign, &opened.tag)?;
     append_nodes(output, body)
 }
 
@@ -98,30 +100,44 @@ fn otherwise_sign(is_always: bool) -> Option<&'static str>
 }
 
 // Appends the line of a tag of a section, if it has a sign.
-fn append_tag<A: Allocator>(
-    output: &mut String<A>,
+fn append_tag<A: Allocator, B: Allocator>(
+    output: &mut String<B>,
     sign: Option<&str>,
-    opening: &Opening<'_>,
+    tag: &Named<'_, A>,
 ) -> Result<(), AllocError>
     ensures { OnOk result (string_bytes output.new ≡ string_bytes output.old
-        ++ tag_line (option_map (λ sign. sign.now) sign.entry) opening.now) }
+        ++ tag_line (option_map (λ sign. sign.now) sign.entry) tag.now) }
 {
     let Some(sign) = sign else {
         return Ok(());
     };
     output.push_str(sign)?;
-    output.push_str(opening.name)?;
+    output.push_str(tag.name)?;
     output.push_str("\n")
 }
 
-fn append_slot<A: Allocator>(output: &mut String<A>, slot: &Placed<'_>) -> Result<(), AllocError>
+fn append_slot<A: Allocator, B: Allocator>(
+    output: &mut String<B>,
+    slot: &Placed<'_, A>,
+) -> Result<(), AllocError>
     ensures { OnOk result
         (string_bytes output.new ≡ string_bytes output.old ++ slot_line slot.now) }
 {
     output.push_str(slot.asked.name)?;
-    output.push_str(place_word(slot.place))?;
-    output.push_str(kind_word(slot.kind))?;
+    output.push_str(place_word(slot.place()))?;
+    output.push_str(kind_word(slot.kind()))?;
     output.push_str("\n")
+}
+
+fn append_fragment<A: Allocator, B: Allocator>(
+    output: &mut String<B>,
+    slot: &Named<'_, A>,
+) -> Result<(), AllocError>
+    ensures { OnOk result
+        (string_bytes output.new ≡ string_bytes output.old ++ fragment_line slot.now) }
+{
+    output.push_str(slot.name)?;
+    output.push_str(" fragment\n")
 }
 
 // The word for a place, behind a blank.
@@ -140,7 +156,7 @@ fn place_word(place: SlotPlace) -> &'static str
     }
 }
 
-// The word for a part of a URL, a whole one or its beginning, and for a string literal, behind a blank.
+// The word for a part of a URL, a whole one or its beginning, for a string literal and for JSON, behind a blank.
 fn kind_word(kind: SlotKind) -> &'static str
     ensures { result.now ≡ kind_word kind }
 {
@@ -151,6 +167,7 @@ fn kind_word(kind: SlotKind) -> &'static str
         SlotKind::Base(_) => " base",
         SlotKind::OwnBase(_) => " own-base",
         SlotKind::Literal => " literal",
+        SlotKind::Json => " json",
         SlotKind::UrlPart(slot) => match slot.place {
             UrlPlace::Path => " path",
             UrlPlace::Query => " query",

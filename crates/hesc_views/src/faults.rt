@@ -50,6 +50,8 @@ pub enum Refusal {
     Part(PartFault, Standing),
     /// The slot stands in two places.
     Ambiguous,
+    /// A slot for a fragment stands elsewhere than in text.
+    NotInText,
     /// More than eight states of the tokenizer lead here.
     TooManyWays,
     /// The value for it.
@@ -109,6 +111,9 @@ impl Fault {
             }
             ViewFault::Ambiguous(position) => {
                 Fault::At(spot_of(texts, position), Refusal::Ambiguous)
+            }
+            ViewFault::NotInText(position) => {
+                Fault::At(spot_of(texts, position), Refusal::NotInText)
             }
             ViewFault::TooManyWays(position) => {
                 Fault::At(spot_of(texts, position), Refusal::TooManyWays)

@@ -161,6 +161,7 @@ fn what_is_wrong(fault: Fault) -> &'static str
         Fault::At(_, Refusal::Ambiguous) => {
             "this slot stands in two places, or before two kinds of markup; write one slot for each"
         }
+        Fault::At(_, Refusal::NotInText) => "no fragment may stand here, but in text",
         Fault::At(_, Refusal::TooManyWays) => {
             "too many sections stand within one tag; let each hold whole attributes or whole tags"
         }
@@ -182,7 +183,7 @@ fn wrong_tag(fault: TagFault) -> &'static str
         TagFault::BadName => {
             "bad name; a name is of letters, digits, _ and -, with dots between words"
         }
-        TagFault::Raw => "no text stands in a page as it is; write {{name}}",
+        TagFault::Raw => "no }}} ends this tag",
         TagFault::BadTag => "no tag begins like this; for a {{ in the page write {{\"{{\"}}",
         TagFault::Unopened => "nothing of this name is open here",
         TagFault::Unended => "this has no end; write {{/name}}",
@@ -215,6 +216,9 @@ fn wrong_value(fault: ValueFault) -> &'static str
     match fault {
         ValueFault::Missing => "no value has this name",
         ValueFault::NotAText => "the value is no text",
+        ValueFault::NotAFragment => {
+            "the value is no fragment, as no value of JSON is; write {{name}} for its text"
+        }
         ValueFault::NotAttributes => {
             "the value is no object of attributes; this slot stands between attributes"
         }

@@ -40,6 +40,7 @@ none_fits p (kind.OwnBase behind) text is = elim (cases_Bool (is_own_base behind
   | inr not ↦ absurd (let clash = rw not at is in cc)
 ]
 none_fits p kind.Literal text is = tt
+none_fits p kind.Json text is = tt
 
 fits_none : (p : SlotPlace) (kind : SlotKind) (text : List ℕ) → MayFill p kind text → text_fault p kind text ≡ None
 fits_none p kind text may = grind (arith, nat_tests)

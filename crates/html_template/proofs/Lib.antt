@@ -1,3 +1,4 @@
+pub mod JsonTexts
 pub mod FirstFault
 pub mod TemplateLaw
 pub mod Pieces
@@ -11,4 +12,5 @@ pub mod PageUrls
 pub mod Fronts
 pub mod JoinedParts
 pub mod Pages
+pub mod Fragments
 pub mod PagesAreProps

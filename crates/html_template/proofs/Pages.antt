@@ -1,14 +1,15 @@
 -- A page of a template's parts: how it is read, and that of any other texts beside it.
-use Rattle.std.proofs.Common.{ℕ, ◌≡◌, true, List, [], sym, ap, ◌∙◌, append-nil, arith}
+use Rattle.std.proofs.Common.{ℕ, ◌≡◌, true, List, arith}
 use Rattle.std.proofs.lemmas.Bool.Decides.{nat_tests}
 use Rattle.html_tokenizer.specs.Tokenizer.States.{data_state}
-use Rattle.html_tokenizer.specs.Tokenizer.Tokenization.{actions_of, state_after}
+use Rattle.html_tokenizer.specs.Tokenizer.Tokenization.{actions_of}
 use Rattle.html_tokenizer.specs.Tokens.{skeleton, tokens}
 use Rattle.html_template.specs.FilledUrls.{FillUrls, HasUrls, filled_urls, template_urls, url_texts}
 use Rattle.html_template.specs.PageUrls.{AllAlike, urls_of, first_texts}
-use Rattle.html_template.specs.Structure.{IsPageOf, IsReadAs, structure}
+use Rattle.html_template.specs.Structure.{IsPageOf, IsReadAs, IsWhole, structure}
 use Rattle.html_template.specs.TemplateFaults.{is_template, placed}
 use Rattle.html_template.specs.Templates.{Given, state_after_all}
+use Rattle.html_template.proofs.Fragments.{page_whole}
 use Rattle.html_template.proofs.JoinedParts.{placed_told}
 use Rattle.html_template.proofs.PageUrls.Law.{has_urls, leads_as_any}
 use Rattle.html_template.proofs.Pieces.{sound_told}
@@ -22,8 +23,8 @@ pub page_reads : (parts : List Given) (texts : List (List ℕ)) (bytes : List �
 page_reads parts texts bytes is = grind (arith, nat_tests, is_read_as, sound)
 
 -- behind it the tokenizer is where a page begins
-pub page_passes : (parts : List Given) (texts : List (List ℕ)) (bytes : List ℕ) → IsPageOf parts texts bytes → state_after data_state bytes ≡ data_state
-page_passes parts texts bytes is = ap (state_after data_state) (sym (append-nil bytes)) ∙ (page_reads parts texts bytes is).ends []
+pub page_passes : (parts : List Given) (texts : List (List ℕ)) (bytes : List ℕ) → IsPageOf parts texts bytes → IsWhole bytes
+page_passes parts texts bytes is = page_whole (placed parts) texts bytes (page_reads parts texts bytes is)
 
 -- ---- two pages
 

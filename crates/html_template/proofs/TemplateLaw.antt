@@ -1,5 +1,5 @@
 -- The law of templates: piece by piece.
-use Rattle.std.proofs.Common.{ℕ, ◌≡◌, Bool, true, false, if◌then◌else◌, List, [], ◌∷◌, IsUtf8, map, refl, sym, ap, ◌∙◌, arith, inl, inr}
+use Rattle.std.proofs.Common.{ℕ, ◌≡◌, Bool, true, false, List, [], ◌∷◌, IsUtf8, map, refl, sym, ap, ◌∙◌, arith, inl, inr}
 use Rattle.std.proofs.lemmas.Bool.Decides.{nat_tests}
 use Rattle.std.specs.List.{AllByRecursion}
 use Rattle.std.proofs.lemmas.Bool.{and_parts, cases_Bool}
@@ -8,6 +8,7 @@ use Rattle.hesc_places.specs.Places.ReadBack.{read_back}
 use Rattle.html_tokenizer.specs.declared.slot_place.SlotPlace.{SlotPlace}
 use Rattle.html_tokenizer.specs.declared.slot_place.SlotPlace.TheVariants as place
 use Rattle.html_tokenizer.specs.declared.states.Code.{Code}
+use Rattle.html_tokenizer.specs.declared.states.Code.TheVariants as code
 use Rattle.html_tokenizer.specs.declared.states.Code.TheVariants.{Plain}
 use Rattle.html_tokenizer.specs.declared.elements.Content.{Content}
 use Rattle.html_tokenizer.specs.declared.elements.OpenElement.{OpenElement}
@@ -16,39 +17,43 @@ use Rattle.html_tokenizer.specs.Tokenizer.Code.{is_script}
 use Rattle.html_tokenizer.specs.Tokenizer.States as state
 use Rattle.html_tokenizer.specs.Tokenizer.States.{State, Attribute, Ordinary, Url, Tokenizer, In, BeforeValue, Refused, InCode, at, at_value, refused, data_state}
 use Rattle.html_tokenizer.specs.declared.reader.Standing.{Standing}
-use Rattle.html_tokenizer.specs.declared.reader.Standing.TheVariants.{Barred, InLink, InUrl, Nowhere, Stands}
+use Rattle.html_tokenizer.specs.declared.reader.Standing.TheVariants.{InLink, InUrl, Stands}
 use Rattle.html_tokenizer.specs.Standing.{in_code, in_content, is_same, unless_forbidden, standing_in, standing}
 use Rattle.html_tokenizer.specs.UrlValues.{is_url}
 use Rattle.html_template.specs.declared.parts.SlotKind.{SlotKind}
-use Rattle.html_template.specs.declared.parts.SlotKind.TheVariants.{Text, UrlPart, Link, OwnPath, Base, OwnBase, Literal}
+use Rattle.html_template.specs.declared.parts.SlotKind.TheVariants.{Text, UrlPart, Link, OwnPath, Base, OwnBase, Literal, Json}
 use Rattle.html_template.specs.declared.parts.SlotKind.TheVariants as kind
-use Rattle.html_template.specs.Slots.{FitsPlace, base_kind, is_quoted, suits, whole_kind, past_slot, slot_actions}
+use Rattle.html_template.specs.Slots.{FitsPlace, base_kind, is_quoted, json_of, suits, whole_kind, past_slot, slot_actions}
 use Rattle.html_template.specs.Templates.{Chunk, Markup, Slot, after_slot, encoder_for, handed, state_after_all, page, actions_all, MayFill, Fill, written}
 use Rattle.html_tokenizer.specs.Tokenizer.Tokenization.{state_after}
 use Rattle.html_tokenizer.proofs.Slots.Html.{Remains, text_stays, double_stays, double_stays_in, single_stays, single_stays_in, unquoted_stays, first_stays}
 use Rattle.html_tokenizer.proofs.UrlValues.Attributes.{byte_settled, reference_settled}
 use Rattle.html_tokenizer.proofs.UrlValues.Slots.Components.{component_stays, is_component_byte}
 use Rattle.html_tokenizer.proofs.Passing.{Passes, passes_itself, passes_both, stays_refused}
-use Rattle.html_tokenizer.proofs.Slots.Scripts.{literal_passes, script_stays, script_single_reads, script_double_reads}
+use Rattle.html_tokenizer.proofs.Slots.Scripts.{json_passes, literal_passes, script_stays, script_single_reads, script_double_reads}
 use Rattle.url.proofs.InputLemmas.{list_all_from_All}
 use Rattle.html_urls.proofs.Components.{component_bytes}
 use Rattle.html_urls.specs.Components.{component}
 use Rattle.html_urls.specs.declared.base.BehindBase.{BehindBase}
 use Rattle.html_urls.specs.declared.parts.UrlSlot.{UrlSlot}
+use Rattle.html_json.specs.Encoding.{json_encoding}
+use Rattle.html_json.proofs.Lengths.{all_apart}
+use Rattle.html_template.proofs.JsonTexts.{some_json}
 use Rattle.html_template.proofs.Walks.{base_stands, same_place}
 use Rattle.html_tokenizer.proofs.Slots.Styles.{style_stays, style_single_reads, style_double_reads}
 
 no : false ≡ true → ⊥
 no h = cc
 
--- in code stands a string literal alone
-abbrev is_literal : SlotKind → Bool
-is_literal Literal = true
-is_literal other = false
+-- in code stand a string literal and JSON alone
+abbrev is_in_code : SlotKind → Bool
+is_in_code Literal = true
+is_in_code Json = true
+is_in_code other = false
 
-no_code : (kind : SlotKind) (p : SlotPlace) (code : Code) (content : Content) (attribute : Attribute) → is_literal kind ≡ false →
+no_code : (kind : SlotKind) (p : SlotPlace) (code : Code) (content : Content) (attribute : Attribute) → is_in_code kind ≡ false →
     suits kind p (in_code code content attribute) ≡ true → ⊥
-no_code kind p code content attribute no_literal may = grind (arith, nat_tests)
+no_code kind p code content attribute outside may = grind (arith, nat_tests)
 
 in_any : (kind : SlotKind) (p : SlotPlace) (element : OpenElement) (standing : Standing) →
     suits kind p (in_content element standing) ≡ true → suits kind p standing ≡ true
@@ -169,12 +174,22 @@ pub record IsInScript (p : SlotPlace) (state : State) (content : Content) (attri
   pub script : is_script content.element ≡ true
   pub attribute_is : attribute ≡ Ordinary
 
-no_literal : (p : SlotPlace) (opaque : Bool) → suits Literal p (if opaque then Barred else Nowhere) ≡ true → ⊥
-no_literal p opaque may = grind (arith, nat_tests)
-
 pub literal_in_script : (p : SlotPlace) (state : State) (content : Content) (attribute : Attribute) →
     suits Literal p (standing_in state content attribute) ≡ true → IsInScript p state content attribute
 literal_in_script p state content attribute may = grind (arith, nat_tests)
+
+-- ---- a slot for JSON
+
+-- it stands in a data block, behind white space alone
+pub record IsInJson (p : SlotPlace) (state : State) (content : Content) (attribute : Attribute) : Type 0 where
+  pub place_is : p ≡ place.Text
+  pub state_is : state ≡ InCode code.Json
+  pub script : is_script content.element ≡ true
+  pub attribute_is : attribute ≡ Ordinary
+
+pub json_in_block : (p : SlotPlace) (state : State) (content : Content) (attribute : Attribute) →
+    suits Json p (standing_in state content attribute) ≡ true → IsInJson p state content attribute
+json_in_block p state content attribute may = grind (arith, nat_tests)
 
 -- ---- a slot of any kind
 
@@ -203,6 +218,10 @@ slot_passes p (OwnBase behind) state content attribute text may full utf8 =
 slot_passes p Literal state content attribute text may full utf8 =
     let here = literal_in_script p state content attribute may in
     rw (here.place_is, here.state_is, here.attribute_is) (literal_passes content text here.script utf8)
+slot_passes p Json state content attribute text may full utf8 =
+    let here = json_in_block p state content attribute may in
+    rw (here.place_is, here.state_is, here.attribute_is)
+    (json_passes content (json_encoding (json_of text)) here.script (all_apart (json_of text)) (some_json text))
 
 all_refused : (chunks : List Chunk) → state_after_all refused chunks ≡ refused
 all_refused [] = refl
@@ -214,6 +233,7 @@ all_refused (Slot p OwnPath ∷ chunks) = all_refused chunks
 all_refused (Slot p (Base behind) ∷ chunks) = all_refused chunks
 all_refused (Slot p (OwnBase behind) ∷ chunks) = all_refused chunks
 all_refused (Slot p Literal ∷ chunks) = all_refused chunks
+all_refused (Slot p Json ∷ chunks) = all_refused chunks
 
 apart : refused ≡ data_state → ⊥
 apart is = let states : Refused ≡ In place.Text = ap (λ (t : Tokenizer). t.state) is in cc

@@ -11,7 +11,7 @@ use Rattle.html_template.specs.TemplateFaults.{Walk, next_markup, pieces_from, p
 use Rattle.html_template.specs.declared.parts.SlotKind.{SlotKind}
 use Rattle.html_template.specs.Templates.{Given, GivenSlot}
 use Rattle.html_tokenizer.specs.declared.reader.Standing.{Standing}
-use Rattle.html_tokenizer.specs.declared.reader.Standing.TheVariants.{Stands, InUrl, InLink, InScript, Nowhere, Barred}
+use Rattle.html_tokenizer.specs.declared.reader.Standing.TheVariants.{Stands, InUrl, InLink, InScript, InJson, Nowhere, Barred}
 use Rattle.html_tokenizer.specs.declared.slot_place.SlotPlace.{SlotPlace}
 use Rattle.html_tokenizer.specs.Standing.{AfterStanding, is_same, standing, state_after_slot, stands}
 use Rattle.html_tokenizer.specs.Tokenizer.States.{In, Tokenizer, at_value}
@@ -75,9 +75,10 @@ url_suits is_followed p markup (Front q behind) slot told = base_suits is_follow
 
 abbrev pub in_script : Standing → Bool
 in_script InScript = true
+in_script InJson = true
 in_script other = false
 
--- a slot that is told suits where it stands, which is its place, or in the code of a script
+-- a slot that is told suits where it stands, which is its place, or in a script
 pub record IsSuited (s : Standing) (slot : PlacedSlot) : Type 0 where
   pub suited : suits slot.kind slot.place s ≡ true
   pub stood : in_script s ≡ false → stands slot.place s ≡ true
@@ -96,6 +97,8 @@ slot_suits markup url (InUrl p) slot told = in_url_suited p slot (url_suits fals
 slot_suits markup url (InLink p) slot told = in_link_suited p slot (url_suits true p markup url slot told)
 slot_suits markup url InScript slot told =
     subst (IsSuited InScript) (ok_slot told) (record { suited = refl; stood = λ outside. absurd (cc) })
+slot_suits markup url InJson slot told =
+    subst (IsSuited InJson) (ok_slot told) (record { suited = refl; stood = λ outside. absurd (cc) })
 slot_suits markup url Barred slot told = absurd (cc)
 slot_suits markup url Nowhere slot told = absurd (cc)
 
@@ -119,7 +122,7 @@ same_place p q is = grind (arith, nat_tests)
 placed_at : (s : Standing) (p : SlotPlace) (old new : Tokenizer) → stands p s ≡ true → AfterStanding s old new → new ≡ state_after_slot p old
 placed_at s p old new stood after = grind (arith, nat_tests)
 
--- a slot that stands in its place is no string literal
+-- a slot that stands in its place is no string literal, and no JSON
 past_in_place : (kind : SlotKind) (p : SlotPlace) (s : Standing) (t : Tokenizer) → suits kind p s ≡ true → stands p s ≡ true →
     past_slot p kind t ≡ at_value (In p) t.content t.attribute
 past_in_place kind p s t suited stood = grind (arith, nat_tests)
@@ -128,6 +131,8 @@ past_in_place kind p s t suited stood = grind (arith, nat_tests)
 pub same_after_slot : (next markup : List ℕ) (url : OpenUrl) (s : Standing) (slot : PlacedSlot) (old new : Tokenizer) →
     slot_at markup url s ≡ Ok slot → s ≡ standing old → AfterStanding s old new → new ≡ after_slot (before next slot).place (before next slot).kind old
 same_after_slot next markup url InScript slot old new told same after =
+    subst (λ (x : PlacedSlot). new ≡ after_slot (before next x).place (before next x).kind old) (ok_slot told) (after ∙ rw (sym same) refl)
+same_after_slot next markup url InJson slot old new told same after =
     subst (λ (x : PlacedSlot). new ≡ after_slot (before next x).place (before next x).kind old) (ok_slot told) (after ∙ rw (sym same) refl)
 same_after_slot next markup url s slot old new told same after =
     let here : PlacedSlot = before next slot in

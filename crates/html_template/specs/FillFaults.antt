@@ -8,7 +8,7 @@ use Rattle.html_template.specs.declared.faults.FillFault.TheVariants.{WrongCount
 use Rattle.html_template.specs.declared.faults.TextFault.{TextFault}
 use Rattle.html_template.specs.declared.faults.TextFault.TheVariants.{EmptyUnquoted, EmptySegment, DotSegment, NotALink, NotAnOwnPath, NotABase, NotAnOwnBase}
 use Rattle.html_template.specs.declared.parts.SlotKind.{SlotKind}
-use Rattle.html_template.specs.declared.parts.SlotKind.TheVariants.{Text, UrlPart, Link, OwnPath, Base, OwnBase, Literal}
+use Rattle.html_template.specs.declared.parts.SlotKind.TheVariants.{Text, UrlPart, Link, OwnPath, Base, OwnBase, Literal, Json}
 use Rattle.html_tokenizer.specs.declared.slot_place.SlotPlace.{SlotPlace}
 use Rattle.html_tokenizer.specs.declared.slot_place.SlotPlace.TheVariants.{Unquoted}
 use Rattle.html_template.specs.Templates.{Chunk, Markup, Slot}
@@ -41,6 +41,7 @@ text_fault p OwnPath text = if is_own_path text then None else Some NotAnOwnPath
 text_fault p (Base behind) text = if is_base behind text then None else Some NotABase
 text_fault p (OwnBase behind) text = if is_own_base behind text then None else Some NotAnOwnBase
 text_fault p Literal text = None
+text_fault p Json text = None
 
 -- ---- all of them
 
@@ -83,6 +84,7 @@ abbrev pub is_checked : SlotPlace → SlotKind → Bool
 is_checked p Text = is_unquoted p
 is_checked p (UrlPart slot) = slot.begins_segment
 is_checked p Literal = false
+is_checked p Json = false
 is_checked p begins = true
 
 -- and one of the slots is such a one

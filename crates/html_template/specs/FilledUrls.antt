@@ -28,6 +28,7 @@ pub data TemplateUrl : Type 0 where
 abbrev pub url_text : SlotKind → List ℕ → List (List ℕ)
 url_text kind.Text text = []
 url_text kind.Literal text = []
+url_text kind.Json text = []
 url_text other text = text ∷ []
 
 abbrev pub url_texts : List Chunk → List (List ℕ) → List (List ℕ)
@@ -118,6 +119,7 @@ open_behind other urls value = Value value
 abbrev pub open_at_slot : OpenValue → SlotKind → OpenValue
 open_at_slot held kind.Text = Value []
 open_at_slot held kind.Literal = Value []
+open_at_slot held kind.Json = Value []
 open_at_slot (Value value) (kind.UrlPart slot) = Slotted Parts (part.Markup value ∷ part.Slot ∷ [])
 open_at_slot (Slotted url_by parts) (kind.UrlPart slot) = Slotted url_by (parts ++ part.Slot ∷ [])
 open_at_slot held (kind.Base behind) = Slotted (Based (kind.Base behind)) []

@@ -7,6 +7,7 @@ pub mod TemplateFaults
 pub mod FillFaults
 pub mod Structure
 pub mod TemplatePieces
+pub mod Fragments
 pub mod PageUrls
 pub mod FilledUrls
 pub mod Writing

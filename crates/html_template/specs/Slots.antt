@@ -1,15 +1,19 @@
 -- A slot: how a text is written in it and what the tokenizer reads there, and which texts may fill it.
-use Rattle.std.specs.Prelude.{◌≡◌, ◌≢◌, ⊤, ℕ, Bool, true, false, ◌&&◌, if◌then◌else◌, List, [], ◌∷◌, ◌++◌, length}
+use Rattle.std.specs.Prelude.{◌≡◌, ◌≢◌, ⊤, ℕ, Bool, true, false, ◌&&◌, if◌then◌else◌, List, [], ◌∷◌, ◌++◌, codes, length}
+use Rattle.std.specs.List.{list_all}
 use Rattle.hesc_specs.specs.Text.Ascii.{double_quote}
 use Rattle.html_escape.specs.Encoders.{encoded}
 use Rattle.hesc_places.specs.Places.ReadBack.{read_back}
 use Rattle.html_tokenizer.specs.declared.reader.Standing.{Standing}
-use Rattle.html_tokenizer.specs.declared.reader.Standing.TheVariants.{Stands, InUrl, InLink, InScript}
+use Rattle.html_tokenizer.specs.declared.reader.Standing.TheVariants.{Stands, InUrl, InLink, InScript, InJson}
 use Rattle.html_tokenizer.specs.declared.slot_place.SlotPlace.{SlotPlace}
+use Rattle.html_tokenizer.specs.declared.slot_place.SlotPlace.TheVariants as place
 use Rattle.html_tokenizer.specs.declared.slot_place.SlotPlace.TheVariants.{DoubleQuoted, SingleQuoted, Unquoted, ScriptDouble}
-use Rattle.html_tokenizer.specs.Standing.{is_same, standing}
+use Rattle.html_tokenizer.specs.Standing.{is_same, past_json, standing}
 use Rattle.html_tokenizer.specs.Tokenizer.Actions.{Action, StringEnd, StringStart}
+use Rattle.html_tokenizer.specs.Tokenizer.Code.Scripts.{is_json_space}
 use Rattle.html_tokenizer.specs.Tokenizer.States.{In, Tokenizer, at_value, refused}
+use Rattle.html_json.specs.Encoding.{json_encoding}
 use Rattle.html_urls.specs.Bases.{is_base, is_own_base}
 use Rattle.html_urls.specs.Components.{component}
 use Rattle.html_urls.specs.Links.{is_link}
@@ -18,22 +22,28 @@ use Rattle.html_urls.specs.Slots as urls
 use Rattle.html_urls.specs.declared.base.BehindBase.{BehindBase}
 use Rattle.html_template.specs.Encoders.{encoder_for}
 use Rattle.html_template.specs.declared.parts.SlotKind.{SlotKind}
-use Rattle.html_template.specs.declared.parts.SlotKind.TheVariants.{Text, UrlPart, Link, OwnPath, Base, OwnBase, Literal}
+use Rattle.html_template.specs.declared.parts.SlotKind.TheVariants.{Text, UrlPart, Link, OwnPath, Base, OwnBase, Literal, Json}
 
 -- between two `"`
 abbrev pub in_quotes : List ℕ → List ℕ
 in_quotes bytes = double_quote ∷ (bytes ++ double_quote ∷ [])
 
+-- the JSON that stands for a text: white space alone is none
+abbrev pub json_of : List ℕ → List ℕ
+json_of text = if list_all is_json_space text then codes "null" else text
+
 -- a part of a URL is written as a component, which needs no encoding in any value; else the encoder of its place writes the text, of a string
--- literal between its quote marks
+-- literal between its quote marks, and JSON by its own encoder
 abbrev pub written : SlotPlace → SlotKind → List ℕ → List ℕ
 written p (UrlPart slot) text = component text
 written p Literal text = in_quotes (encoded (encoder_for p) text)
+written p Json text = json_encoding (json_of text)
 written p other text = encoded (encoder_for p) text
 
 -- what the tokenizer is handed of the text
 abbrev pub handed : SlotPlace → SlotKind → List ℕ → List ℕ
 handed p (UrlPart slot) text = component text
+handed p Json text = json_encoding (json_of text)
 handed p other text = read_back (encoder_for p) text
 
 -- a value without quotes is not empty
@@ -64,6 +74,7 @@ abbrev pub MayFill : SlotPlace → SlotKind → List ℕ → Type 0
 MayFill p Text text = FitsPlace p text
 MayFill p (UrlPart slot) text = urls.may_fill slot text ≡ true
 MayFill p Literal text = ⊤
+MayFill p Json text = ⊤
 MayFill p begins text = MayBegin begins text
 
 -- the value of an attribute in quotes
@@ -82,11 +93,13 @@ suits OwnPath p (InUrl q) = is_quoted p && is_same p q
 suits (Base behind) p (InLink q) = is_quoted p && is_same p q
 suits (OwnBase behind) p (InUrl q) = is_quoted p && is_same p q
 suits Literal p InScript = is_same p ScriptDouble
+suits Json p InJson = is_same p place.Text
 suits kind p other = false
 
--- behind a slot the tokenizer is in its place, and behind a string literal where it was
+-- behind a slot the tokenizer is in its place, behind a string literal where it was, and behind JSON where no slot follows
 abbrev pub past_slot : SlotPlace → SlotKind → Tokenizer → Tokenizer
 past_slot p Literal t = t
+past_slot p Json t = past_json t
 past_slot p other t = at_value (In p) t.content t.attribute
 
 -- the tokenizer after a slot, by the template alone

@@ -24,6 +24,11 @@ pub record IsReadAs (chunks : List Chunk) (texts : List (List ℕ)) (bytes : Lis
       actions_of data_state (bytes ++ rest) ≡ actions_all data_state chunks texts ++ actions_of data_state rest
   pub ends : (rest : List ℕ) → state_after data_state (bytes ++ rest) ≡ state_after data_state rest
 
+-- behind these bytes the tokenizer is where a page begins: they end within no tag, reference or `template`, and within no element whose content
+-- is read its own way
+abbrev pub IsWhole : List ℕ → Type 0
+IsWhole bytes = state_after data_state bytes ≡ data_state
+
 -- the parts are a template, these texts fill it, and the bytes are its page of them
 pub record IsPageOf (parts : List Given) (texts : List (List ℕ)) (bytes : List ℕ) : Type 0 where
   pub template : is_template parts ≡ true

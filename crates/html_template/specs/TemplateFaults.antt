@@ -13,8 +13,8 @@ use Rattle.html_template.specs.declared.open_url.PlacedSlot.{PlacedSlot}
 use Rattle.html_template.specs.OpenUrls.{before, url_markup, url_slot}
 use Rattle.html_template.specs.Templates.{Chunk, Markup, Slot, Given, GivenMarkup, GivenSlot, after_slot}
 use Rattle.html_tokenizer.specs.declared.reader.Standing.{Standing}
-use Rattle.html_tokenizer.specs.declared.reader.Standing.TheVariants.{Stands, InUrl, InLink, InScript, Nowhere, Barred}
-use Rattle.html_tokenizer.specs.declared.slot_place.SlotPlace.TheVariants.{ScriptDouble}
+use Rattle.html_tokenizer.specs.declared.reader.Standing.TheVariants.{Stands, InUrl, InLink, InScript, InJson, Nowhere, Barred}
+use Rattle.html_tokenizer.specs.declared.slot_place.SlotPlace.TheVariants.{ScriptDouble, Text}
 use Rattle.html_tokenizer.specs.Standing.{is_refused, may_end, standing}
 use Rattle.html_tokenizer.specs.Tokenizer.States.{Tokenizer, data_state}
 use Rattle.html_tokenizer.specs.Tokenizer.Tokenization.{state_after}
@@ -34,6 +34,7 @@ slot_at markup url (Stands p) = Ok (record { place = p; kind = kind.Text; url = 
 slot_at markup url (InUrl p) = url_slot p false markup url
 slot_at markup url (InLink p) = url_slot p true markup url
 slot_at markup url InScript = Ok (record { place = ScriptDouble; kind = kind.Literal; url = Outside })
+slot_at markup url InJson = Ok (record { place = Text; kind = kind.Json; url = Outside })
 slot_at markup url Barred = Err Forbidden
 slot_at markup url Nowhere = Err NoPlace
 

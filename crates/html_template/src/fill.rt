@@ -50,7 +50,7 @@ pub fn text_fault(slot: &StoredSlot, text: &str) -> Option<TextFault>
         SlotKind::Base(_) => Some(TextFault::NotABase),
         SlotKind::OwnBase(behind) if is_own_base(behind, text) => None,
         SlotKind::OwnBase(_) => Some(TextFault::NotAnOwnBase),
-        SlotKind::Literal => None,
+        SlotKind::Literal | SlotKind::Json => None,
     }
 }
 
@@ -61,7 +61,7 @@ fn is_checked(slot: &StoredSlot) -> bool
     match slot.kind {
         SlotKind::Text => slot.place == SlotPlace::Unquoted,
         SlotKind::UrlPart(url_slot) => url_slot.begins_segment,
-        SlotKind::Literal => false,
+        SlotKind::Literal | SlotKind::Json => false,
         SlotKind::Link | SlotKind::OwnPath | SlotKind::Base(_) | SlotKind::OwnBase(_) => true,
     }
 }

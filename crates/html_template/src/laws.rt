@@ -1,6 +1,6 @@
 //! The laws of templates. They speak of pages as contracts do: `IsPageOf parts texts page` says that the
 //! page is that of a template of these parts, filled by these texts.
-ghost use Rattle.std.specs.Prelude.{◌≡◌, ◌↔◌, ◌++◌, ℕ, IsErrOf, List, None, Result, Some, [], true};
+ghost use Rattle.std.specs.Prelude.{◌≡◌, ◌≢◌, ◌↔◌, ◌++◌, ℕ, All, IsErrOf, List, None, Result, Some, [], true};
 ghost use Rattle.html_template.specs.FirstFault.{AreNone, IsFirst};
 ghost use Rattle.html_tokenizer.specs.Tokenizer.States.{data_state};
 ghost use Rattle.html_tokenizer.specs.Tokenizer.Tokenization.{actions_of};
@@ -8,9 +8,11 @@ ghost use Rattle.html_tokenizer.specs.Tokens.{skeleton, tokens};
 ghost use Rattle.html_template.specs.FillFaults.{AnswersFill, count_fault, fill_fault, text_fault, text_faults};
 ghost use Rattle.html_template.specs.FilledUrls.{FillUrls, HasUrls, HasUrlsOf, filled_urls, template_urls, url_texts};
 ghost use Rattle.html_template.specs.PageUrls.{AllAlike, LeadsAsAny, urls_of, first_texts};
-ghost use Rattle.html_template.specs.Structure.{IsPageOf, IsReadAs, structure};
+ghost use Rattle.html_template.specs.Structure.{IsPageOf, IsReadAs, IsWhole, structure};
 ghost use Rattle.html_template.specs.TemplateFaults.{is_template, placed};
-ghost use Rattle.html_template.specs.Templates.{Chunk, Fill, Given, MayFill};
+ghost use Rattle.hesc_specs.specs.Text.Ascii.{less_than};
+ghost use Rattle.json.specs.Json.{Json as Value, document};
+ghost use Rattle.html_template.specs.Templates.{Chunk, Fill, Given, MayFill, written};
 ghost use Rattle.html_template.specs.Writing.{AnswersWriting};
 ghost use Rattle.html_template.specs.declared.faults.FillFault.{FillFault};
 ghost use Rattle.html_template.specs.declared.faults.FillFault.TheVariants.{Text, WrongCount};
@@ -18,6 +20,7 @@ ghost use Rattle.html_template.specs.declared.faults.TextFault.{TextFault};
 ghost use Rattle.html_template.specs.declared.faults.WriteFault.{WriteFault};
 ghost use Rattle.html_template.specs.declared.faults.WriteFault.TheVariants.{Texts};
 ghost use Rattle.html_template.specs.declared.parts.SlotKind.{SlotKind};
+ghost use Rattle.html_template.specs.declared.parts.SlotKind.TheVariants.{Json};
 ghost use Rattle.html_tokenizer.specs.declared.slot_place.SlotPlace.{SlotPlace};
 
 pub use html_tokenizer::laws::agreement_law;
@@ -102,6 +105,17 @@ pub fn page_urls_law()
     ensures any { (parts : List Given) → is_template parts ≡ true → HasUrls (placed parts) }
 {}
 
+/// What is written for JSON in its slot is JSON of the same value, and no `<` stands in what is written there
+/// for any text.
+///
+/// For instance `["</b>"]` is written as `["\u003C/b>"]`, which is the same array.
+pub fn json_law()
+    ensures same { (place : SlotPlace) (text : List ℕ) (value : Value) → document text ≡ Some value
+        → document (written place Json text) ≡ Some value }
+    ensures no_less { (place : SlotPlace) (text : List ℕ)
+        → All (λ b. b ≢ less_than) (written place Json text) }
+{}
+
 /// Templates join: the parts of two, one after the other, are a template's, and each slot stands where
 /// it stood.
 ///
@@ -115,7 +129,7 @@ pub fn joined_law()
 
 /// Pages join: what is a page of some parts, and after it one of others, is a page of these parts
 /// and then the others, filled by the texts of both. Its URLs are those of both. No part and no text
-/// make an empty page.
+/// make an empty page. Each page is whole, as a [`Fragment`](crate::Fragment) is.
 ///
 /// For instance `<p>a</p><p>b</p>` is a page of `<p>`, a slot and `</p>`, twice, filled by `a` and
 /// `b`.
@@ -124,6 +138,8 @@ pub fn pages_law()
     ensures both { (first second : List Given) (texts others : List (List ℕ)) (front following : List ℕ)
         → IsPageOf first texts front → IsPageOf second others following
         → IsPageOf (first ++ second) (texts ++ others) (front ++ following) }
+    ensures whole { (parts : List Given) (texts : List (List ℕ)) (page : List ℕ)
+        → IsPageOf parts texts page → IsWhole page }
     ensures urls { (parts : List Given) (texts : List (List ℕ)) (front following : List ℕ)
         → IsPageOf parts texts front
         → urls_of (front ++ following) ≡ urls_of front ++ urls_of following }

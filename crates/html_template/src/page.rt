@@ -1,10 +1,12 @@
 //! The page of pieces and texts, as parts that are put.
 ghost use Rattle.std.specs.Prelude.{◌≡◌, [], ◌<◌, ◌≤◌, ◌+◌, ◌^◌, ◌++◌, length, map, IfSome, IsOk, IsSome, OnErr, OnOk};
+ghost use Rattle.std.specs.List.{list_all};
 ghost use Rattle.hesc_specs.specs.Text.Beginning.{TookBeginning};
 ghost use Rattle.hesc_specs.specs.Text.Escaped.{escaped};
 ghost use Rattle.hesc_engine.specs.Forms.{WritesText};
-ghost use Rattle.html_template.specs.Slots.{in_quotes};
+ghost use Rattle.html_template.specs.Slots.{in_quotes, json_of};
 ghost use Rattle.html_template.specs.Templates.{chunk_of, page, written};
+ghost use Rattle.html_tokenizer.specs.Tokenizer.Code.Scripts.{is_json_space};
 
 use crate::fill::total_length;
 use crate::parts::SlotKind;
@@ -17,6 +19,8 @@ use hesc_core::{Class, CountOverflow, Rule, Sink};
 use hesc_engine::WriterSink;
 use hesc_engine::engine::run_made;
 use hesc_engine::forms::made::Made;
+use html_json::{json_length, put_json};
+use html_tokenizer::is_json_space;
 use html_urls::{component_length, put_component};
 use std::io::{self, Write};
 
@@ -105,6 +109,7 @@ fn text_length(slot: &StoredSlot, text: &str) -> Option<usize>
     match slot.kind {
         SlotKind::UrlPart(_) => component_length(text),
         SlotKind::Literal => total(&Escape(slot.class), text)?.checked_add(2),
+        SlotKind::Json => json_length(json_of(text)),
         SlotKind::Text
         | SlotKind::Link
         | SlotKind::OwnPath
@@ -183,8 +188,33 @@ pub fn put_text<S: Sink>(slot: &StoredSlot, text: &str, sink: &mut S) -> Result<
     match slot.kind {
         SlotKind::UrlPart(_) => put_component(text, sink),
         SlotKind::Literal => put_literal(slot.class, text, sink),
+        SlotKind::Json => put_json(json_of(text), sink),
         _ => put_escaped(slot.class, text, sink),
     }
+}
+
+// The JSON that stands for a text: the text itself, and `null` for white space alone, which is no JSON.
+fn json_of(text: &str) -> &str
+    ensures { result.now ≡ json_of text.now }
+{
+    if is_blank(text.as_bytes()) {
+        "null"
+    } else {
+        text
+    }
+}
+
+fn is_blank(bytes: &[u8]) -> bool
+    ensures { result ≡ list_all is_json_space bytes.now }
+{
+    let mut rest = bytes;
+    'bytes: while let [byte, others @ ..] = rest {
+        if !is_json_space(*byte) {
+            return false;
+        }
+        rest = others;
+    }
+    true
 }
 
 // Puts what the encoder of the class makes of a text, between two `"`.

@@ -30,4 +30,6 @@ pub enum SlotKind {
     OwnBase(BehindBase),
     /// A value in the code of a script, which is written as a string literal.
     Literal,
+    /// JSON, with which the content of a script of the type `application/json` or `application/ld+json` begins.
+    Json,
 }

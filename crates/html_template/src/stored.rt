@@ -38,6 +38,13 @@ impl<'a> StoredMarkup<'a> {
         StoredMarkup { text, block }
     }
 
+    /// Its text.
+    pub fn as_str(&self) -> &'a str
+        ensures { result.now ≡ self.now.text.now }
+    {
+        self.text
+    }
+
     /// A segment with this markup as its stretch, if it is short.
     #[inline(always)]
     pub(crate) fn as_stretch(&self) -> Option<Segment<'_>>
@@ -72,6 +79,20 @@ impl StoredSlot {
     {
         let class = class_for(place);
         StoredSlot { place, kind, class }
+    }
+
+    /// Where it stands.
+    pub fn place(&self) -> SlotPlace
+        ensures { result ≡ self.now.place }
+    {
+        self.place
+    }
+
+    /// What its text is.
+    pub fn kind(&self) -> SlotKind
+        ensures { result ≡ self.now.kind }
+    {
+        self.kind
     }
 }
 

@@ -4,6 +4,7 @@ ghost use Rattle.std.specs.Io.KnownBytes.{Appends};
 ghost use Rattle.std.specs.String.{string_bytes};
 ghost use Rattle.hesc_specs.specs.Text.Beginning.{AppendsBeginning};
 ghost use Rattle.hesc_engine.specs.Forms.{Appended, string_room};
+ghost use Rattle.html_template.specs.Fragments.{markup_in};
 ghost use Rattle.html_template.specs.FillFaults.{AnswersFill, fill_fault, has_checked, slot_count};
 ghost use Rattle.html_tokenizer.specs.Tokenizer.States.{data_state};
 ghost use Rattle.html_template.specs.Structure.{IsPageOf, IsReadAs, JoinsWritten};
@@ -32,6 +33,7 @@ ghost use Rattle.html_template.specs.Templates.{
 
 use crate::faults::{FillFault, TemplateFault, WriteFault};
 use crate::fill::{Summary, check};
+use crate::fragment::FragmentBuf;
 use crate::page::{Page, write_page};
 use crate::parts::Part;
 use crate::stored::{Stored, StoredMarkup, StoredSlot};
@@ -151,6 +153,23 @@ impl<'a, A: Allocator + Copy> Template<'a, A> {
         }
         append_parts(output, &self.page_of(texts))?;
         Ok(())
+    }
+
+    /// The page of these texts, one for each slot, as a fragment.
+    ///
+    /// Of `<b>`, a slot and `</b>`, the fragment of `a` is `<b>a</b>`.
+    pub fn fragment<B: Allocator>(
+        &self,
+        alloc: B,
+        texts: &[&str],
+    ) -> Result<FragmentBuf<B>, FillFault>
+        ensures page { IfOk result (λ fragment.
+            markup_in fragment ≡ page (pieces_of self.now) (texts_of texts.now)) }
+        ensures faults { AnswersFill (fill_fault (pieces_of self.now) (texts_of texts.now)) result }
+    {
+        let mut made = String::new(alloc);
+        self.append(&mut made, texts)?;
+        Ok(FragmentBuf::of_page(made))
     }
 
     /// Writes the page of these texts, one for each slot: markup as it stands, and each text as it is

@@ -48,6 +48,11 @@ pub fn placed<A: Allocator>(
             kind: SlotKind::Literal,
             url: OpenUrl::Outside,
         })),
+        Standing::InJson => Ok(Ok(PlacedSlot {
+            place: SlotPlace::Text,
+            kind: SlotKind::Json,
+            url: OpenUrl::Outside,
+        })),
         Standing::Barred => Ok(Err(PartFault::Forbidden)),
         Standing::Nowhere => Ok(Err(PartFault::NoPlace)),
     }

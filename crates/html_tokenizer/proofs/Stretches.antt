@@ -26,6 +26,7 @@ use Rattle.html_tokenizer.specs.declared.states.Code.TheVariants as code
 use Rattle.html_tokenizer.specs.Tokenizer.Code.{code_byte}
 use Rattle.html_tokenizer.specs.Tokenizer.Code.Characters.{asterisk}
 use Rattle.html_tokenizer.specs.Tokenizer.Code.Escapes.{escaped_byte}
+use Rattle.html_tokenizer.specs.Tokenizer.Code.Scripts.{json_byte}
 use Rattle.html_tokenizer.specs.Tokenizer.Code.Styles.{front_comment_byte, style_byte, url_byte}
 use Rattle.html_tokenizer.specs.Tokenizer.Comments.{dash}
 use Rattle.html_tokenizer.proofs.Passing.{stays_up_to}
@@ -83,6 +84,11 @@ stays_opaque : (content : Content) (b : ℕ) → code_byte code.Opaque content b
 unfolding consume
 stays_opaque content b is no_less_than = rw (no_less_than, is) refl
 
+stays_in_json : (content : Content) (b : ℕ) → code_byte code.JsonRest content b ≡ json_byte code.JsonRest content b → (b == less_than) ≡ false →
+    (consume (at (InCode code.JsonRest) content) b).next ≡ at (InCode code.JsonRest) content
+unfolding consume
+stays_in_json content b is no_less_than = rw (no_less_than, is) refl
+
 stays_in_block : (content : Content) (b : ℕ) → code_byte code.BlockComment content b ≡ block_byte content b →
     (b == asterisk || b == less_than) ≡ false →
     (consume (at (InCode code.BlockComment) content) b).next ≡ at (InCode code.BlockComment) content
@@ -114,6 +120,7 @@ stays_in_code : (element : OpenElement) (kind : Code) (content : Content) (b : �
     leaves_code element kind b ≡ false → (consume (at (InCode kind) content) b).next ≡ at (InCode kind) content
 unfolding consume
 stays_in_code Script code.Opaque content b is remains = stays_opaque content b (rw is refl) remains
+stays_in_code Script code.JsonRest content b is remains = stays_in_json content b (rw is refl) remains
 stays_in_code Style code.Opaque content b is remains = stays_opaque content b (rw is refl) remains
 stays_in_code Frame code.Opaque content b is remains = stays_opaque content b (rw is refl) remains
 stays_in_code Script code.BlockComment content b is remains = stays_in_block content b (rw is refl) remains

@@ -1,11 +1,11 @@
 -- Where a slot stands in what was read, and where a page may end.
 use Rattle.std.specs.Prelude.{◌≡◌, Bool, true, false, ◌&&◌, ◌==◌, if◌then◌else◌}
 use Rattle.html_tokenizer.specs.declared.reader.Standing.{Standing}
-use Rattle.html_tokenizer.specs.declared.reader.Standing.TheVariants.{Stands, InUrl, InLink, InScript, Nowhere, Barred}
+use Rattle.html_tokenizer.specs.declared.reader.Standing.TheVariants.{Stands, InUrl, InLink, InScript, InJson, Nowhere, Barred}
 use Rattle.html_tokenizer.specs.declared.slot_place.SlotPlace.{SlotPlace}
 use Rattle.html_tokenizer.specs.declared.slot_place.SlotPlace.TheVariants.{Text, DoubleQuoted, SingleQuoted, Unquoted, ScriptSingle, ScriptDouble, StyleSingle, StyleDouble}
 use Rattle.html_tokenizer.specs.declared.states.Code.{Code}
-use Rattle.html_tokenizer.specs.declared.states.Code.TheVariants.{Plain}
+use Rattle.html_tokenizer.specs.declared.states.Code.TheVariants.{Plain, Json, JsonRest}
 use Rattle.html_tokenizer.specs.declared.elements.Content.{Content}
 use Rattle.html_tokenizer.specs.declared.elements.OpenElement.{OpenElement}
 use Rattle.html_tokenizer.specs.declared.elements.OpenElement.TheVariants as element
@@ -36,9 +36,18 @@ abbrev pub takes_literal : Code → Content → Attribute → Bool
 takes_literal Plain content attribute = is_ordinary attribute && is_script content.element
 takes_literal other content attribute = false
 
+-- in a data block of JSON, behind white space alone
+abbrev pub takes_json : Code → Content → Attribute → Bool
+takes_json Json content attribute = is_ordinary attribute && is_script content.element
+takes_json other content attribute = false
+
 -- a slot in other code is nowhere, and where the rest takes none, in a second language
 abbrev pub in_code : Code → Content → Attribute → Standing
-in_code kind content attribute = if is_opaque kind then Barred else (if takes_literal kind content attribute then InScript else Nowhere)
+in_code kind content attribute =
+    if is_opaque kind then Barred
+    else (if takes_literal kind content attribute then InScript
+    else (if takes_json kind content attribute then InJson
+    else Nowhere))
 
 -- the text of a `noscript` takes none: where scripts run no reference is read in it
 abbrev pub in_content : OpenElement → Standing → Standing
@@ -76,11 +85,16 @@ stands p other = false
 abbrev pub state_after_slot : SlotPlace → Tokenizer → Tokenizer
 state_after_slot p t = if stands p (standing t) then at_value (state.In p) t.content t.attribute else refused
 
--- where the tokenizer goes at a slot: into a value that may begin there, and else it stays
+-- and behind JSON, where no slot follows
+abbrev pub past_json : Tokenizer → Tokenizer
+past_json t = at_value (state.InCode JsonRest) t.content t.attribute
+
+-- where the tokenizer goes at a slot: into a value that may begin there, in a data block behind its JSON, and else it stays
 abbrev pub AfterStanding : Standing → Tokenizer → Tokenizer → Type 0
 AfterStanding (Stands p) old new = new ≡ state_after_slot p old
 AfterStanding (InUrl p) old new = new ≡ state_after_slot p old
 AfterStanding (InLink p) old new = new ≡ state_after_slot p old
+AfterStanding InJson old new = new ≡ past_json old
 AfterStanding other old new = new ≡ old
 
 -- in a start tag, where behind a blank an attribute may begin: 13.2.5.32 Before attribute name state, 13.2.5.34 After attribute name

@@ -2,7 +2,7 @@
 pub(crate) mod encodings;
 
 ghost use Rattle.std.specs.Prelude.{◌≡◌, ℕ, IsTrue, List, [], true};
-ghost use Rattle.html_tokenizer.specs.Tokenizer.Attributes.{attribute_of, content_after, content_after_pragma, fixed, followed, holds_language, holds_url, holds_urls, is_cache_header, is_javascript, is_script_tag, is_shown_relation, is_switch, names_script_type, raw_value, reference_read, resource_value, value_but_of, value_byte_read, value_of};
+ghost use Rattle.html_tokenizer.specs.Tokenizer.Attributes.{attribute_of, content_after, content_after_pragma, fixed, followed, holds_language, holds_url, holds_urls, is_cache_header, is_javascript, is_json, is_script_tag, is_shown_relation, is_switch, names_script_type, raw_value, reference_read, resource_value, value_but_of, value_byte_read, value_of, without_value};
 ghost use Rattle.html_tokenizer.specs.Tokenizer.Elements.{is_meta};
 ghost use Rattle.html_tokenizer.specs.Tokenizer.Phases.{attribute_in, moved, word_after};
 ghost use Rattle.html_tokenizer.specs.Tokenizer.States.{Ordinary};
@@ -107,6 +107,12 @@ fn is_javascript(value: &[u8]) -> bool
         || value == b"application/javascript".as_slice()
 }
 
+fn is_json(value: &[u8]) -> bool
+    ensures { result ≡ is_json value.now }
+{
+    value == b"application/json".as_slice() || value == b"application/ld+json".as_slice()
+}
+
 // After the `=` of an attribute, in which a slot is also barred if it is this one.
 #[inline(always)]
 fn value_but_of(barred: &[u8], content: Content, name: &[u8]) -> Move
@@ -201,13 +207,29 @@ fn resource_value(content: Content, name: &[u8]) -> Move
     in_value(Phase::BeforeValue, content, kind, Word::New)
 }
 
+/// Behind an attribute without a value.
+#[inline(always)]
+pub(crate) fn without_value(content: Content, name: &[u8]) -> Content
+    ensures { result ≡ without_value content name.now }
+{
+    match content.element {
+        OpenElement::Script if name == b"type".as_slice() => {
+            with_element(content, OpenElement::TypedScript)
+        }
+        _ => content,
+    }
+}
+
 /// After the `=` of an attribute.
 #[inline(always)]
 pub(crate) fn value_of(content: Content, name: &[u8]) -> Move
     ensures { moved result name.now ≡ value_of content name.now }
 {
     match content.element {
-        OpenElement::Script | OpenElement::DataBlock => script_value(content, name),
+        OpenElement::Script
+        | OpenElement::TypedScript
+        | OpenElement::DataBlock
+        | OpenElement::JsonBlock => script_value(content, name),
         element if is_meta(element) => meta_value(content, name),
         OpenElement::LinkTag => {
             let kind = followed(attribute_of(name));
@@ -268,7 +290,10 @@ fn content_after_word(content: Content, kind: Kind, word: &[u8]) -> Option<Conte
     ensures { result ≡ content_after content (attribute_in kind word.now) }
 {
     match kind {
-        Kind::ScriptType if is_javascript(word) => Some(with_element(content, OpenElement::Script)),
+        Kind::ScriptType if is_javascript(word) => {
+            Some(with_element(content, OpenElement::TypedScript))
+        }
+        Kind::ScriptType if is_json(word) => Some(with_element(content, OpenElement::JsonBlock)),
         Kind::Pragma => content_after_pragma(content, word),
         Kind::Encoding if !is_utf_8(word) => None,
         Kind::PageType if !names_no_other(word) => None,

@@ -83,7 +83,12 @@ fn code_at_less(element: OpenElement, code: Code) -> Code
         Code::FrontComment | Code::FrontStar => Code::FrontComment,
         Code::UrlOpen | Code::Url | Code::UrlSlash => Code::Url,
         Code::Slash if is_script(element) => Code::Opaque,
-        Code::FrontSlash | Code::Opaque | Code::EscapeStart | Code::EscapeStartDash => Code::Opaque,
+        Code::FrontSlash
+        | Code::Json
+        | Code::JsonRest
+        | Code::Opaque
+        | Code::EscapeStart
+        | Code::EscapeStartDash => Code::Opaque,
         Code::Escaped | Code::EscapedDash | Code::EscapedDashDash => Code::Escaped,
         Code::DoubleEscaped | Code::DoubleEscapedDash | Code::DoubleEscapedDashDash => {
             Code::DoubleEscaped

@@ -30,8 +30,12 @@ pub enum OpenElement {
     Textarea,
     /// A script in JavaScript.
     Script,
+    /// The tag of such a script, behind its `type`.
+    TypedScript,
     /// The tag of a script in another language, which the Standard calls a data block.
     DataBlock,
+    /// The tag of a data block of JSON.
+    JsonBlock,
     /// A style.
     Style,
     /// The text of an `iframe`.
@@ -243,7 +247,9 @@ fn inside_element(element: OpenElement) -> OpenElement
         | OpenElement::LinkTag
         | OpenElement::ResourceTag
         | OpenElement::EmbedTag => OpenElement::Normal,
-        OpenElement::DataBlock => OpenElement::Script,
+        OpenElement::TypedScript | OpenElement::DataBlock | OpenElement::JsonBlock => {
+            OpenElement::Script
+        }
         OpenElement::SvgTag | OpenElement::SvgEmbedTag => OpenElement::Svg,
         OpenElement::MathTag | OpenElement::MathEmbedTag => OpenElement::Math,
         OpenElement::SelectEmbedTag => OpenElement::Select,
@@ -264,7 +270,8 @@ pub(crate) fn content_phase(element: OpenElement) -> Phase
     ensures { (word : List ℕ) → state_of result word ≡ content_state element }
 {
     match element {
-        OpenElement::Script => Phase::InCode(Code::Plain),
+        OpenElement::Script | OpenElement::TypedScript => Phase::InCode(Code::Plain),
+        OpenElement::JsonBlock => Phase::InCode(Code::Json),
         OpenElement::Style => Phase::InCode(Code::Front),
         OpenElement::Frame
         | OpenElement::DataBlock

@@ -21,6 +21,7 @@ mod states;
 mod tags;
 mod values;
 
+pub use crate::code::scripts::is_json_space;
 pub use crate::elements::{Content, OpenElement};
 pub use crate::reader::{Reader, Standing};
 pub use crate::slot_place::SlotPlace;

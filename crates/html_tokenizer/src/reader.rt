@@ -38,6 +38,8 @@ pub enum Standing {
     InLink(SlotPlace),
     /// In the code of a script, where a string literal would be a token of its own.
     InScript,
+    /// In a data block of JSON, behind white space alone.
+    InJson,
     /// Where a text would be read in a second language.
     Barred,
     /// Where no text may stand.
@@ -466,12 +468,15 @@ impl<A: Allocator> Reader<A> {
             (Phase::InCode(Code::Plain), Kind::Ordinary) if is_script(self.content.element) => {
                 Standing::InScript
             }
+            (Phase::InCode(Code::Json), Kind::Ordinary) if is_script(self.content.element) => {
+                Standing::InJson
+            }
             _ => Standing::Nowhere,
         }
     }
 
     /// Where a slot stands that comes now; the tokenizer goes on after it, if it is a place. Else it stays where
-    /// it is, as in the code of a script behind a string literal.
+    /// it is, as in the code of a script behind a string literal. In a data block no slot follows.
     ///
     /// After `<p>` it is `Standing::Stands(SlotPlace::Text)`, and after `<p` it is `Standing::Nowhere`.
     pub fn slot(&mut self) -> Standing
@@ -483,6 +488,7 @@ impl<A: Allocator> Reader<A> {
             Standing::Stands(place) | Standing::InUrl(place) | Standing::InLink(place) => {
                 self.phase = Phase::In(place);
             }
+            Standing::InJson => self.phase = Phase::InCode(Code::JsonRest),
             Standing::InScript | Standing::Barred | Standing::Nowhere => {}
         }
         standing

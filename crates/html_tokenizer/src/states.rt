@@ -11,6 +11,10 @@ use crate::slot_place::SlotPlace;
 pub enum Code {
     /// Between strings and comments, and in a script between words.
     Plain,
+    /// In a data block of JSON, behind white space alone.
+    Json,
+    /// In a data block of JSON, before any `<`.
+    JsonRest,
     /// In a word of a script that becomes neither `import` nor `from`.
     Name,
     /// In a word of a script, after `i`.

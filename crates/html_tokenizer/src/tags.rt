@@ -8,7 +8,7 @@ ghost use Rattle.html_tokenizer.specs.Tokenizer.States.{State, at};
 ghost use Rattle.html_tokenizer.specs.Tokenizer.Tags.{after_name_byte, after_value_byte, attribute_name_byte, before_name_byte, closed_itself, end_tag_byte, end_tag_name_byte, end_tag_open_byte, ends_name, first_name_byte, in_tag, is_name_error, is_space, opened, self_closing_byte, tag_name_byte, tag_open_byte};
 ghost use Rattle.html_tokenizer.specs.Tokenizer.Transitions.{Transition};
 
-use crate::attributes::value_of;
+use crate::attributes::{value_of, without_value};
 use crate::elements::{
     Content, beside, closed, content_of, content_phase, ends_content, holds_comments, holds_markup,
     inside, with_element,
@@ -180,7 +180,8 @@ pub(crate) fn after_name_byte(content: Content, name: &[u8], byte: u8) -> Move
         value_of(content, name)
     } else {
         let blank = goes(Phase::AfterName, content, Word::Keep);
-        in_tag(blank, content, byte, first_name_byte(content, byte))
+        let next = first_name_byte(without_value(content, name), byte);
+        in_tag(blank, content, byte, next)
     }
 }
 

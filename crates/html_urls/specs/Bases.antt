@@ -7,7 +7,7 @@ use Rattle.url.specs.Parts.{Parts, cannot_be_a_base, kind_of}
 use Rattle.html_urls.specs.declared.base.BehindBase.{BehindBase}
 use Rattle.html_urls.specs.declared.base.BehindBase.TheVariants.{Slash, Tail, Segment}
 use Rattle.html_urls.specs.declared.open_part.OpenPart.{OpenPart}
-use Rattle.html_urls.specs.declared.open_part.OpenPart.TheVariants.{NewSegment, DotSegment, NamedSegment, Query, Fragment}
+use Rattle.html_urls.specs.declared.open_part.OpenPart.TheVariants.{NewSegment, DotSegment, NamedSegment, FirstSegment, Query, Fragment}
 use Rattle.html_urls.specs.declared.parts.UrlFault.TheVariants as fault
 use Rattle.html_urls.specs.Hosts.{is_web_scheme}
 use Rattle.html_urls.specs.Links.{mark_at}
@@ -50,6 +50,7 @@ abbrev pub ends_as : BehindBase → Bool → Option OpenPart → Bool
 ends_as behind is_empty (Some NamedSegment) = ends_named behind
 ends_as behind is_empty (Some NewSegment) = ends_new behind is_empty
 ends_as behind is_empty (Some DotSegment) = false
+ends_as behind is_empty (Some FirstSegment) = false
 ends_as behind is_empty (Some Query) = false
 ends_as behind is_empty (Some Fragment) = false
 ends_as behind is_empty None = false

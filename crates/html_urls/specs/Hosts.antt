@@ -1,6 +1,6 @@
 -- Which fronts of a URL have fixed its host (URL Standard, 4.4 URL parsing: scheme start state, scheme state, host state, no scheme state, relative state, relative slash state).
 use Rattle.std.specs.Prelude.{◌≡◌, ◌≢◌, ◌⊎◌, ℕ, ◌<◌, Bool, true, not, ◌&&◌, ◌||◌, ◌==◌, nat_lt, List, ◌∷◌, ◌++◌, length, take, slice_index, codes, bytes_eq, Option, IfSome, All}
-use Rattle.std.specs.List.{list_any}
+use Rattle.std.specs.List.{list_all, list_any}
 use Rattle.url.specs.declared.scheme.SchemeType.TheVariants.{SpecialNotFile}
 use Rattle.url.specs.Ascii.{backslash, slash}
 use Rattle.url.specs.Input.{lowercase}
@@ -25,6 +25,13 @@ pub data FixesHost : List ℕ → Type 0 where
   hosted : (host rest : List ℕ) → 0 < length host → All (IsNot slash) host → FixesHost (codes "//" ++ host ++ slash ∷ rest)
   rooted : (rest : List ℕ) → slice_index rest 0 ≢ slash → FixesHost (slash ∷ rest)
   relative : (first rest : List ℕ) → 0 < length first → All (λ b. is_first_byte b ≡ true) first → FixesHost (first ++ slash ∷ rest)
+
+-- such a first segment alone, of which the path of the base is a folder: what follows it may hold a `:`, and then it was a scheme
+abbrev pub IsFirstSegment : List ℕ → Type 0
+IsFirstSegment front = (0 < length front) × All (λ b. is_first_byte b ≡ true) front
+
+abbrev pub is_first_segment : List ℕ → Bool
+is_first_segment front = nat_lt 0 (length front) && list_all is_first_byte front
 
 -- such a first segment and `/`, at the front
 abbrev pub has_first_segment : List ℕ → Bool

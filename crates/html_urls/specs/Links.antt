@@ -13,13 +13,17 @@ is_mark b = b == colon || b == slash || b == question_mark || b == number_sign
 abbrev pub mark_at : List ℕ → ℕ
 mark_at text = position_or_len is_mark text
 
+-- the first of them is a `:`, so that what stands before it may be a scheme
+abbrev pub has_scheme : List ℕ → Bool
+has_scheme text = slice_index text (mark_at text) == colon
+
 -- `http`, `https` or `mailto`
 abbrev pub is_link_scheme : List ℕ → Bool
 is_link_scheme scheme = bytes_eq scheme (codes "http") || bytes_eq scheme (codes "https") || bytes_eq scheme (codes "mailto")
 
 -- the first mark is no `:`, or one of these schemes, in any case, stands before it
 abbrev pub is_link : List ℕ → Bool
-is_link text = not (slice_index text (mark_at text) == colon) || is_link_scheme (lowercase (take (mark_at text) text))
+is_link text = not (has_scheme text) || is_link_scheme (lowercase (take (mark_at text) text))
 
 -- the URL has one of these schemes
 abbrev pub HasLinkScheme : Parts → Type 0

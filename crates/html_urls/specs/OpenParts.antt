@@ -3,11 +3,11 @@ use Rattle.std.specs.Prelude.{ℕ, Bool, true, false, not, ◌&&◌, ◌||◌, �
 use Rattle.std.specs.List.{list_any, starts_with}
 use Rattle.url.specs.Ascii.{colon, dot, number_sign, percent_sign, question_mark, slash}
 use Rattle.html_urls.specs.declared.open_part.OpenPart.{OpenPart}
-use Rattle.html_urls.specs.declared.open_part.OpenPart.TheVariants.{NewSegment, DotSegment, NamedSegment, Query, Fragment}
+use Rattle.html_urls.specs.declared.open_part.OpenPart.TheVariants.{NewSegment, DotSegment, NamedSegment, FirstSegment, Query, Fragment}
 use Rattle.html_urls.specs.declared.parts.UrlSlot.{UrlSlot}
 use Rattle.html_urls.specs.declared.place.UrlPlace.TheVariants as place
-use Rattle.html_urls.specs.Hosts.{has_first_segment, is_web_scheme}
-use Rattle.html_urls.specs.Links.{is_link, mark_at}
+use Rattle.html_urls.specs.Hosts.{has_first_segment, is_first_segment, is_web_scheme}
+use Rattle.html_urls.specs.Links.{has_scheme, is_link, mark_at}
 use Rattle.html_urls.specs.Parts.Segments.{is_dot_byte}
 
 -- a segment ends before it
@@ -21,6 +21,7 @@ begins_dots b = b == dot || b == percent_sign
 -- after a byte of a segment: whether with what follows it may read as `.` or `..`
 abbrev pub after_segment_byte : OpenPart → ℕ → OpenPart
 after_segment_byte NamedSegment b = NamedSegment
+after_segment_byte FirstSegment b = FirstSegment
 after_segment_byte NewSegment b = if begins_dots b then DotSegment else NamedSegment
 after_segment_byte DotSegment b = if is_dot_byte b then DotSegment else NamedSegment
 after_segment_byte Query b = if is_dot_byte b then DotSegment else NamedSegment
@@ -42,6 +43,7 @@ abbrev pub after_byte : OpenPart → ℕ → OpenPart
 after_byte NewSegment b = after_path_byte NewSegment b
 after_byte DotSegment b = after_path_byte DotSegment b
 after_byte NamedSegment b = after_path_byte NamedSegment b
+after_byte FirstSegment b = after_path_byte FirstSegment b
 after_byte Query b = after_query_byte b
 after_byte Fragment b = Fragment
 
@@ -55,6 +57,7 @@ abbrev pub may_be_dots : OpenPart → Bool
 may_be_dots DotSegment = true
 may_be_dots NewSegment = false
 may_be_dots NamedSegment = false
+may_be_dots FirstSegment = false
 may_be_dots Query = false
 may_be_dots Fragment = false
 
@@ -64,10 +67,24 @@ after_markup part [] = Some part
 after_markup part (b ∷ markup) =
     if may_be_dots part && is_end b then None else after_markup (after_byte part b) markup
 
+-- the first segment of a relative path, in which a `:` ends a scheme
+abbrev pub is_first : OpenPart → Bool
+is_first NewSegment = false
+is_first DotSegment = false
+is_first NamedSegment = false
+is_first FirstSegment = true
+is_first Query = false
+is_first Fragment = false
+
+-- markup behind a slot there, in which a `:` does, with some text
+abbrev pub ends_scheme : OpenPart → List ℕ → Bool
+ends_scheme part markup = is_first part && has_scheme markup
+
 -- the slot that stands here, and what is open after its text: one that a segment may begin with names it
 abbrev pub slot_at : OpenPart → Option UrlSlot
 slot_at NewSegment = Some (record { place = place.Path; begins_segment = true })
 slot_at NamedSegment = Some (record { place = place.Path; begins_segment = false })
+slot_at FirstSegment = Some (record { place = place.Path; begins_segment = false })
 slot_at DotSegment = None
 slot_at Query = Some (record { place = place.Query; begins_segment = false })
 slot_at Fragment = Some (record { place = place.Fragment; begins_segment = false })
@@ -76,6 +93,7 @@ abbrev pub after_text : OpenPart → OpenPart
 after_text NewSegment = NamedSegment
 after_text DotSegment = DotSegment
 after_text NamedSegment = NamedSegment
+after_text FirstSegment = FirstSegment
 after_text Query = Query
 after_text Fragment = Fragment
 
@@ -107,13 +125,23 @@ has_web_host front =
 abbrev pub is_fixed : List ℕ → Bool
 is_fixed front = is_rooted front || has_first_segment front || has_host front || has_web_host front
 
+-- a segment that is named, where it is the first one
+abbrev pub as_first : OpenPart → OpenPart
+as_first NewSegment = NewSegment
+as_first DotSegment = DotSegment
+as_first NamedSegment = FirstSegment
+as_first FirstSegment = FirstSegment
+as_first Query = Query
+as_first Fragment = Fragment
+
 -- what is open at its end
 abbrev pub open_of_link : List ℕ → Option OpenPart
 open_of_link front =
     if has_byte number_sign front then Some Fragment
     else (if has_byte question_mark front then Some Query
     else (if is_fixed front then Some (after_front NewSegment front)
-    else None))
+    else (if is_first_segment front then Some (as_first (after_front NewSegment front))
+    else None)))
 
 -- the same, if a text may stand there: not behind a scheme whose URL a browser decodes, and runs or shows
 abbrev pub open_of : List ℕ → Option OpenPart

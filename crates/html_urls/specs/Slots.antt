@@ -14,7 +14,7 @@ use Rattle.html_urls.specs.declared.parts.UrlSlot.{UrlSlot}
 use Rattle.html_urls.specs.declared.place.UrlPlace.{UrlPlace}
 use Rattle.html_urls.specs.declared.place.UrlPlace.TheVariants.{Path, Query, Fragment}
 use Rattle.html_urls.specs.Components.{component}
-use Rattle.html_urls.specs.OpenParts.{after_markup, after_text, may_be_dots, open_of, slot_at}
+use Rattle.html_urls.specs.OpenParts.{after_markup, after_text, ends_scheme, may_be_dots, open_of, slot_at}
 
 -- a part as the definitions take it
 pub data Given : Type 0 where
@@ -92,7 +92,7 @@ abbrev pub later_slots : ℕ → OpenPart → List Given → Told
 later_slots number open_part [] = if may_be_dots open_part then Err (DotSegment (number - 1)) else Ok []
 later_slots number open_part (Markup bytes ∷ parts) =
     if is_plain bytes (no_parts parts)
-    then told_of (after_markup open_part bytes) (DotSegment number) (λ after. later_slots (number + 1) after parts)
+    then (if ends_scheme open_part bytes then Err (NotFixed number) else told_of (after_markup open_part bytes) (DotSegment number) (λ after. later_slots (number + 1) after parts))
     else Err (NotPlain number)
 later_slots number open_part (Slot ∷ parts) =
     told_of (slot_at open_part) (DotSegment number) (λ slot. after_slots (slot ∷ []) (later_slots (number + 1) (after_text open_part) parts))

@@ -30,7 +30,9 @@ pub use crate::forms::{
 };
 pub use crate::length::component_length;
 pub use crate::link::is_link;
-pub use crate::open_part::{OpenPart, after_markup, after_text, may_be_dots, open_of, slot_at};
+pub use crate::open_part::{
+    OpenPart, after_markup, after_text, ends_scheme, may_be_dots, open_of, slot_at,
+};
 pub use crate::own_path::is_own_path;
 pub use crate::parts::{UrlFault, UrlPart, UrlSlot, UrlTextFault};
 pub use crate::place::UrlPlace;

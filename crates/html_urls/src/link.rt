@@ -20,8 +20,15 @@ pub fn is_link(text: &str) -> bool
 pub(crate) fn is_link_bytes(text: &[u8]) -> bool
     ensures { result ≡ spec.is_link text.now }
 {
+    !has_scheme(text) || is_link_scheme(&text[..mark_at(text)])
+}
+
+/// Whether what stands before the first of `:`, `/`, `?` and `#` counts as a scheme: this is a `:`.
+pub(crate) fn has_scheme(text: &[u8]) -> bool
+    ensures { result ≡ spec.has_scheme text.now }
+{
     let at = mark_at(text);
-    at == text.len() || text[at] != b':' || is_link_scheme(&text[..at])
+    at < text.len() && text[at] == b':'
 }
 
 fn is_link_scheme(scheme: &[u8]) -> bool
@@ -45,7 +52,7 @@ pub(crate) fn mark_at(bytes: &[u8]) -> usize
     bytes.len()
 }
 
-fn is_mark(b: u8) -> bool
+pub(crate) fn is_mark(b: u8) -> bool
     ensures { result ≡ spec.is_mark b }
 {
     b == b':' || b == b'/' || b == b'?' || b == b'#'

@@ -1,10 +1,11 @@
 //! What is open at the end of a URL's beginning: a segment of its path, its query or its fragment.
 ghost use Rattle.std.specs.Prelude.{◌≡◌};
+ghost use Rattle.std.specs.List.{list_all};
 ghost use Rattle.html_urls.specs.Hosts as hosts;
 ghost use Rattle.html_urls.specs.OpenParts as spec;
 ghost use Rattle.html_urls.specs.Parts.Segments as segments;
 
-use crate::link::{is_link_bytes, mark_at};
+use crate::link::{has_scheme, is_link_bytes, is_mark, mark_at};
 use crate::parts::UrlSlot;
 use crate::place::UrlPlace;
 
@@ -19,6 +20,8 @@ pub enum OpenPart {
     DotSegment,
     /// A segment that its markup, or the text with which it begins, keeps from that, whatever follows.
     NamedSegment,
+    /// The first segment of a relative path, which its markup keeps from that. A `:` in it ends a scheme.
+    FirstSegment,
     /// The query.
     Query,
     /// The fragment.
@@ -78,6 +81,7 @@ fn after_segment_byte(part: OpenPart, b: u8) -> OpenPart
     let may_be_dots = match part {
         OpenPart::NewSegment => b == b'.' || b == b'%',
         OpenPart::NamedSegment => false,
+        OpenPart::FirstSegment => return OpenPart::FirstSegment,
         _ => is_dot_byte(b),
     };
     if may_be_dots {
@@ -107,6 +111,16 @@ pub fn may_be_dots(part: OpenPart) -> bool
     ensures { result ≡ spec.may_be_dots part }
 {
     part == OpenPart::DotSegment
+}
+
+/// Whether with some text a scheme ends in markup behind a slot, where this is open before it: in the first
+/// segment of a relative path, at a `:` before any `/`, `?` and `#`. Such markup may not stand there.
+///
+/// In `FirstSegment`, of `-b:c` it is `true`, and of `/b:c` it is `false`.
+pub fn ends_scheme(part: OpenPart, markup: &[u8]) -> bool
+    ensures { result ≡ spec.ends_scheme part markup.now }
+{
+    part == OpenPart::FirstSegment && has_scheme(markup)
 }
 
 /// What is open after markup behind a slot, where this was open before it: `None` where a segment ends
@@ -139,7 +153,7 @@ pub fn slot_at(part: OpenPart) -> Option<UrlSlot>
             place: UrlPlace::Path,
             begins_segment: true,
         }),
-        OpenPart::NamedSegment => Some(UrlSlot {
+        OpenPart::NamedSegment | OpenPart::FirstSegment => Some(UrlSlot {
             place: UrlPlace::Path,
             begins_segment: false,
         }),
@@ -217,6 +231,36 @@ fn has_first_segment(front: &[u8]) -> bool
     at > 0 && at < front.len() && front[at] == b'/' && !has_byte(b'\\', &front[..at])
 }
 
+// The first segment of a relative path alone.
+fn is_first_segment(front: &[u8]) -> bool
+    ensures { result ≡ hosts.is_first_segment front.now }
+{
+    !front.is_empty() && are_first_bytes(front)
+}
+
+fn are_first_bytes(bytes: &[u8]) -> bool
+    ensures { result ≡ list_all hosts.is_first_byte bytes.now }
+{
+    bytes.iter().all(|b| is_first_byte(*b))
+}
+
+fn is_first_byte(b: u8) -> bool
+    ensures { result ≡ hosts.is_first_byte b }
+{
+    !is_mark(b) && b != b'\\'
+}
+
+// A segment that is named, where it is the first one.
+fn as_first(part: OpenPart) -> OpenPart
+    ensures { result ≡ spec.as_first part }
+{
+    if part == OpenPart::NamedSegment {
+        OpenPart::FirstSegment
+    } else {
+        part
+    }
+}
+
 // Whether the host is fixed before markup that goes on: by one `/`, by a first segment of a relative
 // path and `/`, or by the markup's own host, with a scheme or that of the page.
 fn is_fixed(front: &[u8]) -> bool
@@ -229,8 +273,8 @@ fn is_fixed(front: &[u8]) -> bool
 /// that is none of `http`, `https` and `mailto` none may: of a `javascript:` or a `data:` URL a browser
 /// decodes all that follows, and runs or shows it.
 ///
-/// Of `/items/`, `items/` and `//a.example/` it is `NewSegment`, of `mailto:a@b.example?subject=` it is `Query`, and of
-/// `//`, `items` and `javascript:x?` it is `None`.
+/// Of `/items/`, `items/` and `//a.example/` it is `NewSegment`, of `item-` it is `FirstSegment`, of
+/// `mailto:a@b.example?subject=` it is `Query`, and of `//`, `item:` and `javascript:x?` it is `None`.
 pub fn open_of(front: &[u8]) -> Option<OpenPart>
     ensures { result ≡ spec.open_of front.now }
 {
@@ -249,6 +293,8 @@ fn open_of_link(front: &[u8]) -> Option<OpenPart>
         Some(OpenPart::Query)
     } else if is_fixed(front) {
         Some(after_front(OpenPart::NewSegment, front))
+    } else if is_first_segment(front) {
+        Some(as_first(after_front(OpenPart::NewSegment, front)))
     } else {
         None
     }

@@ -29,8 +29,8 @@ pub enum UrlFault {
     NotPlain(usize),
     /// This part is a slot in a scheme, a user, a host or a port, or where these are still open, or
     /// behind a scheme that is none of `http`, `https` and `mailto`, as in `javascript:x?` and a slot.
-    /// They are still open in the first segment of a relative path, as in `items` and a slot, and no
-    /// longer behind its `/`, as in `items/`, `./` or `../u/` and a slot.
+    /// Or it is markup behind a slot in the first segment of a relative path, and a `:` stands in this
+    /// segment, as in `item-`, a slot and `:x`: with some texts that is a scheme.
     NotFixed(usize),
     /// In this part a segment of the path ends, or a slot stands in one, that with some text may
     /// read as `.` or `..`: it has no other bytes than those of dots.

@@ -3,7 +3,7 @@ ghost use Rattle.std.specs.Prelude.{◌≡◌, ℕ, List, Some, map};
 ghost use Rattle.html_urls.specs.SlotFaults.{AnswersSlots, TakesPart};
 ghost use Rattle.html_urls.specs.Slots as spec;
 
-use crate::open_part::{OpenPart, after_markup, after_text, open_of, slot_at};
+use crate::open_part::{OpenPart, after_markup, after_text, ends_scheme, open_of, slot_at};
 use crate::parts::{UrlFault, UrlPart, UrlSlot};
 use crate::segment::may_be_segment;
 use std::alloc::{AllocError, Allocator};
@@ -72,6 +72,9 @@ fn take_part<A: Allocator>(
         (UrlPart::Markup(markup), Some(open_part)) => {
             if !is_plain(markup.as_bytes(), others.is_empty()) {
                 return Err(UrlFault::NotPlain(number));
+            }
+            if ends_scheme(open_part, markup.as_bytes()) {
+                return Err(UrlFault::NotFixed(number));
             }
             match after_markup(open_part, markup.as_bytes()) {
                 Some(after) => Ok(Some(after)),

@@ -65,27 +65,21 @@ writes_page nodes stack made old new sound is utf8 added = record {
   filled = λ found told. has_urls nodes found (fills nodes stack made found sound is utf8 told);
 }
 
--- ---- of steps that stand for the nodes
+-- ---- by what was answered
 
-pub renders : (told again : Unrolled) (old new : List ℕ) (result : Result (Unit {0}) DataFault) → again ≡ told → PutsBehind told old new result →
-    Renders again old new result
-renders told again old new (Ok done) same put = (put.found, same ∙ put.same, put.taken)
-renders told again old new (Err (Value position why)) same stopped = (same ∙ stopped.0, stopped.1)
-renders told again old new (Err Memory) same kept = kept
+pub renders : (told : Unrolled) (old new : List ℕ) (result : Result (Unit {0}) DataFault) → PutsBehind told old new result → Renders told old new result
+renders told old new (Ok done) put = (put.found, put.same, put.taken)
+renders told old new (Err (Value position why)) stopped = stopped
+renders told old new (Err Memory) kept = kept
 
-pub appends_page : (nodes : Nodes Placed) (stack : Stack) (told : Unrolled) (old new : List ℕ) (result : Result (Unit {0}) DataFault) → AreTemplates nodes →
-    unrolled nodes stack ≡ told → PutsBehind told old new result → OnOk result (AddsPage (unrolled nodes stack) old new)
-appends_page nodes stack told old new (Ok done) sound same put =
-    adds_page nodes stack put.found old new sound (same ∙ put.same) put.utf8 put.taken
-appends_page nodes stack told old new (Err fault) sound same stopped = tt
+pub appends_page : (nodes : Nodes Placed) (stack : Stack) (old new : List ℕ) (result : Result (Unit {0}) DataFault) → AreTemplates nodes →
+    PutsBehind (unrolled nodes stack) old new result → OnOk result (AddsPage (unrolled nodes stack) old new)
+appends_page nodes stack old new (Ok done) sound put = adds_page nodes stack put.found old new sound put.same put.utf8 put.taken
+appends_page nodes stack old new (Err fault) sound stopped = tt
 
-pub writes : (told again : Unrolled) (old new : Option (List ℕ)) (result : Result (Unit {0}) (WriteFault DataFault)) → again ≡ told →
-    Writes told old new result → Writes again old new result
-writes told again old new result same written = subst (λ t. Writes t old new result) (sym same) written
-
-pub all_written : (nodes : Nodes Placed) (stack : Stack) (told : Unrolled) (old new : Option (List ℕ)) (result : Result (Unit {0}) (WriteFault DataFault)) →
-    AreTemplates nodes → unrolled nodes stack ≡ told → Writes told old new result →
-    OnOk result ((found : Unrolling) → told ≡ Ok found → AllByRecursion IsUtf8 found.texts) → OnOk result (WritesPage (unrolled nodes stack) old new)
-all_written nodes stack told old new (Ok done) sound same written utf8 =
-    writes_page nodes stack written.0 old new sound (same ∙ written.1) (utf8 written.0 written.1) written.2
-all_written nodes stack told old new (Err fault) sound same written utf8 = tt
+pub all_written : (nodes : Nodes Placed) (stack : Stack) (old new : Option (List ℕ)) (result : Result (Unit {0}) (WriteFault DataFault)) →
+    AreTemplates nodes → Writes (unrolled nodes stack) old new result →
+    OnOk result ((found : Unrolling) → unrolled nodes stack ≡ Ok found → AllByRecursion IsUtf8 found.texts) → OnOk result (WritesPage (unrolled nodes stack) old new)
+all_written nodes stack old new (Ok done) sound written utf8 =
+    writes_page nodes stack written.0 old new sound written.1 (utf8 written.0 written.1) written.2
+all_written nodes stack old new (Err fault) sound written utf8 = tt

@@ -1,17 +1,23 @@
 -- Following nodes, one behind another, and through a section.
 use Rattle.std.proofs.Common.{Bor, Vec, rules, ℕ, zero, suc, ◌≡◌, ◌≢◌, ◌<◌, ◌≤◌, List, [], ◌∷◌, ◌++◌, get_or, length, take, refl, sym, ap, ◌∙◌, subst, arith}
 use Rattle.html_view.specs.Following.{Follows, FollowsBody}
-use Rattle.html_view.specs.Kept.{Before, asked_node, asked_nodes, asked_of, behind, opening_of, placed_node, placed_nodes, placed_of}
+use Rattle.html_view.specs.Kept.{Before, asked_node, asked_nodes, asked_of, behind, named_of, opened_of, opening_of, placed_node, placed_nodes, slot_of}
 use Rattle.html_view.specs.Names.{words_of}
 use Rattle.html_view.specs.Nodes as node
 use Rattle.html_view.specs.Nodes.{Nodes, written, written_opening, written_times}
 use Rattle.html_view.specs.Takes.{Among, AreAmong, GoesOn, GoesPast, LeadsBack, Takes}
-use Rattle.html_view.specs.Ways.{Way}
+use Rattle.html_view.specs.Ways.{Way, first_way}
 use Rattle.html_view.specs.declared.faults.Position.{Position}
 use Rattle.html_view.specs.declared.node.Asked.{Asked}
-use Rattle.html_view.specs.declared.node.Node.{Markup, Node, Section, Slot, the_lemmas}
+use Rattle.html_template.specs.declared.stored.StoredMarkup.{StoredMarkup}
+use Rattle.html_view.specs.declared.node.Node as asked
+use Rattle.html_view.specs.declared.node.Node.{Node}
 use Rattle.html_view.specs.declared.node.Opening.{Opening}
-use Rattle.html_view.specs.declared.node.Placed.{Placed}
+use Rattle.html_view.specs.declared.placed.Named.{Named}
+use Rattle.html_view.specs.declared.placed.Opened.{Opened}
+use Rattle.html_view.specs.declared.placed.Placed.{Placed}
+use Rattle.html_view.specs.declared.placed.PlacedNode as placed
+use Rattle.html_view.specs.declared.placed.PlacedNode.{PlacedNode}
 use Rattle.html_view.specs.declared.node.Times.{Times}
 use Rattle.html_view.specs.declared.node.Times.TheVariants.{Attributes, Each, Given, If, Once, Whether}
 
@@ -37,25 +43,25 @@ pub behind_more : {S : Type 0} (first : List (Before S)) (last : Before S) (rest
 behind_more [] last rest = refl
 behind_more (one ∷ first) last rest = ap one (behind_more first last rest)
 
-placed_more : {A : Type 0} (nodes : List (Node Placed A)) (last : Node Placed A) (rest : Nodes node.Placed) →
+placed_more : {A : Type 0} (nodes : List (PlacedNode A)) (last : PlacedNode A) (rest : Nodes node.Placed) →
     placed_nodes (nodes ++ last ∷ []) rest ≡ placed_nodes nodes (placed_node last rest)
 placed_more [] last rest = refl
 placed_more (first ∷ nodes) last rest = ap (placed_node first) (placed_more nodes last rest)
 
-pub asked_more : {A : Type 0} (nodes : List (Node Asked A)) (i : ℕ) (next : Node Asked A) (rest : Nodes node.Asked) → i < length nodes →
+pub asked_more : {A : Type 0} (nodes : List (Node A)) (i : ℕ) (next : Node A) (rest : Nodes node.Asked) → i < length nodes →
     next ≡ get_or nodes i next → asked_nodes (take (suc i) nodes) rest ≡ asked_nodes (take i nodes) (asked_node next rest)
 asked_more [] i next rest below is = absurd (omega arith)
-asked_more (first ∷ nodes) zero next rest below is = ap (λ (n : Node Asked _). asked_node n rest) (sym is)
+asked_more (first ∷ nodes) zero next rest below is = ap (λ (n : Node _). asked_node n rest) (sym is)
 asked_more (first ∷ nodes) (suc i) next rest below is = ap (asked_node first) (asked_more nodes i next rest (omega arith) is)
 
-pub followed_start : {A : Type 0} (nodes : List (Node Asked A)) (placed : List (Node Placed A)) (ways here : List Way) → placed ≡ [] → here ≡ ways →
+pub followed_start : {A : Type 0} (nodes : List (Node A)) (placed : List (PlacedNode A)) (ways here : List Way) → placed ≡ [] → here ≡ ways →
     Follows (asked_nodes (take 0 nodes)) (placed_nodes placed) ways here
 followed_start {A} [] placed ways here none same =
     subst (λ p. Follows (asked_nodes {A = A} []) (placed_nodes p) ways here) (sym none) (followed_none ways here same)
 followed_start {A} (first ∷ nodes) placed ways here none same =
     subst (λ p. Follows (asked_nodes {A = A} []) (placed_nodes p) ways here) (sym none) (followed_none ways here same)
 
-pub followed_more : {A : Type 0} (nodes all : List (Node Asked A)) (i j : ℕ) (one : Node Asked A) (old new : List (Node Placed A)) (made : Node Placed A)
+pub followed_more : {A : Type 0} (nodes all : List (Node A)) (i j : ℕ) (one : Node A) (old new : List (PlacedNode A)) (made : PlacedNode A)
     (ways here next : List Way) → nodes ≡ all → j ≡ suc i → i < length nodes → one ≡ get_or nodes i one → new ≡ old ++ made ∷ [] →
     Follows (asked_nodes (take i all)) (placed_nodes old) ways here → Follows (asked_node one) (placed_node made) here next →
     Follows (asked_nodes (take j all)) (placed_nodes new) ways next
@@ -74,42 +80,65 @@ followed_more nodes all i j one old new made ways here next whole more below is 
           (before.takes (placed_node made rest) others (after.takes rest others takes));
     })))
 
-pub take_whole : {A : Type 0} (nodes : List (Node Asked A)) (i : ℕ) → length nodes ≤ i → take i nodes ≡ nodes
+pub take_whole : {A : Type 0} (nodes : List (Node A)) (i : ℕ) → length nodes ≤ i → take i nodes ≡ nodes
 take_whole [] zero long = refl
 take_whole [] (suc i) long = refl
 take_whole (first ∷ nodes) zero long = absurd (omega arith)
 take_whole (first ∷ nodes) (suc i) long = ap (λ n. first ∷ n) (take_whole nodes i (omega arith))
 
-pub followed_all : {A : Type 0} (nodes : List (Node Asked A)) (i : ℕ) (placed : List (Node Placed A)) (ways here : List Way) → length nodes ≤ i →
+pub followed_all : {A : Type 0} (nodes : List (Node A)) (i : ℕ) (placed : List (PlacedNode A)) (ways here : List Way) → length nodes ≤ i →
     Follows (asked_nodes (take i nodes)) (placed_nodes placed) ways here → Follows (asked_nodes nodes) (placed_nodes placed) ways here
 followed_all nodes i placed ways here long follows =
     subst (λ n. Follows (asked_nodes n) (placed_nodes placed) ways here) (take_whole nodes i long) follows
 
 -- ---- one node
 
-pub asked_markup : (A : Type 0) (text : Bor (List ℕ)) (p : Position) (rest : Nodes node.Asked) → asked_node {A = A} (Markup text p) rest ≡ node.Markup text.now rest
-asked_markup A text p rest = search (rules, the_lemmas)
+pub asked_markup : (A : Type 0) (text : Bor (List ℕ)) (p : Position) (rest : Nodes node.Asked) →
+    asked_node {A = A} (asked.Markup text p) rest ≡ node.Markup text.now rest
+asked_markup A text p rest = search (rules, asked.the_lemmas)
 
-placed_markup : (A : Type 0) (text : Bor (List ℕ)) (p : Position) (rest : Nodes node.Placed) → placed_node {A = A} (Markup text p) rest ≡ node.Markup text.now rest
-placed_markup A text p rest = search (rules, the_lemmas)
+pub placed_markup : (A : Type 0) (markup : StoredMarkup) (rest : Nodes node.Placed) →
+    placed_node {A = A} (placed.Markup markup) rest ≡ node.Markup markup.text.now rest
+placed_markup A markup rest = search (rules, placed.the_lemmas)
 
-pub asked_slot : (A : Type 0) (slot : Asked) (rest : Nodes node.Asked) → asked_node {A = A} (Slot slot) rest ≡ node.Slot (asked_of slot) rest
-asked_slot A slot rest = search (rules, the_lemmas)
+pub asked_slot : (A : Type 0) (slot : Asked) (rest : Nodes node.Asked) → asked_node {A = A} (asked.Slot slot) rest ≡ node.Slot (asked_of slot) rest
+asked_slot A slot rest = search (rules, asked.the_lemmas)
 
-placed_slot : (A : Type 0) (slot : Placed) (rest : Nodes node.Placed) → placed_node {A = A} (Slot slot) rest ≡ node.Slot (placed_of slot) rest
-placed_slot A slot rest = search (rules, the_lemmas)
+pub placed_slot : {A : Type 0} (slot : Placed A) (rest : Nodes node.Placed) → placed_node (placed.Slot slot) rest ≡ node.Slot (slot_of slot) rest
+placed_slot slot rest = search (rules, placed.the_lemmas)
 
-pub markup_followed : (A : Type 0) (text : Bor (List ℕ)) (p q : Position) (ways next : List Way) →
-    ((way : Way) → Among way ways → GoesOn way text.now next) → Follows (asked_node {A = A} (Markup text p)) (placed_node {A = A} (Markup text q)) ways next
-markup_followed A text p q ways next goes =
-    followed_same (node.Markup text.now) _ (node.Markup text.now) _ ways next (asked_markup A text p) (placed_markup A text q)
+pub asked_fragment : (A : Type 0) (slot : Asked) (rest : Nodes node.Asked) →
+    asked_node {A = A} (asked.Fragment slot) rest ≡ node.Fragment (asked_of slot) rest
+asked_fragment A slot rest = search (rules, asked.the_lemmas)
+
+pub placed_fragment : {A : Type 0} (slot : Named A) (rest : Nodes node.Placed) →
+    placed_node (placed.Fragment slot) rest ≡ node.Fragment (named_of slot) rest
+placed_fragment slot rest = search (rules, placed.the_lemmas)
+
+pub markup_followed : (A : Type 0) (text : Bor (List ℕ)) (p : Position) (markup : StoredMarkup) (ways next : List Way) → markup.text.now ≡ text.now →
+    ((way : Way) → Among way ways → GoesOn way text.now next) →
+    Follows (asked_node {A = A} (asked.Markup text p)) (placed_node {A = A} (placed.Markup markup)) ways next
+markup_followed A text p markup ways next is goes =
+    followed_same (node.Markup text.now) _ (node.Markup text.now) _ ways next (asked_markup A text p)
+    (λ rest. placed_markup A markup rest ∙ ap (λ bytes. node.Markup bytes rest) is)
     (record { same = λ rest. refl; takes = λ rest others takes. (next, goes, takes) })
 
-pub slot_followed : (A : Type 0) (slot : Placed) (ways next : List Way) → ((way : Way) → Among way ways → GoesPast way (placed_of slot) next) →
-    Follows (asked_node {A = A} (Slot slot.asked)) (placed_node {A = A} (Slot slot)) ways next
-slot_followed A slot ways next goes =
-    followed_same (node.Slot (asked_of slot.asked)) _ (node.Slot (placed_of slot)) _ ways next (asked_slot A slot.asked) (placed_slot A slot)
-    (record { same = λ rest. refl; takes = λ rest others takes. (next, goes, takes) })
+pub slot_followed : {A : Type 0} (slot : Asked) (made : Placed A) (ways next : List Way) → named_of made.asked ≡ asked_of slot →
+    ((way : Way) → Among way ways → GoesPast way (slot_of made) next) →
+    Follows (asked_node {A = A} (asked.Slot slot)) (placed_node (placed.Slot made)) ways next
+slot_followed {A} slot made ways next is goes =
+    followed_same (node.Slot (asked_of slot)) _ (node.Slot (slot_of made)) _ ways next (asked_slot A slot) (placed_slot made)
+    (record { same = λ rest. ap (λ a. node.Slot a (written rest)) is; takes = λ rest others takes. (next, goes, takes) })
+
+pub fragment_followed : {A : Type 0} (slot : Asked) (made : Named A) (ways : List Way) → named_of made ≡ asked_of slot →
+    ((way : Way) → Among way ways → way ≡ first_way) →
+    Follows (asked_node {A = A} (asked.Fragment slot)) (placed_node (placed.Fragment made)) ways ways
+fragment_followed {A} slot made ways is first =
+    followed_same (node.Fragment (asked_of slot)) _ (node.Fragment (named_of made)) _ ways ways (asked_fragment A slot) (placed_fragment made)
+    (record {
+      same = λ rest. ap (λ a. node.Fragment a (written rest)) is;
+      takes = λ rest others takes. (ways, λ way among. (first way among, among), takes);
+    })
 
 -- ---- a section
 
@@ -145,32 +174,31 @@ followed_section opening made body otherwise placed other ways out away next is 
   );
 }
 
-pub asked_section : {A : Type 0} (opening : Opening) (body otherwise : Vec (Node Asked A) A) (rest : Nodes node.Asked) →
-    asked_node (Section opening body otherwise) rest
+pub asked_section : {A : Type 0} (opening : Opening) (body otherwise : Vec (Node A) A) (rest : Nodes node.Asked) →
+    asked_node (asked.Section opening body otherwise) rest
     ≡ node.Section (written_opening (opening_of opening)) (asked_nodes body.items node.End) (asked_nodes otherwise.items node.End) rest
-asked_section opening body otherwise rest = search (rules, the_lemmas)
+asked_section opening body otherwise rest = search (rules, asked.the_lemmas)
 
-pub placed_section : {A : Type 0} (opening : Opening) (body otherwise : Vec (Node Placed A) A) (rest : Nodes node.Placed) →
-    placed_node (Section opening body otherwise) rest
-    ≡ node.Section (opening_of opening) (placed_nodes body.items node.End) (placed_nodes otherwise.items node.End) rest
-placed_section opening body otherwise rest = search (rules, the_lemmas)
+pub placed_section : {A : Type 0} (opened : Opened A) (body otherwise : Vec (PlacedNode A) A) (rest : Nodes node.Placed) →
+    placed_node (placed.Section opened body otherwise) rest
+    ≡ node.Section (opened_of opened) (placed_nodes body.items node.End) (placed_nodes otherwise.items node.End) rest
+placed_section opened body otherwise rest = search (rules, placed.the_lemmas)
 
-times_written : (opening made : Opening) → made.name ≡ opening.name → made.position ≡ opening.position →
-    written_times made.times ≡ written_times opening.times → written_opening (opening_of made) ≡ written_opening (opening_of opening)
-times_written opening made name position times =
-    ap (λ n. record { name = words_of n.now; position = made.position; times = written_times made.times }) name
-    ∙ ap (λ p. record { name = words_of opening.name.now; position = p; times = written_times made.times }) position
+times_written : {A : Type 0} (opening : Opening) (made : Opened A) → named_of made.tag ≡ record { name = words_of opening.name.now; position = opening.position } →
+    written_times made.times ≡ written_times opening.times → written_opening (opened_of made) ≡ written_opening (opening_of opening)
+times_written opening made tag times =
+    ap (λ (t : node.Asked). record { name = t.name; position = t.position; times = written_times made.times }) tag
     ∙ ap (λ t. record { name = words_of opening.name.now; position = opening.position; times = t }) times
 
-pub section_followed : {A : Type 0} (opening made : Opening) (body otherwise : Vec (Node Asked A) A) (placed other : Vec (Node Placed A) A)
-    (ways out away next : List Way) → made.name ≡ opening.name → made.position ≡ opening.position → written_times made.times ≡ written_times opening.times →
-    FollowsBody (asked_nodes body.items) (placed_nodes placed.items) made.times ways out →
+pub section_followed : {A : Type 0} (opening : Opening) (made : Opened A) (body otherwise : Vec (Node A) A) (inner other : Vec (PlacedNode A) A)
+    (ways out away next : List Way) → named_of made.tag ≡ record { name = words_of opening.name.now; position = opening.position } →
+    written_times made.times ≡ written_times opening.times → FollowsBody (asked_nodes body.items) (placed_nodes inner.items) made.times ways out →
     Follows (asked_nodes otherwise.items) (placed_nodes other.items) ways away → AreAmong out next → AreAmong away next →
-    Follows (asked_node (Section opening body otherwise)) (placed_node (Section made placed other)) ways next
-section_followed opening made body otherwise placed other ways out away next name position times passes follows out_next away_next =
-    followed_same _ _ _ _ ways next (asked_section opening body otherwise) (placed_section made placed other)
-    (followed_section (opening_of opening) (opening_of made) (asked_nodes body.items) (asked_nodes otherwise.items) (placed_nodes placed.items)
-    (placed_nodes other.items) ways out away next (times_written opening made name position times) passes follows out_next away_next)
+    Follows (asked_node (asked.Section opening body otherwise)) (placed_node (placed.Section made inner other)) ways next
+section_followed opening made body otherwise inner other ways out away next tag times passes follows out_next away_next =
+    followed_same _ _ _ _ ways next (asked_section opening body otherwise) (placed_section made inner other)
+    (followed_section (opening_of opening) (opened_of made) (asked_nodes body.items) (asked_nodes otherwise.items) (placed_nodes inner.items)
+    (placed_nodes other.items) ways out away next (times_written opening made tag times) passes follows out_next away_next)
 
 -- ---- bodies
 

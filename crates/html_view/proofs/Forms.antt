@@ -12,11 +12,11 @@ use Rattle.html_template.proofs.Pieces.{sound_told}
 use Rattle.html_template.proofs.Structure.{structure_of_page}
 use Rattle.html_view.specs.Attributes.{refused_for}
 use Rattle.html_view.specs.Data as data_of
-use Rattle.html_view.specs.Data.{Datum, Fields, Flag, ItemList, Items, Record, Stack, Text, around, bare, field, field_of, filled_stacks, first_of, first_value, given_stacks, has_items, innermost, inside, is_filled, item, item_stacks, list_stacks, look_up, member_of, no_items, once, stacks, within}
+use Rattle.html_view.specs.Data.{Datum, Fields, Flag, Fragment, ItemList, Items, Record, Stack, Text, around, bare, field, field_of, filled_stacks, first_of, first_value, given_stacks, has_items, innermost, inside, is_filled, item, item_stacks, list_stacks, look_up, member_of, no_items, once, stacks, within}
 use Rattle.html_view.specs.Forms.{SameFields, SameForm, SameItems}
 use Rattle.html_view.specs.Nodes as node
-use Rattle.html_view.specs.Nodes.{Nodes, Opening, Placed, Words}
-use Rattle.html_view.specs.Rendered.{Unrolled, Unrolling, no_unrolling, put_front, put_markup, put_text, rendered, text_for, unrolled, unrolled_each, unrolled_section, unrolled_times}
+use Rattle.html_view.specs.Nodes.{Asked, Nodes, Opening, Placed, Words}
+use Rattle.html_view.specs.Rendered.{Unrolled, Unrolling, fragment_for, no_unrolling, put_front, put_markup, put_text, rendered, text_for, unrolled, unrolled_each, unrolled_section, unrolled_times}
 use Rattle.html_view.specs.Unrolled.{AreTemplates, joined}
 use Rattle.html_view.specs.Ways.{on_ok}
 use Rattle.html_view.specs.declared.faults.ValueFault.{ValueFault}
@@ -59,6 +59,7 @@ same_member : (word : List ℕ) (value other : Datum) → SameForm value other �
 same_member word data_of.Nothing data_of.Nothing same = tt
 same_member word (Text text) (Text other) same = tt
 same_member word (Flag flag) (Flag other) same = tt
+same_member word (Fragment markup whole) (Fragment other is) same = tt
 same_member word (Items items) (Items others) same = tt
 same_member word (Record fields) (Record others) same = same_field word fields others same
 same_member word value other same = absurd same
@@ -154,6 +155,9 @@ same_filled times (Some (Text text)) (Some (Text other)) stack others same aroun
     same_once (is_filled text) (is_filled other) (inside times (Text text) stack) (inside times (Text other) others) same
     (same_inside times (Text text) (Text other) stack others same around)
 same_filled times (Some (Flag flag)) (Some (Flag other)) stack others same around = same_once flag other stack others same around
+same_filled times (Some (Fragment markup whole)) (Some (Fragment other is)) stack others same around =
+    same_once (is_filled markup) (is_filled other) (inside times (Fragment markup whole) stack) (inside times (Fragment other is) others)
+    (ap is_filled same) (same_inside times (Fragment markup whole) (Fragment other is) stack others same around)
 same_filled times (Some (Items items)) (Some (Items more)) stack others same around = same_list times items more stack others same around
 same_filled times (Some (Record fields)) (Some (Record more)) stack others same around =
     (same_inside times (Record fields) (Record more) stack others same around, tt)
@@ -165,6 +169,7 @@ same_given None None stack others same around = tt
 same_given (Some data_of.Nothing) (Some data_of.Nothing) stack others same around = tt
 same_given (Some (Text text)) (Some (Text other)) stack others same around = ((same, around), tt)
 same_given (Some (Flag flag)) (Some (Flag other)) stack others same around = ((same, around), tt)
+same_given (Some (Fragment markup whole)) (Some (Fragment other is)) stack others same around = ((same, around), tt)
 same_given (Some (Items items)) (Some (Items more)) stack others same around = ((same, around), tt)
 same_given (Some (Record fields)) (Some (Record more)) stack others same around = ((same, around), tt)
 same_given a b stack others same around = absurd same
@@ -251,6 +256,20 @@ same_section opening None None body otherwise again each else_branch stacks othe
 same_section opening (Some why) refused body otherwise again each else_branch stacks others same = λ first second told_first told_second. absurd (cc)
 same_section opening None (Some why) body otherwise again each else_branch stacks others same = λ first second told_first told_second. absurd (cc)
 
+-- the same fragment
+same_fragment : (slot : Asked) (a b : Option Datum) (one two : List ℕ) → SameOption a b → fragment_for slot a ≡ Ok one → fragment_for slot b ≡ Ok two → one ≡ two
+same_fragment slot (Some (Fragment markup whole)) (Some (Fragment other is)) one two same told again =
+    let first : markup ≡ one = cc in
+    let second : other ≡ two = cc in
+    sym first ∙ same ∙ second
+same_fragment slot (Some (Fragment markup whole)) b one two same told again = absurd same
+same_fragment slot None b one two same told again = absurd (cc)
+same_fragment slot (Some data_of.Nothing) b one two same told again = absurd (cc)
+same_fragment slot (Some (Text text)) b one two same told again = absurd (cc)
+same_fragment slot (Some (Flag flag)) b one two same told again = absurd (cc)
+same_fragment slot (Some (Items items)) b one two same told again = absurd (cc)
+same_fragment slot (Some (Record fields)) b one two same told again = absurd (cc)
+
 pub same_pieces : (nodes : Nodes Placed) (stack others : Stack) → SameStack stack others → Agree (unrolled nodes stack) (unrolled nodes others)
 same_pieces node.End stack others same first second told_first told_second = same_none first second told_first told_second
 same_pieces (node.Markup bytes rest) stack others same first second told_first told_second =
@@ -274,6 +293,20 @@ same_pieces (node.Slot slot rest) stack others same first second told_first told
     let is_two : record { pieces = Slot slot.place slot.kind ∷ d.value.pieces; texts = b.value ∷ d.value.texts } ≡ second = cc in
     sym (ap (λ (u : Unrolling). u.pieces) is_one)
     ∙ ap (λ x. Slot slot.place slot.kind ∷ x) (same_pieces rest stack others same c.value d.value c.is d.is)
+    ∙ ap (λ (u : Unrolling). u.pieces) is_two
+same_pieces (node.Fragment slot rest) stack others same first second told_first told_second =
+    let a = found_in (fragment_for slot (look_up slot.name stack)) (λ markup. on_ok (unrolled rest stack) (put_markup markup)) first told_first in
+    let b = found_in (fragment_for slot (look_up slot.name others)) (λ markup. on_ok (unrolled rest others) (put_markup markup)) second told_second in
+    let c = found_in (unrolled rest stack) (put_markup a.value) first a.goes in
+    let d = found_in (unrolled rest others) (put_markup b.value) second b.goes in
+    let one : as_told (record { pieces = Markup a.value ∷ c.value.pieces; texts = c.value.texts }) ≡ Ok first = c.goes in
+    let two : as_told (record { pieces = Markup b.value ∷ d.value.pieces; texts = d.value.texts }) ≡ Ok second = d.goes in
+    let is_one : record { pieces = Markup a.value ∷ c.value.pieces; texts = c.value.texts } ≡ first = cc in
+    let is_two : record { pieces = Markup b.value ∷ d.value.pieces; texts = d.value.texts } ≡ second = cc in
+    let alike = same_fragment slot (look_up slot.name stack) (look_up slot.name others) a.value b.value (same_look_up slot.name stack others same) a.is b.is in
+    sym (ap (λ (u : Unrolling). u.pieces) is_one)
+    ∙ ap (λ markup. Markup markup ∷ c.value.pieces) alike
+    ∙ ap (λ x. Markup b.value ∷ x) (same_pieces rest stack others same c.value d.value c.is d.is)
     ∙ ap (λ (u : Unrolling). u.pieces) is_two
 same_pieces (node.Section opening body otherwise rest) stack others same first second told_first told_second =
     let here = stacks opening.times (look_up opening.name stack) stack in

@@ -12,7 +12,7 @@ pub mod Unrolling
 pub mod CutNames
 pub mod Putting
 pub mod Sections
-pub mod StepsOf
+pub mod AskedNames
 pub mod Forms
 pub mod Pages
 pub mod DataPages

@@ -8,8 +8,8 @@ use Rattle.html_template.proofs.Joined.{joined_page, joined_utf8}
 use Rattle.html_view.specs.Putting.{Leads, Put, PutBeginning, PutFront, Puts, PutsFront, both, markup_alone, text_alone}
 use Rattle.html_view.specs.Data.{Datum, ItemList, Stack, item, look_up, no_items}
 use Rattle.html_view.specs.Nodes as node
-use Rattle.html_view.specs.Nodes.{Nodes, Opening, Placed}
-use Rattle.html_view.specs.Rendered.{Unrolled, Unrolling, no_unrolling, put_front, put_markup, put_text, rendered, text_for, unrolled, unrolled_each, unrolled_section, unrolled_times}
+use Rattle.html_view.specs.Nodes.{Asked, Nodes, Opening, Placed}
+use Rattle.html_view.specs.Rendered.{Unrolled, Unrolling, fragment_for, no_unrolling, put_front, put_markup, put_text, rendered, text_for, unrolled, unrolled_each, unrolled_section, unrolled_times}
 use Rattle.html_view.specs.Unrolled.{chunk_of}
 use Rattle.html_view.specs.Ways.{on_ok}
 use Rattle.html_view.specs.declared.faults.ValueFault.{ValueFault}
@@ -50,6 +50,12 @@ text_put slot stack text old new told utf8 taken = record {
   taken = taken ∙ ap (λ x. old ++ x) (sym (append-nil (written slot.place slot.kind text)));
 }
 
+pub fragment_put : (slot : Asked) (stack : Stack) (markup : List ℕ) (old new : List ℕ) → fragment_for slot (look_up slot.name stack) ≡ Ok markup →
+    new ≡ old ++ markup → PutFront (λ rest. unrolled (node.Fragment slot rest) stack) stack old new
+fragment_put slot stack markup old new told taken =
+    let put = markup_put markup stack old new taken in
+    record { front = put.front; goes = λ rest. rw told (put.goes rest); leads = put.leads; utf8 = put.utf8; taken = put.taken }
+
 -- ---- a beginning of what comes first is one of the page
 
 pub markup_begun : (bytes : List ℕ) (stack : Stack) (old new : List ℕ) → TookBeginning old new bytes → (rest : Nodes Placed) →
@@ -73,6 +79,14 @@ text_begun slot stack text old new is took rest found told =
     subst (λ f. TookBeginning old new (rendered f)) same
     (TookBeginning-front old new (written slot.place slot.kind one.value) (page more.value.pieces more.value.texts)
     (subst (λ t. TookBeginning old new (written slot.place slot.kind t)) alike took))
+
+pub fragment_begun : (slot : Asked) (stack : Stack) (markup : List ℕ) (old new : List ℕ) → fragment_for slot (look_up slot.name stack) ≡ Ok markup →
+    TookBeginning old new markup → (rest : Nodes Placed) → PutBeginning (unrolled (node.Fragment slot rest) stack) old new
+fragment_begun slot stack markup old new is took rest found told =
+    let one = found_in (fragment_for slot (look_up slot.name stack)) (λ bytes. on_ok (unrolled rest stack) (put_markup bytes)) found told in
+    let first : fragment_for slot (look_up slot.name stack) ≡ Ok one.value = one.is in
+    let alike : markup ≡ one.value = cc in
+    markup_begun one.value stack old new (subst (TookBeginning old new) alike took) rest found one.goes
 
 -- of two fronts, where the first is begun
 both_begun : (old new : List ℕ) (first second found : Unrolling) → Fill first.pieces first.texts → put_front first second ≡ Ok found →

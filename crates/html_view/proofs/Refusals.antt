@@ -20,7 +20,7 @@ use Rattle.html_tokenizer.specs.Tokenizer.States.{Tokenizer, refused}
 use Rattle.html_tokenizer.specs.Tokenizer.Tokenization.{state_after}
 use Rattle.html_tokenizer.specs.UrlValues.{after_last, begins_value, is_url}
 use Rattle.html_tokenizer.specs.declared.reader.Standing.{Standing}
-use Rattle.html_tokenizer.specs.declared.reader.Standing.TheVariants.{Stands, InUrl, InLink, InScript, Nowhere, Barred}
+use Rattle.html_tokenizer.specs.declared.reader.Standing.TheVariants.{Stands, InUrl, InLink, InScript, InJson, Nowhere, Barred}
 use Rattle.html_tokenizer.specs.declared.slot_place.SlotPlace.{SlotPlace}
 use Rattle.html_tokenizer.proofs.Passing.{state_after-append}
 use Rattle.html_tokenizer.proofs.UrlValues.Following.{same_place}
@@ -311,6 +311,7 @@ slot_same way t url markup (InLink p) state gone is =
     (last_same (begins_value p) gone.front way.markup (is_marked p way t url markup state gone (ap (in_url p) is ∙ same_place p)))
 slot_same way t url markup (Stands p) state gone is = refl
 slot_same way t url markup InScript state gone is = refl
+slot_same way t url markup InJson state gone is = refl
 slot_same way t url markup Barred state gone is = refl
 slot_same way t url markup Nowhere state gone is = refl
 

@@ -8,17 +8,17 @@ use Rattle.html_view.specs.Frames.{BeginsWith, Leads, frame_of, once_stood, work
 use Rattle.html_view.specs.Kept.{asked_node, asked_nodes, asked_of, opening_of}
 use Rattle.html_view.specs.Nodes as node
 use Rattle.html_view.specs.Nodes.{Asked, Nodes, Opening, written_opening, written_times}
-use Rattle.html_view.specs.Reached.{RefusedWith, Reaches, UnfinishedWith, at_first, behind_body, left_out, past_end, past_markup, past_slot, told_with, within}
+use Rattle.html_view.specs.Reached.{RefusedWith, Reaches, UnfinishedWith, at_first, behind_body, left_out, past_end, past_fragment, past_markup, past_slot, told_with, within}
 use Rattle.html_view.specs.Ways.{EndsWithin, Way, first_way, past_slot as after, turned, way_behind, way_slot}
 use Rattle.html_view.specs.declared.faults.Position.{Position}
 use Rattle.html_view.specs.declared.node.Asked as asked
-use Rattle.html_view.specs.declared.node.Node.{Markup, Node, Section, Slot}
+use Rattle.html_view.specs.declared.node.Node.{Fragment, Markup, Node, Section, Slot}
 use Rattle.html_view.specs.declared.node.Opening as code
 use Rattle.html_view.specs.declared.node.Times.{Times}
 use Rattle.html_view.specs.declared.node.Times.TheVariants as times
 use Rattle.html_view.specs.declared.node.Times.TheVariants.{Each, If, Once, Whether}
 use Rattle.html_view.specs.declared.retrace.Frame.{Frame}
-use Rattle.html_view.proofs.Followed.{asked_markup, asked_section, asked_slot, take_whole}
+use Rattle.html_view.proofs.Followed.{asked_fragment, asked_markup, asked_section, asked_slot, take_whole}
 use Rattle.html_view.specs.Following.{MovedPast}
 use Rattle.html_view.proofs.Refusals.{ReadsParts, before_nothing, end_shown, markup_shown, reads_first, reads_more, reads_past, slot_shown}
 
@@ -28,7 +28,7 @@ pub work_more : {A : Type 0} (old : List (Frame A)) (last : Frame A) → work_of
 work_more old last = ap (map frame_of) (reverse-append old (last ∷ []))
 
 -- the first of the nodes, before those that follow it
-pub front_is : {A : Type 0} (nodes : List (Node asked.Asked A)) (one : Node asked.Asked A) → 1 ≤ length nodes → one ≡ get_or nodes 0 one →
+pub front_is : {A : Type 0} (nodes : List (Node A)) (one : Node A) → 1 ≤ length nodes → one ≡ get_or nodes 0 one →
     asked_nodes nodes node.End ≡ asked_node one (asked_nodes (take (length nodes - 1) (drop 1 nodes)) node.End)
 front_is [] one some is = absurd (omega arith)
 front_is (first ∷ nodes) one some is =
@@ -38,7 +38,7 @@ front_is (first ∷ nodes) one some is =
 pub no_front : {A : Type 0} (frame : Frame A) → length frame.nodes.now < 1 → frame_of frame ≡ node.End
 no_front frame few = go frame.again frame.nodes.now few
   where
-    go : {A : Type 0} (again : Option ℕ) (nodes : List (Node asked.Asked A)) → length nodes < 1 → once_stood again (asked_nodes nodes node.End) ≡ node.End
+    go : {A : Type 0} (again : Option ℕ) (nodes : List (Node A)) → length nodes < 1 → once_stood again (asked_nodes nodes node.End) ≡ node.End
     go None [] few = refl
     go (Some number) [] few = refl
     go again (first ∷ nodes) few = absurd (omega arith)
@@ -51,7 +51,11 @@ once_slot : (again : Option ℕ) (slot : Asked) (rest : Nodes Asked) → once_st
 once_slot None slot rest = refl
 once_slot (Some number) slot rest = refl
 
-pub frame_markup : {A : Type 0} (frame : Frame A) (one : Node asked.Asked A) (text : Bor (List ℕ)) (position : Position) → 1 ≤ length frame.nodes.now →
+once_fragment : (again : Option ℕ) (slot : Asked) (rest : Nodes Asked) → once_stood again (node.Fragment slot rest) ≡ node.Fragment slot rest
+once_fragment None slot rest = refl
+once_fragment (Some number) slot rest = refl
+
+pub frame_markup : {A : Type 0} (frame : Frame A) (one : Node A) (text : Bor (List ℕ)) (position : Position) → 1 ≤ length frame.nodes.now →
     one ≡ get_or frame.nodes.now 0 one → one ≡ Markup text position →
     frame_of frame ≡ node.Markup text.now (asked_nodes (take (length frame.nodes.now - 1) (drop 1 frame.nodes.now)) node.End)
 frame_markup {A} frame one text position some is markup =
@@ -59,7 +63,7 @@ frame_markup {A} frame one text position some is markup =
     ap (once_stood frame.again) (front_is frame.nodes.now one some is ∙ ap (λ n. asked_node n rest) markup ∙ asked_markup A text position rest)
     ∙ once_markup frame.again text.now rest
 
-pub frame_slot : {A : Type 0} (frame : Frame A) (one : Node asked.Asked A) (slot : asked.Asked) → 1 ≤ length frame.nodes.now →
+pub frame_slot : {A : Type 0} (frame : Frame A) (one : Node A) (slot : asked.Asked) → 1 ≤ length frame.nodes.now →
     one ≡ get_or frame.nodes.now 0 one → one ≡ Slot slot →
     frame_of frame ≡ node.Slot (asked_of slot) (asked_nodes (take (length frame.nodes.now - 1) (drop 1 frame.nodes.now)) node.End)
 frame_slot {A} frame one slot some is there =
@@ -67,8 +71,16 @@ frame_slot {A} frame one slot some is there =
     ap (once_stood frame.again) (front_is frame.nodes.now one some is ∙ ap (λ n. asked_node n rest) there ∙ asked_slot A slot rest)
     ∙ once_slot frame.again (asked_of slot) rest
 
-pub begins_section : {A : Type 0} (nodes : List (Node asked.Asked A)) (one : Node asked.Asked A) (opening : code.Opening)
-    (body otherwise : Vec (Node asked.Asked A) A) → 1 ≤ length nodes → one ≡ get_or nodes 0 one → one ≡ Section opening body otherwise →
+pub frame_fragment : {A : Type 0} (frame : Frame A) (one : Node A) (slot : asked.Asked) → 1 ≤ length frame.nodes.now →
+    one ≡ get_or frame.nodes.now 0 one → one ≡ Fragment slot →
+    frame_of frame ≡ node.Fragment (asked_of slot) (asked_nodes (take (length frame.nodes.now - 1) (drop 1 frame.nodes.now)) node.End)
+frame_fragment {A} frame one slot some is there =
+    let rest : Nodes Asked = asked_nodes (take (length frame.nodes.now - 1) (drop 1 frame.nodes.now)) node.End in
+    ap (once_stood frame.again) (front_is frame.nodes.now one some is ∙ ap (λ n. asked_node n rest) there ∙ asked_fragment A slot rest)
+    ∙ once_fragment frame.again (asked_of slot) rest
+
+pub begins_section : {A : Type 0} (nodes : List (Node A)) (one : Node A) (opening : code.Opening)
+    (body otherwise : Vec (Node A) A) → 1 ≤ length nodes → one ≡ get_or nodes 0 one → one ≡ Section opening body otherwise →
     BeginsWith nodes opening (asked_nodes body.items node.End) (asked_nodes otherwise.items node.End) (take (length nodes - 1) (drop 1 nodes))
 begins_section nodes one opening body otherwise some is there =
     let rest : Nodes Asked = asked_nodes (take (length nodes - 1) (drop 1 nodes)) node.End in
@@ -102,7 +114,7 @@ told_written times.Given standing position = refl
 told_written times.Attributes standing position = refl
 
 -- of a section that the code keeps, whose body may be repeated
-pub led_again : {A : Type 0} (frame : Frame A) (opening : code.Opening) (number : ℕ) (body otherwise : Nodes Asked) (rest : List (Node asked.Asked A))
+pub led_again : {A : Type 0} (frame : Frame A) (opening : code.Opening) (number : ℕ) (body otherwise : Nodes Asked) (rest : List (Node A))
     (standing new_standing : List Position) (old new : List (Nodes Asked)) → BeginsWith frame.nodes.now opening body otherwise rest →
     written_times opening.times ≡ Each → new_standing ≡ told_with opening.times standing opening.position →
     new ≡ body ∷ once_stood (Some number) (asked_nodes frame.nodes.now node.End) ∷ old → Leads standing (frame_of frame ∷ old) new_standing new
@@ -115,7 +127,7 @@ led_again frame opening number body otherwise rest standing new_standing old new
     (ap (once_stood (Some number)) begins ∙ sym (ap (λ t. behind_body t made body after) each)))
 
 -- and of one whose body stands once
-pub led_once : {A : Type 0} (frame : Frame A) (opening : code.Opening) (body otherwise : Nodes Asked) (rest : List (Node asked.Asked A))
+pub led_once : {A : Type 0} (frame : Frame A) (opening : code.Opening) (body otherwise : Nodes Asked) (rest : List (Node A))
     (standing new_standing : List Position) (old new : List (Nodes Asked)) → BeginsWith frame.nodes.now opening body otherwise rest →
     ((made : Opening) (b r : Nodes Asked) → behind_body (written_times opening.times) made b r ≡ r) →
     new_standing ≡ told_with opening.times standing opening.position → new ≡ body ∷ asked_nodes rest node.End ∷ old →
@@ -160,6 +172,11 @@ traced_popped nodes way standing old new frame next is here traced =
 pub traced_end : (nodes : Nodes Asked) (way : Way) (standing : List Position) (work : List (Nodes Asked)) → Traced nodes way standing (node.End ∷ work) →
     Traced nodes way standing work
 traced_end nodes way standing work traced = record { parts = traced.parts; markup = traced.markup; reached = past_end traced.reached; reads = traced.reads }
+
+pub traced_fragment : (nodes : Nodes Asked) (way : Way) (standing : List Position) (slot : Asked) (rest : Nodes Asked) (work : List (Nodes Asked)) →
+    Traced nodes way standing (node.Fragment slot rest ∷ work) → Traced nodes way standing (rest ∷ work)
+traced_fragment nodes way standing slot rest work traced =
+    record { parts = traced.parts; markup = traced.markup; reached = past_fragment traced.reached; reads = traced.reads }
 
 pub traced_led : (nodes : Nodes Asked) (way : Way) (standing new_standing : List Position) (old new : List (Nodes Asked)) → Leads standing old new_standing new →
     Traced nodes way standing old → Traced nodes way new_standing new

@@ -2,17 +2,18 @@
 use Rattle.std.proofs.Common.{ℕ, ◌≡◌, List, [], ◌∷◌, ◌++◌, Ok, refl, sym, subst, ⊎_elim}
 use Rattle.std.specs.List.{AllByRecursion}
 use Rattle.html_template.specs.OpenUrls.{before}
+use Rattle.html_template.specs.Structure.{IsWhole}
 use Rattle.html_template.specs.Templates.{Chunk, Markup, Slot}
 use Rattle.html_template.specs.declared.open_url.PlacedSlot.{PlacedSlot}
 use Rattle.html_template.specs.declared.parts.SlotKind.{SlotKind}
 use Rattle.html_tokenizer.specs.declared.slot_place.SlotPlace.{SlotPlace}
 use Rattle.html_view.specs.Nodes as node
 use Rattle.html_view.specs.Nodes.{Nodes, Placed}
-use Rattle.html_view.specs.Takes.{Among, AreAmong, GoesOn, GoesPast, LeadsBack, Takes}
+use Rattle.html_view.specs.Takes.{Among, AreAmong, GoesOn, GoesOver, GoesPast, LeadsBack, Takes}
 use Rattle.html_view.specs.Unrolled.{Stands, Unrolls, all_of}
 use Rattle.html_view.specs.declared.node.Times.{Times}
 use Rattle.html_view.specs.declared.node.Times.TheVariants.{Attributes, Each, Given, If, Once, Whether}
-use Rattle.html_view.specs.Ways.{Way, past_slot, way_behind, way_slot}
+use Rattle.html_view.specs.Ways.{Way, first_way, past_slot, way_behind, way_slot}
 
 -- one way through a slot at this place
 pub record IsPast (way : Way) (p : SlotPlace) (kind : SlotKind) (next : Way) : Type 0 where
@@ -77,6 +78,10 @@ body_runs Whether body head out runs back pieces stands way among = runs pieces 
 body_runs Given body head out runs back pieces stands way among = runs pieces stands way among
 body_runs Attributes body head out runs back pieces stands way among = runs pieces stands way among
 
+-- a fragment leads back to where a page begins
+whole_goes : (markup : List ℕ) → IsWhole markup → way_behind first_way markup ≡ Ok first_way
+whole_goes markup whole = rw whole refl
+
 -- each unrolling of nodes leads a way where the nodes do
 pub leads : (nodes : Nodes Placed) (ways others : List Way) → Takes ways nodes others → (pieces : List Chunk) → Unrolls nodes pieces →
     (way : Way) → Among way ways → RunsAmong way pieces others
@@ -93,6 +98,11 @@ leads (node.Slot slot rest) ways others takes pieces unrolls way among =
     let past : IsPast way slot.place slot.kind next =
     record { found = here.found; stands = here.stands; guess = here.guess; place = here.place; kind_is = here.kind; goes = refl } in
     record { last = more.last; runs = subst (λ all. Runs way all more.last) (sym unrolls.1) (next, past, more.runs); among = more.among }
+leads (node.Fragment slot rest) ways others takes pieces unrolls way among =
+    let here : GoesOver way takes.0 = takes.1 way among in
+    let more = leads rest takes.0 others takes.2 unrolls.1 unrolls.4 way here.1 in
+    let goes : way_behind way unrolls.0 ≡ Ok way = subst (λ w. way_behind w unrolls.0 ≡ Ok w) (sym here.0) (whole_goes unrolls.0 unrolls.2) in
+    record { last = more.last; runs = subst (λ all. Runs way all more.last) (sym unrolls.3) (way, goes, more.runs); among = more.among }
 leads (node.Section opening body otherwise rest) ways others takes pieces unrolls way among =
     then_runs way unrolls.0 unrolls.1 pieces others takes.2 unrolls.2
     (⊎_elim

@@ -1,14 +1,12 @@
 -- Steps of reading a source.
-use Rattle.std.proofs.Common.{Bor, Vec, rules, ℕ, zero, suc, ◌≡◌, ◌≢◌, ◌+◌, ◌<◌, true, false, ◌==◌, List, [], ◌∷◌, ◌++◌, Some, Result, Ok, Err, OnOk, get_or, length, take, refl, sym, ap, ◌∙◌, append_assoc, add-one, arith}
+use Rattle.std.proofs.Common.{Vec, ℕ, zero, suc, ◌≡◌, ◌≢◌, ◌+◌, ◌<◌, true, false, ◌==◌, List, [], ◌∷◌, ◌++◌, Some, Result, Ok, Err, OnOk, get_or, length, take, refl, sym, ap, ◌∙◌, append_assoc, add-one, arith}
 use Rattle.std.proofs.lemmas.Bool.{eqb-true}
-use Rattle.html_view.specs.Kept.{Before, asked_node, asked_nodes, asked_of, behind, opening_of}
+use Rattle.html_view.specs.Kept.{asked_node, asked_nodes, opening_of}
 use Rattle.html_view.specs.Names.{words_of}
 use Rattle.html_view.specs.Nodes as node
 use Rattle.html_view.specs.Nodes.{Nodes, written_opening, written_times}
 use Rattle.html_view.specs.Reading.{all_marked, marked, opened, sectioned, spaces_of, times_of, with_space}
-use Rattle.html_view.specs.declared.faults.Position.{Position}
-use Rattle.html_view.specs.declared.node.Asked.{Asked}
-use Rattle.html_view.specs.declared.node.Node.{Markup, Node, Section, Slot, the_lemmas}
+use Rattle.html_view.specs.declared.node.Node.{Markup, Node, Section}
 use Rattle.html_view.specs.declared.node.Opening.{Opening}
 use Rattle.html_view.specs.declared.node.Times.{Times}
 use Rattle.html_view.specs.declared.node.Times.TheVariants.{Attributes, Each, Given, If, Once, Whether}
@@ -16,6 +14,7 @@ use Rattle.html_view.specs.declared.source.cursor.Piece.{Piece}
 use Rattle.html_view.specs.declared.source.cursor.Tag.{Tag}
 use Rattle.html_view.specs.declared.source.tag.Sign.{Sign}
 use Rattle.html_view.specs.declared.source.tag.Sign.TheVariants as sign
+use Rattle.html_view.proofs.Followed.{asked_markup, asked_section}
 
 pub on_ok : {T E : Type 0} (result : Result T E) (P Q : Type 0) → OnOk result P → (P → Q) → OnOk result Q
 on_ok (Ok done) P Q told go_on = go_on told
@@ -23,30 +22,14 @@ on_ok (Err fault) P Q told go_on = tt
 
 -- ---- nodes, one behind another
 
-behind_more : {S : Type 0} (nodes : List (Before S)) (last : Before S) (after : Nodes S) → behind (nodes ++ last ∷ []) after ≡ behind nodes (last after)
-behind_more [] last after = refl
-behind_more (one ∷ nodes) last after = ap one (behind_more nodes last after)
-
-asked_last : {A : Type 0} (nodes : List (Node Asked A)) (last : Node Asked A) (after : Nodes node.Asked) →
+asked_last : {A : Type 0} (nodes : List (Node A)) (last : Node A) (after : Nodes node.Asked) →
     asked_nodes (nodes ++ last ∷ []) after ≡ asked_nodes nodes (asked_node last after)
 asked_last [] last after = refl
 asked_last (first ∷ nodes) last after = ap (asked_node first) (asked_last nodes last after)
 
-pub asked_pushed : {A : Type 0} (nodes new : List (Node Asked A)) (last : Node Asked A) (after : Nodes node.Asked) →
+pub asked_pushed : {A : Type 0} (nodes new : List (Node A)) (last : Node A) (after : Nodes node.Asked) →
     new ≡ nodes ++ last ∷ [] → asked_nodes new after ≡ asked_nodes nodes (asked_node last after)
-asked_pushed nodes new last after pushed = ap (λ (n : List (Node Asked _)). asked_nodes n after) pushed ∙ asked_last nodes last after
-
-pub asked_markup : (A : Type 0) (text : Bor (List ℕ)) (p : Position) (after : Nodes node.Asked) →
-    asked_node {A = A} (Markup text p) after ≡ node.Markup text.now after
-asked_markup A text p after = search (rules, the_lemmas)
-
-pub asked_slot : (A : Type 0) (slot : Asked) (after : Nodes node.Asked) → asked_node {A = A} (Slot slot) after ≡ node.Slot (asked_of slot) after
-asked_slot A slot after = search (rules, the_lemmas)
-
-pub asked_section : {A : Type 0} (opening : Opening) (body others : Vec (Node Asked A) A) (after : Nodes node.Asked) →
-    asked_node (Section opening body others) after
-    ≡ node.Section (written_opening (opening_of opening)) (asked_nodes body.items node.End) (asked_nodes others.items node.End) after
-asked_section opening body others after = search (rules, the_lemmas)
+asked_pushed nodes new last after pushed = ap (λ (n : List (Node _)). asked_nodes n after) pushed ∙ asked_last nodes last after
 
 -- ---- white space
 
@@ -104,8 +87,8 @@ spaces_some : (pieces : List Piece) → (length pieces == 0) ≡ false → (spac
 spaces_some [] some = cc
 spaces_some (piece ∷ pieces) some = (piece.markup.now, spaces_of pieces, refl)
 
-pub two_sides : {A : Type 0} (tag : Tag) (times : Times) (pieces : List Piece) (first whether : Opening) (body none nodes others : Vec (Node Asked A) A)
-    (added : List (Node Asked A)) (rest after : Nodes node.Asked) → (length pieces == 0) ≡ false
+pub two_sides : {A : Type 0} (tag : Tag) (times : Times) (pieces : List Piece) (first whether : Opening) (body none nodes others : Vec (Node A) A)
+    (added : List (Node A)) (rest after : Nodes node.Asked) → (length pieces == 0) ≡ false
     → written_opening (opening_of first) ≡ opened tag times → written_opening (opening_of whether) ≡ opened tag Whether
     → none.items ≡ [] → ((x : Nodes node.Asked) → asked_nodes added x ≡ asked_node (Section first body none) x)
     → ((x : Nodes node.Asked) → asked_nodes nodes.items x ≡ asked_nodes added (all_marked (spaces_of pieces) x))
@@ -119,7 +102,7 @@ two_sides tag times pieces first whether body none nodes others added rest after
     spaced node.End ∙ one (all_marked (spaces_of pieces) node.End)
     ∙ asked_section first body none (all_marked (spaces_of pieces) node.End)
     ∙ ap (λ o. node.Section o (asked_nodes body.items node.End) (asked_nodes none.items node.End) (all_marked (spaces_of pieces) node.End)) first_is
-    ∙ ap (λ (n : List (Node Asked _)). node.Section (opened tag times) (asked_nodes body.items node.End) (asked_nodes n node.End) (all_marked (spaces_of pieces) node.End)) none_is in
+    ∙ ap (λ (n : List (Node _)). node.Section (opened tag times) (asked_nodes body.items node.End) (asked_nodes n node.End) (all_marked (spaces_of pieces) node.End)) none_is in
     asked_section whether nodes others after
     ∙ ap (λ o. node.Section o (asked_nodes nodes.items node.End) (asked_nodes others.items node.End) after) whether_is
     ∙ ap (λ n. node.Section (opened tag Whether) n (asked_nodes others.items node.End) after) inner
@@ -138,7 +121,7 @@ marked_more [] i d after below = absurd (omega arith)
 marked_more (first ∷ pieces) zero d after below = refl
 marked_more (first ∷ pieces) (suc i) d after below = ap (node.Markup first.markup.now) (marked_more pieces i d after (omega arith))
 
-pub space_more : {A : Type 0} (pieces items : List Piece) (i : ℕ) (d : Piece) (old before new : List (Node Asked A)) (after : Nodes node.Asked) →
+pub space_more : {A : Type 0} (pieces items : List Piece) (i : ℕ) (d : Piece) (old before new : List (Node A)) (after : Nodes node.Asked) →
     pieces ≡ items → i < length items
     → ((x : Nodes node.Asked) → asked_nodes old x ≡ asked_nodes before (all_marked (spaces_of (take i items)) x))
     → asked_nodes new after ≡ asked_nodes old (asked_node {A = A} (Markup (get_or pieces i d).markup (get_or pieces i d).position) after)
@@ -154,6 +137,8 @@ pub times_once : (sign : Sign) (times : Times) → times_of sign ≡ Some times 
 times_once sign.Each times is once = cc
 times_once sign.If times is once = cc
 times_once sign.Slot times is once = cc
+times_once sign.Fragment times is once = cc
+times_once sign.Braced times is once = cc
 times_once sign.Quoted times is once = cc
 times_once sign.Comment times is once = cc
 times_once sign.Unless times is once = cc
@@ -162,24 +147,24 @@ times_once sign.Partial times is once = cc
 times_once sign.Layout times is once = cc
 times_once sign.Block times is once = cc
 
-pub section_added : {A : Type 0} (opening : Opening) (tag : Tag) (times : Times) (body others : Vec (Node Asked A) A) (old new : List (Node Asked A))
+pub section_added : {A : Type 0} (opening : Opening) (tag : Tag) (times : Times) (body others : Vec (Node A) A) (old new : List (Node A))
     (after : Nodes node.Asked) → written_opening (opening_of opening) ≡ opened tag times → others.items ≡ []
     → asked_nodes new after ≡ asked_nodes old (asked_node (Section opening body others) after)
     → asked_nodes new after ≡ asked_nodes old (node.Section (opened tag times) (asked_nodes body.items node.End) node.End after)
 section_added opening tag times body others old new after is none added =
     added ∙ ap (asked_nodes old) (asked_section opening body others after
     ∙ ap (λ o. node.Section o (asked_nodes body.items node.End) (asked_nodes others.items node.End) after) is
-    ∙ ap (λ (n : List (Node Asked _)). node.Section (opened tag times) (asked_nodes body.items node.End) (asked_nodes n node.End) after) none)
+    ∙ ap (λ (n : List (Node _)). node.Section (opened tag times) (asked_nodes body.items node.End) (asked_nodes n node.End) after) none)
 
-pub unless_added : {A : Type 0} (opening : Opening) (tag : Tag) (times : Times) (body others : Vec (Node Asked A) A) (old new : List (Node Asked A))
+pub unless_added : {A : Type 0} (opening : Opening) (tag : Tag) (times : Times) (body others : Vec (Node A) A) (old new : List (Node A))
     (after : Nodes node.Asked) → written_opening (opening_of opening) ≡ opened tag times → body.items ≡ []
     → asked_nodes new after ≡ asked_nodes old (asked_node (Section opening body others) after)
     → asked_nodes new after ≡ asked_nodes old (node.Section (opened tag times) node.End (asked_nodes others.items node.End) after)
 unless_added opening tag times body others old new after is none added =
     added ∙ ap (asked_nodes old) (asked_section opening body others after
     ∙ ap (λ o. node.Section o (asked_nodes body.items node.End) (asked_nodes others.items node.End) after) is
-    ∙ ap (λ (n : List (Node Asked _)). node.Section (opened tag times) (asked_nodes n node.End) (asked_nodes others.items node.End) after) none)
+    ∙ ap (λ (n : List (Node _)). node.Section (opened tag times) (asked_nodes n node.End) (asked_nodes others.items node.End) after) none)
 
 -- no nodes
-pub none_before : {A : Type 0} (nodes : List (Node Asked A)) (after : Nodes node.Asked) → nodes ≡ [] → asked_nodes nodes after ≡ after
-none_before nodes after none = ap (λ (n : List (Node Asked _)). asked_nodes n after) none
+pub none_before : {A : Type 0} (nodes : List (Node A)) (after : Nodes node.Asked) → nodes ≡ [] → asked_nodes nodes after ≡ after
+none_before nodes after none = ap (λ (n : List (Node _)). asked_nodes n after) none

@@ -11,7 +11,7 @@ use Rattle.html_template.specs.declared.open_url.PlacedSlot.{PlacedSlot}
 use Rattle.html_template.proofs.Walks.{same_after_slot}
 use Rattle.html_tokenizer.specs.declared.elements.Content.{Content}
 use Rattle.html_tokenizer.specs.declared.reader.Standing.{Standing}
-use Rattle.html_tokenizer.specs.declared.reader.Standing.TheVariants.{Barred, InLink, InScript, InUrl, Nowhere, Stands}
+use Rattle.html_tokenizer.specs.declared.reader.Standing.TheVariants.{Barred, InJson, InLink, InScript, InUrl, Nowhere, Stands}
 use Rattle.html_tokenizer.specs.Standing.{AfterStanding, is_between_attributes, is_refused, standing, standing_in}
 use Rattle.html_tokenizer.specs.Tokenizer.States as state
 use Rattle.html_tokenizer.specs.Tokenizer.States.{Attribute, State, Tokenizer}
@@ -29,10 +29,10 @@ use Rattle.html_view.specs.Ways as spec
 use Rattle.html_view.specs.Ways.{Way, first_way, let_go, on_ok, settled, slot_in, way_behind, way_slot}
 use Rattle.html_view.specs.declared.faults.Position.{Position}
 use Rattle.html_view.specs.declared.node.Asked.{Asked}
-use Rattle.html_view.specs.declared.node.Node.{Markup, Node, Section, Slot}
+use Rattle.html_view.specs.declared.node.Node.{Fragment, Markup, Node, Section, Slot}
 use Rattle.html_view.specs.declared.node.Opening.{Opening}
 use Rattle.html_view.specs.declared.node.Times.TheVariants.{Once}
-use Rattle.html_view.proofs.Followed.{all_among, asked_markup, asked_more, asked_section, asked_slot, take_whole}
+use Rattle.html_view.proofs.Followed.{all_among, asked_fragment, asked_markup, asked_more, asked_section, asked_slot, take_whole}
 use Rattle.html_view.proofs.SourceReads.{asked_pushed, written_same}
 
 pub if_ok : {T E : Type 0} (result : Result T E) (P Q : T → Type 0) → IfOk result P → ((made : T) → P made → Q made) → IfOk result Q
@@ -53,7 +53,7 @@ stays_between t is = ap (λ s. past_standing s t) (nowhere_in t.state t.content 
 
 -- ---- nodes, one behind another
 
-pub spells_start : {A : Type 0} (nodes made : List (Node Asked A)) (t u : Tokenizer) → made ≡ [] → u ≡ t →
+pub spells_start : {A : Type 0} (nodes made : List (Node A)) (t u : Tokenizer) → made ≡ [] → u ≡ t →
     Spells (asked_nodes (take 0 nodes)) (asked_nodes made) t u
 spells_start {A} [] made t u none same = record {
   same = λ rest. ap (λ v. spelled_from v rest) (sym same) ∙ ap (λ m. asked_nodes {A = A} m (spelled_from u rest)) (sym none);
@@ -64,7 +64,7 @@ spells_start {A} (first ∷ nodes) made t u none same = record {
   goes = λ rest. ap (λ v. behind v rest) (sym same);
 }
 
-pub spells_more : {A : Type 0} (nodes all : List (Node Asked A)) (i j : ℕ) (one : Node Asked A) (old new : List (Node Asked A)) (made : Node Asked A)
+pub spells_more : {A : Type 0} (nodes all : List (Node A)) (i j : ℕ) (one : Node A) (old new : List (Node A)) (made : Node A)
     (t u v : Tokenizer) → nodes ≡ all → j ≡ suc i → i < length nodes → one ≡ get_or nodes i one → new ≡ old ++ made ∷ [] →
     Spells (asked_nodes (take i all)) (asked_nodes old) t u → Spells (asked_node one) (asked_node made) u v →
     Spells (asked_nodes (take j all)) (asked_nodes new) t v
@@ -86,17 +86,17 @@ spells_more nodes all i j one old new made t u v whole more below is pushed befo
           ∙ after.goes rest;
     })))
 
-pub spells_all : {A : Type 0} (nodes : List (Node Asked A)) (i : ℕ) (made : List (Node Asked A)) (t u : Tokenizer) → length nodes ≤ i →
+pub spells_all : {A : Type 0} (nodes : List (Node A)) (i : ℕ) (made : List (Node A)) (t u : Tokenizer) → length nodes ≤ i →
     Spells (asked_nodes (take i nodes)) (asked_nodes made) t u → Spells (asked_nodes nodes) (asked_nodes made) t u
 spells_all nodes i made t u long spells =
     subst (λ n. Spells (asked_nodes n) (asked_nodes made) t u) (take_whole nodes i long) spells
 
 -- ---- one node
 
-pub spells_markup : {A : Type 0} (one : Node Asked A) (text : Bor (List ℕ)) (p q : Position) (t u : Tokenizer) → one ≡ Markup text p → u ≡ state_after t text.now →
+pub spells_markup : {A : Type 0} (one : Node A) (text : Bor (List ℕ)) (p q : Position) (t u : Tokenizer) → one ≡ Markup text p → u ≡ state_after t text.now →
     Spells (asked_node one) (asked_node {A = A} (Markup text q)) t u
 spells_markup {A} one text p q t u is goes =
-    subst (λ (n : Node Asked A). Spells (asked_node n) (asked_node {A = A} (Markup text q)) t u) (sym is)
+    subst (λ (n : Node A). Spells (asked_node n) (asked_node {A = A} (Markup text q)) t u) (sym is)
     (record {
       same = λ rest.
           ap (spelled_from t) (asked_markup A text p rest)
@@ -105,10 +105,10 @@ spells_markup {A} one text p q t u is goes =
       goes = λ rest. ap (behind t) (asked_markup A text p rest) ∙ ap (λ w. behind w rest) (sym goes);
     })
 
-pub spells_slot : {A : Type 0} (one : Node Asked A) (slot : Asked) (t u : Tokenizer) → one ≡ Slot slot → is_between_attributes t.state ≡ false → u ≡ past_slot t →
+pub spells_slot : {A : Type 0} (one : Node A) (slot : Asked) (t u : Tokenizer) → one ≡ Slot slot → is_between_attributes t.state ≡ false → u ≡ past_slot t →
     Spells (asked_node one) (asked_node {A = A} (Slot slot)) t u
 spells_slot {A} one slot t u is outside goes =
-    subst (λ (n : Node Asked A). Spells (asked_node n) (asked_node {A = A} (Slot slot)) t u) (sym is)
+    subst (λ (n : Node A). Spells (asked_node n) (asked_node {A = A} (Slot slot)) t u) (sym is)
     (record {
       same = λ rest.
           ap (spelled_from t) (asked_slot A slot rest)
@@ -117,11 +117,20 @@ spells_slot {A} one slot t u is outside goes =
       goes = λ rest. ap (behind t) (asked_slot A slot rest) ∙ ap (λ w. behind w rest) (sym goes);
     })
 
-pub spells_attributes : {A : Type 0} (one made : Node Asked A) (slot : Asked) (t : Tokenizer) → one ≡ Slot slot → is_between_attributes t.state ≡ true →
+pub spells_fragment : {A : Type 0} (one : Node A) (slot : Asked) (t : Tokenizer) → one ≡ Fragment slot →
+    Spells (asked_node one) (asked_node {A = A} (Fragment slot)) t t
+spells_fragment {A} one slot t is =
+    subst (λ (n : Node A). Spells (asked_node n) (asked_node {A = A} (Fragment slot)) t t) (sym is)
+    (record {
+      same = λ rest. ap (spelled_from t) (asked_fragment A slot rest) ∙ sym (asked_fragment A slot (spelled_from t rest));
+      goes = λ rest. ap (behind t) (asked_fragment A slot rest);
+    })
+
+pub spells_attributes : {A : Type 0} (one made : Node A) (slot : Asked) (t : Tokenizer) → one ≡ Slot slot → is_between_attributes t.state ≡ true →
     ((rest : Nodes node.Asked) → asked_node made rest ≡ attributes (asked_of slot) rest) → Spells (asked_node one) (asked_node made) t t
 spells_attributes {A} one made slot t is between written_so =
     let stays = stays_between t between in
-    subst (λ (n : Node Asked A). Spells (asked_node n) (asked_node made) t t) (sym is)
+    subst (λ (n : Node A). Spells (asked_node n) (asked_node made) t t) (sym is)
     (record {
       same = λ rest.
           ap (spelled_from t) (asked_slot A slot rest)
@@ -129,11 +138,11 @@ spells_attributes {A} one made slot t is between written_so =
       goes = λ rest. ap (behind t) (asked_slot A slot rest) ∙ ap (λ w. behind w rest) stays;
     })
 
-pub spells_section : {A : Type 0} (one : Node Asked A) (opening : Opening) (body otherwise made other : Vec (Node Asked A) A) (t u v : Tokenizer) →
+pub spells_section : {A : Type 0} (one : Node A) (opening : Opening) (body otherwise made other : Vec (Node A) A) (t u v : Tokenizer) →
     one ≡ Section opening body otherwise → Spells (asked_nodes body.items) (asked_nodes made.items) t u →
     Spells (asked_nodes otherwise.items) (asked_nodes other.items) t v → Spells (asked_node one) (asked_node (Section opening made other)) t u
 spells_section {A} one opening body otherwise made other t u v is passes others =
-    subst (λ (n : Node Asked A). Spells (asked_node n) (asked_node (Section opening made other)) t u) (sym is)
+    subst (λ (n : Node A). Spells (asked_node n) (asked_node (Section opening made other)) t u) (sym is)
     (record {
       same = λ rest.
           let o = written_opening (opening_of opening) in
@@ -146,7 +155,7 @@ spells_section {A} one opening body otherwise made other t u v is passes others 
     })
 
 -- the section of an attribute, or of all
-pub section_written : {A : Type 0} (opening : Opening) (body none : Vec (Node Asked A) A) (inner rest : Nodes node.Asked) → opening.times ≢ Once →
+pub section_written : {A : Type 0} (opening : Opening) (body none : Vec (Node A) A) (inner rest : Nodes node.Asked) → opening.times ≢ Once →
     none.items ≡ [] → asked_nodes body.items node.End ≡ inner →
     asked_node (Section opening body none) rest ≡ node.Section (opened_at (words_of opening.name.now) opening.position opening.times) inner node.End rest
 section_written opening body none inner rest other empty is =
@@ -154,7 +163,7 @@ section_written opening body none inner rest other empty is =
     asked_section opening body none rest
     ∙ ap (λ t. node.Section (opened_at name opening.position t) (asked_nodes body.items node.End) (asked_nodes none.items node.End) rest) (written_same opening.times other)
     ∙ ap (λ n. node.Section (opened_at name opening.position opening.times) n (asked_nodes none.items node.End) rest) is
-    ∙ ap (λ (n : List (Node Asked _)). node.Section (opened_at name opening.position opening.times) inner (asked_nodes n node.End) rest) empty
+    ∙ ap (λ (n : List (Node _)). node.Section (opened_at name opening.position opening.times) inner (asked_nodes n node.End) rest) empty
 
 -- ---- where each way leads through nodes, none of them is left to be spelled out
 
@@ -187,6 +196,7 @@ after_standing (Stands p) t = refl
 after_standing (InUrl p) t = refl
 after_standing (InLink p) t = refl
 after_standing InScript t = refl
+after_standing InJson t = refl
 after_standing Barred t = refl
 after_standing Nowhere t = refl
 
@@ -250,6 +260,9 @@ plain_from (node.Slot slot rest) ways others takes way among =
       among = more.among;
       goes = more.goes ∙ ap (λ t. behind t (written rest)) plain.goes;
     }
+plain_from (node.Fragment slot rest) ways others takes way among =
+    let more = plain_from rest takes.0 others takes.2 way (takes.1 way among).1 in
+    record { same = ap (node.Fragment slot) more.same; last = more.last; among = more.among; goes = more.goes }
 plain_from (node.Section opening body otherwise rest) ways others takes way among =
     let passes = plain_from body takes.0 takes.1 takes.4 way (takes.3 way among) in
     let other = plain_from otherwise ways takes.2 takes.7 way among in

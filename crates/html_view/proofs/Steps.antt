@@ -4,7 +4,7 @@ use Rattle.std.specs.List.{list_any, position_or_len}
 use Rattle.std.proofs.lemmas.Bool.{cases_Bool}
 use Rattle.std.proofs.lemmas.List.{take-append-le}
 use Rattle.html_urls.specs.Bases.{goes_as, open_behind}
-use Rattle.html_urls.specs.OpenParts.{after_markup}
+use Rattle.html_urls.specs.OpenParts.{after_markup, ends_scheme}
 use Rattle.html_urls.specs.declared.base.BehindBase.{BehindBase}
 use Rattle.html_urls.specs.declared.base.BehindBase.TheVariants.{Segment}
 use Rattle.html_urls.specs.declared.open_part.OpenPart.{OpenPart}
@@ -12,12 +12,12 @@ use Rattle.html_template.specs.OpenUrls.{url_markup, url_slot, value_length, beh
 use Rattle.html_template.specs.OpenUrls as urls
 use Rattle.html_template.specs.TemplateFaults.{slot_at}
 use Rattle.html_template.specs.declared.faults.PartFault.{PartFault}
-use Rattle.html_template.specs.declared.faults.PartFault.TheVariants.{AfterLink}
+use Rattle.html_template.specs.declared.faults.PartFault.TheVariants.{AfterLink, NotFixed}
 use Rattle.html_template.specs.declared.open_url.OpenUrl.{OpenUrl}
 use Rattle.html_template.specs.declared.open_url.OpenUrl.TheVariants.{Outside, Within, Whole, Front}
 use Rattle.html_template.specs.declared.open_url.PlacedSlot.{PlacedSlot}
 use Rattle.html_tokenizer.specs.declared.reader.Standing.{Standing}
-use Rattle.html_tokenizer.specs.declared.reader.Standing.TheVariants.{Stands, InUrl, InLink, InScript, Nowhere, Barred}
+use Rattle.html_tokenizer.specs.declared.reader.Standing.TheVariants.{Stands, InUrl, InLink, InScript, InJson, Nowhere, Barred}
 use Rattle.html_tokenizer.specs.declared.slot_place.SlotPlace.{SlotPlace}
 use Rattle.html_tokenizer.specs.UrlValues.{after_last, begins_value, ends_value}
 
@@ -33,9 +33,16 @@ position_more test (b ∷ front) more few =
     rw goes (ap (λ n. 1 + n) (position_more test front more fewer)))
     (cases_Bool (test b))
 
+abbrev refusal : PartFault → Result OpenUrl PartFault
+refusal why = Err why
+
 pub still_open : (p : SlotPlace) (open_part : OpenPart) (text : Option (List ℕ)) → urls.behind_slot p open_part false text ≡ Ok Outside → ⊥
 still_open p open_part None told = absurd (cc)
-still_open p open_part (Some text) told = within (after_markup open_part text) told
+still_open p open_part (Some text) told =
+    ⊎_elim
+    (λ (ends : ends_scheme open_part text ≡ true). let clash : refusal NotFixed ≡ Ok Outside = rw ends at told in cc)
+    (λ (other : ends_scheme open_part text ≡ false). within (after_markup open_part text) (rw other at told))
+    (cases_Bool (ends_scheme open_part text))
   where
     within : (found : Option OpenPart) → behind_part p false found ≡ Ok Outside → ⊥
     within None told = absurd (cc)
@@ -50,9 +57,6 @@ base_open p behind (Some text) told =
     (λ (stops : goes_as behind text ≡ false). let clash : refusal AfterLink ≡ Ok Outside = rw stops at told in cc)
     (cases_Bool (goes_as behind text))
   where
-    refusal : PartFault → Result OpenUrl PartFault
-    refusal why = Err why
-
     within : (found : Option OpenPart) → behind_part p false found ≡ Ok Outside → ⊥
     within None told = absurd (cc)
     within (Some found) told = absurd (cc)
@@ -147,5 +151,6 @@ slot_more (Stands p) slot front markup told = told
 slot_more (InUrl p) slot front markup told = url_more p false slot front markup told
 slot_more (InLink p) slot front markup told = url_more p true slot front markup told
 slot_more InScript slot front markup told = told
+slot_more InJson slot front markup told = told
 slot_more Barred slot front markup told = absurd (cc)
 slot_more Nowhere slot front markup told = absurd (cc)

@@ -4,7 +4,7 @@ use Rattle.std.specs.List.{AllByRecursion}
 use Rattle.std.proofs.lemmas.Bool.{cases_Bool}
 use Rattle.html_template.specs.FillFaults.{empty_fault, segment_fault, text_fault}
 use Rattle.html_template.specs.Slots.{FitsPlace, MayFill}
-use Rattle.html_template.specs.Structure.{IsPageOf}
+use Rattle.html_template.specs.Structure.{IsPageOf, IsWhole}
 use Rattle.html_template.specs.Templates.{Chunk, Fill, Markup, Slot, part_of}
 use Rattle.html_template.specs.declared.faults.TextFault.{TextFault}
 use Rattle.html_template.specs.declared.faults.TextFault.TheVariants as fault
@@ -21,8 +21,8 @@ use Rattle.html_view.specs.Attributes.{refused_for}
 use Rattle.html_view.specs.Data.{Datum, Stack, look_up, stacks}
 use Rattle.html_view.specs.Data as data_of
 use Rattle.html_view.specs.Nodes as node
-use Rattle.html_view.specs.Nodes.{Nodes, Opening, Placed}
-use Rattle.html_view.specs.Rendered.{Unrolled, Unrolling, fitting, flag_text, no_unrolling, put_front, put_markup, put_text, rendered, text_for, unrolled, unrolled_each, unrolled_section, unrolled_times}
+use Rattle.html_view.specs.Nodes.{Asked, Nodes, Opening, Placed}
+use Rattle.html_view.specs.Rendered.{Unrolled, Unrolling, fitting, flag_text, fragment_for, no_unrolling, put_front, put_markup, put_text, rendered, text_for, unrolled, unrolled_each, unrolled_section, unrolled_times}
 use Rattle.html_view.specs.Unrolled.{AreTemplates, Stands, Unrolls, all_of, joined}
 use Rattle.html_view.specs.Ways.{on_ok}
 use Rattle.html_view.specs.declared.faults.ValueFault.{ValueFault}
@@ -72,6 +72,7 @@ text_fits p (kind.OwnBase behind) text is =
     (λ (none : is_own_base behind text ≡ false). let here : Some fault.NotAnOwnBase ≡ None = rw none at is in absurd (cc))
     (cases_Bool (is_own_base behind text))
 text_fits p kind.Literal text is = tt
+text_fits p kind.Json text is = tt
 
 fitting_fits : (slot : Placed) (text found : List ℕ) (first : Option TextFault) → text_fault slot.place slot.kind text ≡ first →
     fitting slot text first ≡ Ok found → MayFill slot.place slot.kind found
@@ -86,8 +87,21 @@ text_for_fits slot (Some data_of.Nothing) found told = absurd (cc)
 text_for_fits slot (Some (data_of.Text text)) found told = fitting_fits slot text found (text_fault slot.place slot.kind text) refl told
 text_for_fits slot (Some (data_of.Flag flag)) found told =
     fitting_fits slot (flag_text flag) found (text_fault slot.place slot.kind (flag_text flag)) refl told
+text_for_fits slot (Some (data_of.Fragment markup whole)) found told = absurd (cc)
 text_for_fits slot (Some (data_of.Items items)) found told = absurd (cc)
 text_for_fits slot (Some (data_of.Record fields)) found told = absurd (cc)
+
+-- a fragment is whole
+fragment_whole : (slot : Asked) (value : Option Datum) (found : List ℕ) → fragment_for slot value ≡ Ok found → IsWhole found
+fragment_whole slot None found told = absurd (cc)
+fragment_whole slot (Some data_of.Nothing) found told = absurd (cc)
+fragment_whole slot (Some (data_of.Fragment markup whole)) found told =
+    let same : markup ≡ found = cc in
+    subst IsWhole same whole
+fragment_whole slot (Some (data_of.Text text)) found told = absurd (cc)
+fragment_whole slot (Some (data_of.Flag flag)) found told = absurd (cc)
+fragment_whole slot (Some (data_of.Items items)) found told = absurd (cc)
+fragment_whole slot (Some (data_of.Record fields)) found told = absurd (cc)
 
 -- ---- what is found, and then goes on
 
@@ -211,6 +225,16 @@ is_unrolling (node.Slot slot rest) stack found told =
     subst (IsUnrolling (node.Slot slot rest)) same (record {
       unrolls = (more.value.pieces, refl, here.unrolls);
       full = (text_for_fits slot (look_up slot.asked.name stack) one.value one.is, here.full);
+    })
+is_unrolling (node.Fragment slot rest) stack found told =
+    let one = found_in (fragment_for slot (look_up slot.name stack)) (λ markup. on_ok (unrolled rest stack) (put_markup markup)) found told in
+    let more = found_in (unrolled rest stack) (put_markup one.value) found one.goes in
+    let here = is_unrolling rest stack more.value more.is in
+    let goes : Ok (record { pieces = Markup one.value ∷ more.value.pieces; texts = more.value.texts }) ≡ Ok found = more.goes in
+    let same : record { pieces = Markup one.value ∷ more.value.pieces; texts = more.value.texts } ≡ found = cc in
+    subst (IsUnrolling (node.Fragment slot rest)) same (record {
+      unrolls = (one.value, more.value.pieces, fragment_whole slot (look_up slot.name stack) one.value one.is, refl, here.unrolls);
+      full = here.full;
     })
 is_unrolling (node.Section opening body otherwise rest) stack found told =
     let around = stacks opening.times (look_up opening.name stack) stack in

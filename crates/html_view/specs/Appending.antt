@@ -2,7 +2,7 @@
 use Rattle.std.specs.Prelude.{◌≡◌, ⊤, ℕ, List, Result, Ok, Err}
 use Rattle.html_view.specs.Putting.{Put}
 use Rattle.html_view.specs.Rendered.{Unrolled, Unrolling, unrolled}
-use Rattle.html_view.specs.Stepped.{stepped}
+use Rattle.html_view.specs.Kept.{nodes_of}
 use Rattle.html_view.specs.Values.{stack_of}
 use Rattle.html_view.specs.declared.append.Rendering.{Rendering}
 use Rattle.html_view.specs.declared.faults.DataFault.{DataFault}
@@ -12,7 +12,7 @@ use Rattle.html_view.specs.declared.unroll.Stop.{Stop}
 use Rattle.html_view.specs.declared.unroll.Stop.TheVariants.{Refused, Failed}
 
 abbrev pub told_by : {A : Type 0} → Rendering A → Unrolled
-told_by rendering = unrolled (stepped rendering.steps.now.items) (stack_of rendering.around.now)
+told_by rendering = unrolled (nodes_of rendering.nodes.now.items) (stack_of rendering.around.now)
 
 -- a refusal is told where it was put down; a sink that fails has no more room
 abbrev pub fault_of : {F : Type 0} → Stop F → Refusal → DataFault

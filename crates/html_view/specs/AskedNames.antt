@@ -11,6 +11,7 @@ use Rattle.html_view.specs.declared.node.Times.TheVariants as time
 
 pub data AskedName : Type 0 where
   Slot : Words → AskedName
+  Fragment : Words → AskedName
   Section : Words → AskedName
   Attributes : Words → AskedName
 
@@ -23,12 +24,14 @@ abbrev pub names_in : Nodes Placed → List AskedName
 names_in node.End = []
 names_in (node.Markup bytes rest) = names_in rest
 names_in (node.Slot slot rest) = Slot slot.asked.name ∷ names_in rest
+names_in (node.Fragment slot rest) = Fragment slot.name ∷ names_in rest
 names_in (node.Section opening body otherwise rest) =
     opened_names opening.times opening.name (names_in body) ++ (names_in otherwise ++ names_in rest)
 
 -- as the code has it
 abbrev pub asked_name : Name → AskedName
 asked_name (name.Slot word) = Slot (words_of word.now)
+asked_name (name.Fragment word) = Fragment (words_of word.now)
 asked_name (name.Section word) = Section (words_of word.now)
 asked_name (name.Attributes word) = Attributes (words_of word.now)
 

@@ -3,7 +3,7 @@ use Rattle.std.specs.Prelude.{◌≡◌, ◌≢◌, ℕ, ◌+◌, Bool, true, fa
 use Rattle.std.specs.Str.{trim_start}
 use Rattle.html_view.specs.Lines.{before_line, behind_line}
 use Rattle.html_template_source.specs.Sources.{Lacks, closing, opening}
-use Rattle.html_view.specs.Tags.{IsTag, may_be_lone}
+use Rattle.html_view.specs.Tags.{IsTag, closing_of, may_be_lone}
 use Rattle.html_view.specs.declared.faults.Position.{Position}
 use Rattle.html_view.specs.declared.faults.TagFault.TheVariants.{Unclosed}
 use Rattle.html_view.specs.declared.faults.ViewFault.{ViewFault}
@@ -65,7 +65,7 @@ pub record PassesTag (here : Here) (markup : List ℕ) (tag : Tag) (next : Here)
   pub before : List ℕ
   pub inside : List ℕ
   pub behind : List ℕ
-  pub whole : here.rest ≡ before ++ (opening ++ (inside ++ (closing ++ behind)))
+  pub whole : here.rest ≡ before ++ (opening ++ (inside ++ (closing_of tag.sign ++ behind)))
   pub first : Lacks opening before
   pub closed : Lacks closing inside
   pub tag_is : IsTag tag.sign tag.name.now inside

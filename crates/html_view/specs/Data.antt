@@ -1,16 +1,18 @@
 -- The data of a page, and what a name means in it.
 use Rattle.std.specs.Prelude.{ℕ, Bool, true, false, List, [], ◌∷◌, Option, Some, None, bytes_eq, if◌then◌else◌}
 use Rattle.std.specs.Option.{option_and_then}
+use Rattle.html_template.specs.Structure.{IsWhole}
 use Rattle.html_view.specs.Nodes.{Words}
 use Rattle.html_view.specs.declared.node.Times.{Times}
 use Rattle.html_view.specs.declared.node.Times.TheVariants.{Each, Given, Once, Whether}
 
 mutual
-  -- nothing, a text, a flag, a list, or named values
+  -- nothing, a text, a flag, a fragment, a list, or named values
   pub data Datum : Type 0 where
     Nothing : Datum
     Text : List ℕ → Datum
     Flag : Bool → Datum
+    Fragment : (markup : List ℕ) → IsWhole markup → Datum
     Items : ItemList → Datum
     Record : Fields → Datum
 
@@ -89,17 +91,18 @@ list_stacks Each items stack = item_stacks items stack
 list_stacks Once items stack = item_stacks items stack
 list_stacks other items stack = once (has_items items) stack
 
--- named values and a text are around in the body
+-- named values, a text and a fragment are around in the body
 abbrev pub inside : Times → Datum → Stack → Stack
 inside Whether value stack = stack
 inside other value stack = value ∷ stack
 
--- never where its name is missing, or means nothing, `false` or an empty text or list
+-- never where its name is missing, or means nothing, `false` or an empty text, fragment or list
 abbrev pub filled_stacks : Times → Option Datum → Stack → List Stack
 filled_stacks times None stack = []
 filled_stacks times (Some Nothing) stack = []
 filled_stacks times (Some (Text text)) stack = once (is_filled text) (inside times (Text text) stack)
 filled_stacks times (Some (Flag flag)) stack = once flag stack
+filled_stacks times (Some (Fragment markup whole)) stack = once (is_filled markup) (inside times (Fragment markup whole) stack)
 filled_stacks times (Some (Items items)) stack = list_stacks times items stack
 filled_stacks times (Some (Record fields)) stack = inside times (Record fields) stack ∷ []
 

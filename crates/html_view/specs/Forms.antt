@@ -1,12 +1,13 @@
--- The form of data: the same names, the same flags, lists that are as long, and texts that are empty where the others are.
+-- The form of data: the same names, flags and fragments, lists that are as long, and texts that are empty where the others are.
 use Rattle.std.specs.Prelude.{◌≡◌, ⊤}
-use Rattle.html_view.specs.Data.{Datum, Fields, Flag, ItemList, Items, Nothing, Record, Text, field, is_filled, item, bare, no_items}
+use Rattle.html_view.specs.Data.{Datum, Fields, Flag, Fragment, ItemList, Items, Nothing, Record, Text, field, is_filled, item, bare, no_items}
 
 abbrev mutual
   pub SameForm : Datum → Datum → Type 0
   SameForm Nothing Nothing = ⊤
   SameForm (Text text) (Text other) = is_filled text ≡ is_filled other
   SameForm (Flag flag) (Flag other) = flag ≡ other
+  SameForm (Fragment markup whole) (Fragment other is) = markup ≡ other
   SameForm (Items items) (Items others) = SameItems items others
   SameForm (Record fields) (Record others) = SameFields fields others
   SameForm value another = ⊥

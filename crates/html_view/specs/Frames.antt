@@ -6,7 +6,6 @@ use Rattle.html_view.specs.Nodes as node
 use Rattle.html_view.specs.Nodes.{Asked, Nodes, written_opening}
 use Rattle.html_view.specs.Reached.{Reaches}
 use Rattle.html_view.specs.declared.faults.Position.{Position}
-use Rattle.html_view.specs.declared.node.Asked as code
 use Rattle.html_view.specs.declared.node.Node.{Node}
 use Rattle.html_view.specs.declared.node.Opening.{Opening}
 use Rattle.html_view.specs.declared.retrace.Frame.{Frame}
@@ -29,6 +28,6 @@ Leads standing work new_standing new_work =
     (nodes : Nodes Asked) (parts : List Given) (markup : List ℕ) → Reaches nodes standing parts markup work → Reaches nodes new_standing parts markup new_work
 
 -- nodes begin with a section of this body, and these follow it
-abbrev pub BeginsWith : {A : Type 0} → List (Node code.Asked A) → Opening → Nodes Asked → Nodes Asked → List (Node code.Asked A) → Type 0
+abbrev pub BeginsWith : {A : Type 0} → List (Node A) → Opening → Nodes Asked → Nodes Asked → List (Node A) → Type 0
 BeginsWith nodes opening body otherwise rest =
     asked_nodes nodes node.End ≡ node.Section (written_opening (opening_of opening)) body otherwise (asked_nodes rest node.End)

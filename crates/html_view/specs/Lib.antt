@@ -10,7 +10,6 @@ pub mod Ways
 pub mod Takes
 pub mod Kept
 pub mod Spelled
-pub mod Stepped
 pub mod Following
 pub mod Reached
 pub mod Frames

@@ -16,20 +16,22 @@ pub record Opening : Type 0 where
   pub position : Position
   pub times : Times
 
--- nodes in order, where this is known of each slot
-pub data Nodes (S : Type 0) : Type 0 where
-  End : Nodes S
-  Markup : List ℕ → Nodes S → Nodes S
-  Slot : S → Nodes S → Nodes S
-  -- a body, what stands where it does not, and what follows
-  Section : Opening → Nodes S → Nodes S → Nodes S → Nodes S
-
 -- a slot as it is written: its name, and where its tag stands
 pub record Asked : Type 0 where
   pub name : Words
   pub position : Position
 
--- and where it stands in the page, and what its text is
+-- nodes in order, where this is known of each slot
+pub data Nodes (S : Type 0) : Type 0 where
+  End : Nodes S
+  Markup : List ℕ → Nodes S → Nodes S
+  Slot : S → Nodes S → Nodes S
+  -- a slot for a fragment
+  Fragment : Asked → Nodes S → Nodes S
+  -- a body, what stands where it does not, and what follows
+  Section : Opening → Nodes S → Nodes S → Nodes S → Nodes S
+
+-- where a slot stands in the page, and what its text is
 pub record Placed : Type 0 where
   pub asked : Asked
   pub place : SlotPlace
@@ -48,4 +50,5 @@ abbrev pub written : Nodes Placed → Nodes Asked
 written End = End
 written (Markup bytes rest) = Markup bytes (written rest)
 written (Slot slot rest) = Slot slot.asked (written rest)
+written (Fragment slot rest) = Fragment slot (written rest)
 written (Section opening body otherwise rest) = Section (written_opening opening) (written body) (written otherwise) (written rest)

@@ -36,6 +36,9 @@ pub data Reaches (nodes : Nodes Asked) : List Position → List Given → List �
   past_slot : {standing : List Position} {parts : List Given} {markup : List ℕ} {slot : Asked} {rest : Nodes Asked} {work : List (Nodes Asked)}
       → Reaches nodes standing parts markup (node.Slot slot rest ∷ work)
       → Reaches nodes standing (parts ++ GivenMarkup markup ∷ GivenSlot ∷ []) [] (rest ∷ work)
+  -- a fragment may be empty
+  past_fragment : {standing : List Position} {parts : List Given} {markup : List ℕ} {slot : Asked} {rest : Nodes Asked} {work : List (Nodes Asked)}
+      → Reaches nodes standing parts markup (node.Fragment slot rest ∷ work) → Reaches nodes standing parts markup (rest ∷ work)
   past_end : {standing : List Position} {parts : List Given} {markup : List ℕ} {work : List (Nodes Asked)}
       → Reaches nodes standing parts markup (node.End ∷ work) → Reaches nodes standing parts markup work
   -- a section stands

@@ -18,7 +18,7 @@ use Rattle.html_view.specs.declared.source.cursor.Piece.{Piece}
 use Rattle.html_view.specs.declared.source.cursor.Tag.{Tag}
 use Rattle.html_view.specs.declared.source.tag.Sign.{Sign}
 use Rattle.html_view.specs.declared.source.tag.Sign.TheVariants as sign
-use Rattle.html_view.specs.declared.source.tag.Sign.TheVariants.{Comment, Each, If, Unless, Layout, Partial, Quoted, Slot}
+use Rattle.html_view.specs.declared.source.tag.Sign.TheVariants.{Braced, Comment, Each, Fragment, If, Unless, Layout, Partial, Quoted, Slot}
 
 -- ---- what ends
 
@@ -185,6 +185,10 @@ mutual
         → StandsFor partials given tag here after after here
     a_slot : {given : List Block} {tag : Tag} {here : Here} {after : Nodes Asked} → tag.sign ≡ Slot
         → StandsFor partials given tag here after (node.Slot (asked tag) after) here
+    a_fragment : {given : List Block} {tag : Tag} {here : Here} {after : Nodes Asked} → tag.sign ≡ Fragment
+        → StandsFor partials given tag here after (node.Fragment (asked tag) after) here
+    a_braced : {given : List Block} {tag : Tag} {here : Here} {after : Nodes Asked} → tag.sign ≡ Braced
+        → StandsFor partials given tag here after (node.Fragment (asked tag) after) here
     a_quoted : {given : List Block} {tag : Tag} {here : Here} {after : Nodes Asked} → tag.sign ≡ Quoted
         → StandsFor partials given tag here after (node.Markup opening after) here
     a_section : {given : List Block} {tag : Tag} {times : Times} {here next : Here} {after body : Nodes Asked}

@@ -7,12 +7,12 @@ use Rattle.html_view.specs.Attributes.{refused_for}
 use Rattle.html_view.specs.Data.{Datum, Stack, look_up, stacks}
 use Rattle.html_view.specs.Data as data_of
 use Rattle.html_view.specs.Nodes as node
-use Rattle.html_view.specs.Nodes.{Nodes, Opening, Placed}
+use Rattle.html_view.specs.Nodes.{Asked, Nodes, Opening, Placed}
 use Rattle.html_view.specs.Unrolled.{chunk_of}
 use Rattle.html_view.specs.Ways.{on_ok}
 use Rattle.html_view.specs.declared.faults.Position.{Position}
 use Rattle.html_view.specs.declared.faults.ValueFault.{ValueFault}
-use Rattle.html_view.specs.declared.faults.ValueFault.TheVariants.{Missing, NotAText, Repeated, Unfit}
+use Rattle.html_view.specs.declared.faults.ValueFault.TheVariants.{Missing, NotAFragment, NotAText, Repeated, Unfit}
 use Rattle.html_view.specs.declared.node.Times.{Times}
 use Rattle.html_view.specs.declared.node.Times.TheVariants.{Each}
 
@@ -50,8 +50,16 @@ text_for slot None = Err (slot.asked.position, Missing)
 text_for slot (Some data_of.Nothing) = Err (slot.asked.position, Missing)
 text_for slot (Some (data_of.Text text)) = fitted slot text
 text_for slot (Some (data_of.Flag flag)) = fitted slot (flag_text flag)
+text_for slot (Some (data_of.Fragment markup whole)) = Err (slot.asked.position, NotAText)
 text_for slot (Some (data_of.Items items)) = Err (slot.asked.position, NotAText)
 text_for slot (Some (data_of.Record fields)) = Err (slot.asked.position, NotAText)
+
+-- the markup of a slot for a fragment
+abbrev pub fragment_for : Asked → Option Datum → Result (List ℕ) Fault
+fragment_for slot None = Err (slot.position, Missing)
+fragment_for slot (Some data_of.Nothing) = Err (slot.position, Missing)
+fragment_for slot (Some (data_of.Fragment markup whole)) = Ok markup
+fragment_for slot (Some other) = Err (slot.position, NotAFragment)
 
 -- ---- nodes
 
@@ -86,6 +94,8 @@ unrolled node.End stack = Ok no_unrolling
 unrolled (node.Markup bytes rest) stack = on_ok (unrolled rest stack) (put_markup bytes)
 unrolled (node.Slot slot rest) stack =
     on_ok (text_for slot (look_up slot.asked.name stack)) (λ text. on_ok (unrolled rest stack) (put_text slot text))
+unrolled (node.Fragment slot rest) stack =
+    on_ok (fragment_for slot (look_up slot.name stack)) (λ markup. on_ok (unrolled rest stack) (put_markup markup))
 unrolled (node.Section opening body otherwise rest) stack =
     on_ok
     (unrolled_section opening (refused_for opening.times (look_up opening.name stack)) (λ inner. unrolled body inner) (unrolled otherwise stack)

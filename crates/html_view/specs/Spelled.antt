@@ -1,8 +1,8 @@
 -- The nodes of a source, with each slot between the attributes of a start tag spelled out.
 use Rattle.std.specs.Prelude.{◌≡◌, ℕ, List, if◌then◌else◌}
 use Rattle.html_tokenizer.specs.declared.reader.Standing.{Standing}
-use Rattle.html_tokenizer.specs.declared.reader.Standing.TheVariants.{InLink, InUrl, Stands}
-use Rattle.html_tokenizer.specs.Standing.{is_between_attributes, standing, state_after_slot}
+use Rattle.html_tokenizer.specs.declared.reader.Standing.TheVariants.{InJson, InLink, InUrl, Stands}
+use Rattle.html_tokenizer.specs.Standing.{is_between_attributes, past_json, standing, state_after_slot}
 use Rattle.html_tokenizer.specs.Tokenizer.States.{Tokenizer, data_state}
 use Rattle.html_tokenizer.specs.Tokenizer.Tokenization.{state_after}
 use Rattle.html_view.specs.Attributes.{attributes}
@@ -17,6 +17,7 @@ abbrev pub past_standing : Standing → Tokenizer → Tokenizer
 past_standing (Stands p) t = state_after_slot p t
 past_standing (InUrl p) t = state_after_slot p t
 past_standing (InLink p) t = state_after_slot p t
+past_standing InJson t = past_json t
 past_standing other t = t
 
 abbrev pub past_slot : Tokenizer → Tokenizer
@@ -26,6 +27,7 @@ abbrev pub behind : Tokenizer → Nodes Asked → Tokenizer
 behind t node.End = t
 behind t (node.Markup bytes rest) = behind (state_after t bytes) rest
 behind t (node.Slot slot rest) = behind (past_slot t) rest
+behind t (node.Fragment slot rest) = behind t rest
 behind t (node.Section opening body otherwise rest) = behind (behind t body) rest
 
 -- ---- spelled out
@@ -37,6 +39,7 @@ abbrev pub spelled_from : Tokenizer → Nodes Asked → Nodes Asked
 spelled_from t node.End = node.End
 spelled_from t (node.Markup bytes rest) = node.Markup bytes (spelled_from (state_after t bytes) rest)
 spelled_from t (node.Slot slot rest) = spelled_slot t slot (spelled_from (past_slot t) rest)
+spelled_from t (node.Fragment slot rest) = node.Fragment slot (spelled_from t rest)
 spelled_from t (node.Section opening body otherwise rest) =
     node.Section opening (spelled_from t body) (spelled_from t otherwise) (spelled_from (behind t body) rest)
 

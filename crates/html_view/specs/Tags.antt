@@ -3,16 +3,18 @@ use Rattle.std.specs.Prelude.{◌≡◌, ◌≢◌, ⊤, ℕ, Bool, true, false,
 use Rattle.std.specs.Char.{is_ascii_alphanumeric, is_not_whitespace, is_whitespace}
 use Rattle.std.specs.List.{AllByRecursion, list_all}
 use Rattle.std.specs.Str.{NoCharPasses}
-use Rattle.html_template_source.specs.Sources.{quoted_opening}
+use Rattle.html_template_source.specs.Sources.{closing, quoted_opening}
 use Rattle.html_view.specs.Names.{dot, words_behind}
 use Rattle.html_view.specs.declared.source.tag.Sign.{Sign}
-use Rattle.html_view.specs.declared.source.tag.Sign.TheVariants.{Block, Comment, Each, End, If, Layout, Partial, Quoted, Slot, Unless}
+use Rattle.html_view.specs.declared.source.tag.Sign.TheVariants.{Block, Braced, Comment, Each, End, Fragment, If, Layout, Partial, Quoted, Slot, Unless}
 
 -- ---- signs
 
 -- with `{{"{{"}}` a `{{` of the markup is written
 abbrev pub sign_text : Sign → List ℕ
 sign_text Slot = []
+sign_text Fragment = codes "&"
+sign_text Braced = codes "{"
 sign_text Quoted = quoted_opening
 sign_text Comment = codes "!"
 sign_text Each = codes "#"
@@ -23,9 +25,16 @@ sign_text Partial = codes ">"
 sign_text Layout = codes "<"
 sign_text Block = codes "$"
 
+-- what closes a tag
+abbrev pub closing_of : Sign → List ℕ
+closing_of Braced = codes "}}}"
+closing_of other = closing
+
 -- a tag of this sign leaves no line behind, where it is all of its line
 abbrev pub may_be_lone : Sign → Bool
 may_be_lone Slot = false
+may_be_lone Fragment = false
+may_be_lone Braced = false
 may_be_lone Quoted = false
 may_be_lone other = true
 

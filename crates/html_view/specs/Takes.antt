@@ -31,6 +31,10 @@ pub record GoesPast (way : Way) (slot : Placed) (ways : List Way) : Type 0 where
   pub kind : (before guess found).kind ≡ slot.kind
   pub among : Among (past_slot way (before guess found)) ways
 
+-- a fragment stands where a page may begin, and leads back there
+abbrev pub GoesOver : Way → List Way → Type 0
+GoesOver way ways = (way ≡ first_way) × Among way ways
+
 -- a body that may be repeated leads back to where it begins
 abbrev pub LeadsBack : Times → List Way → List Way → Type 0
 LeadsBack Each out head = AreAmong out head
@@ -43,6 +47,8 @@ Takes ways (node.Markup bytes rest) others =
     (next : List Way) × ((way : Way) → Among way ways → GoesOn way bytes next) × Takes next rest others
 Takes ways (node.Slot slot rest) others =
     (next : List Way) × ((way : Way) → Among way ways → GoesPast way slot next) × Takes next rest others
+Takes ways (node.Fragment slot rest) others =
+    (next : List Way) × ((way : Way) → Among way ways → GoesOver way next) × Takes next rest others
 Takes ways (node.Section opening body otherwise rest) others =
     (head : List Way) × (out : List Way) × (next : List Way) × AreAmong ways head × Takes head body out
     × LeadsBack opening.times out head × AreAmong out next × Takes ways otherwise next × Takes next rest others

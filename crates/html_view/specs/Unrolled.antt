@@ -1,6 +1,7 @@
 -- The unrollings of nodes: lists of markup and slots, with no section left.
 use Rattle.std.specs.Prelude.{◌≡◌, ◌⊎◌, ℕ, List, [], ◌∷◌, ◌++◌, Ok, map}
 use Rattle.std.specs.List.{AllByRecursion}
+use Rattle.html_template.specs.Structure.{IsWhole}
 use Rattle.html_template.specs.TemplateFaults.{template_of}
 use Rattle.html_template.specs.Templates.{Chunk, Markup, Slot, part_of}
 use Rattle.html_view.specs.Nodes as node
@@ -25,11 +26,14 @@ abbrev pub Stands : Times → (List Chunk → Type 0) → List Chunk → Type 0
 Stands Each IsPass pieces = Repeats IsPass pieces
 Stands other IsPass pieces = IsPass pieces
 
--- the pieces are an unrolling of the nodes: of each section the body stands in it, or what stands where the body does not
+-- the pieces are an unrolling of the nodes: of each section the body stands in it, or what stands where the body does not, and of a slot
+-- for a fragment any that is whole
 abbrev pub Unrolls : Nodes Placed → List Chunk → Type 0
 Unrolls node.End pieces = pieces ≡ []
 Unrolls (node.Markup bytes rest) pieces = (more : List Chunk) × (pieces ≡ Markup bytes ∷ more) × Unrolls rest more
 Unrolls (node.Slot slot rest) pieces = (more : List Chunk) × (pieces ≡ chunk_of slot ∷ more) × Unrolls rest more
+Unrolls (node.Fragment slot rest) pieces =
+    (markup : List ℕ) × (more : List Chunk) × IsWhole markup × (pieces ≡ Markup markup ∷ more) × Unrolls rest more
 Unrolls (node.Section opening body otherwise rest) pieces =
     (one : List Chunk) × (more : List Chunk) × (pieces ≡ one ++ more)
     × (Stands opening.times (λ pass. Unrolls body pass) one ⊎ Unrolls otherwise one) × Unrolls rest more

@@ -1,7 +1,8 @@
 -- The data that a value stands for.
 use Rattle.std.specs.Prelude.{ℕ, List, [], ◌∷◌, map}
 use Rattle.std.specs.Borrow.{Bor}
-use Rattle.html_view.specs.Data.{Datum, Fields, Flag, ItemList, Items, Nothing, Record, Stack, Text, bare, field, item, no_items}
+use Rattle.html_view.specs.Data.{Datum, Fields, Flag, Fragment, ItemList, Items, Nothing, Record, Stack, Text, bare, field, item, no_items}
+use Rattle.html_template.specs.Fragments.{markup_of}
 use Rattle.json.specs.Value.{items_view, members_view}
 use Rattle.html_view.specs.JsonData.{fields_of_json, items_of_json}
 use Rattle.html_view.specs.declared.data.Around as around
@@ -24,6 +25,7 @@ abbrev pub datum_step : Value-F Datum → Datum
 datum_step Value-F.Null = Nothing
 datum_step (Value-F.Text text) = Text text.now
 datum_step (Value-F.Flag flag) = Flag flag
+datum_step (Value-F.Fragment fragment) = Fragment (markup_of fragment) fragment.whole
 datum_step (Value-F.List values) = Items (item_list values.now)
 datum_step (Value-F.Record fields) = Record (field_list fields.now)
 datum_step (Value-F.Array items) = Items (items_of_json (items_view items.now))

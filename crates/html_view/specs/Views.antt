@@ -3,9 +3,11 @@ use Rattle.std.specs.Prelude.{◌≡◌, ⊤, ℕ, List, [], ◌∷◌, ◌++◌
 use Rattle.std.specs.Io.KnownBytes.{Appends}
 use Rattle.hesc_specs.specs.Text.Beginning.{AppendsBeginning}
 use Rattle.html_template.specs.FilledUrls.{HasUrlsOf}
+use Rattle.html_template.specs.Fragments.{markup_in}
 use Rattle.html_template.specs.Structure.{IsPageOf, JoinsWritten}
 use Rattle.html_template.specs.Templates.{Given, part_of}
 use Rattle.html_template.specs.declared.faults.WriteFault.{WriteFault}
+use Rattle.html_template.specs.declared.fragment.FragmentBuf.{FragmentBuf}
 use Rattle.html_template.specs.declared.faults.WriteFault.TheVariants.{Texts, Writer}
 use Rattle.html_view.specs.Data.{Datum}
 use Rattle.html_view.specs.Kept as kept
@@ -32,6 +34,12 @@ abbrev pub Renders : {T : Type 0} → Unrolled → List ℕ → List ℕ → Res
 Renders told old new (Ok done) = (found : Unrolling) × (told ≡ Ok found) × (new ≡ old ++ rendered found)
 Renders told old new (Err (Value position why)) = (told ≡ Err (position, why)) × (new ≡ old)
 Renders told old new (Err Memory) = new ≡ old
+
+-- the page is a fragment, or the first fault is answered
+abbrev pub MakesFragment : {A : Type 0} → Unrolled → Result (FragmentBuf A) DataFault → Type 0
+MakesFragment told (Ok fragment) = (found : Unrolling) × (told ≡ Ok found) × (markup_in fragment ≡ rendered found)
+MakesFragment told (Err (Value position why)) = told ≡ Err (position, why)
+MakesFragment told (Err Memory) = ⊤
 
 -- the page was written, or a beginning of it and then the writer's fault; or the first fault of the data is answered
 abbrev pub Writes : {T : Type 0} → Unrolled → Option (List ℕ) → Option (List ℕ) → Result T (WriteFault DataFault) → Type 0

@@ -10,8 +10,8 @@ ghost use Rattle.html_view.specs.Views.{IsOfTexts, Writes};
 
 use crate::data::Around;
 use crate::faults::DataFault;
-use crate::step::Step;
-use crate::unroll::{Refusal, Stop, put_steps};
+use crate::placed::PlacedNode;
+use crate::unroll::{Refusal, Stop, put_nodes};
 use hesc_core::WriterSink;
 use hesc_sinks::sinks::counter::Counter;
 use hesc_sinks::sinks::filled::FilledSink;
@@ -19,10 +19,10 @@ use html_template::WriteFault;
 use std::alloc::Allocator;
 use std::io::Write;
 
-/// The steps of a view, and the data around them.
+/// The nodes of a view, and the data around them.
 #[derive(Clone, Copy)]
 pub(crate) struct Rendering<'v, 's, 'a, 'p, 't, A: Allocator> {
-    pub(crate) steps: &'v Vec<Step<'a, A>, A>,
+    pub(crate) nodes: &'v Vec<PlacedNode<'a, A>, A>,
     pub(crate) around: &'s Around<'s, 'p, 't>,
 }
 
@@ -82,7 +82,7 @@ fn put_in_room<'v, 's, 'a, 'p, 't: 'p, A: Allocator, B: Allocator>(
     let start = output.len();
     let mut refusal = Refusal::none();
     let mut sink = FilledSink::new(output, room);
-    let outcome = put_steps(rendering.steps, rendering.around, &mut sink, &mut refusal);
+    let outcome = put_nodes(rendering.nodes, rendering.around, &mut sink, &mut refusal);
     let output = sink.into_output();
     match outcome {
         Ok(()) => Ok(()),
@@ -101,8 +101,8 @@ fn count<'v, 's, 'a, 'p, 't: 'p, A: Allocator>(
 {
     let mut refusal = Refusal::none();
     let mut counter = Counter::new();
-    match put_steps(
-        rendering.steps,
+    match put_nodes(
+        rendering.nodes,
         rendering.around,
         &mut counter,
         &mut refusal,
@@ -129,7 +129,7 @@ pub(crate) fn write<'v, 's, 'a, 'p, 't: 'p, A: Allocator, W: Write>(
     }
     let mut refusal = Refusal::none();
     let mut sink = WriterSink::new(output);
-    let outcome = put_steps(rendering.steps, rendering.around, &mut sink, &mut refusal);
+    let outcome = put_nodes(rendering.nodes, rendering.around, &mut sink, &mut refusal);
     let _output = sink.into_output();
     match outcome {
         Ok(()) => Ok(()),

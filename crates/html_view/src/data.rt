@@ -8,15 +8,17 @@ ghost use Rattle.html_view.specs.CutNames.{words_in};
 ghost use Rattle.html_view.specs.Values.{datum_of, fields_of, items_in, stack_of};
 
 use crate::words::Words;
+use html_template::Fragment;
 use std::alloc::Allocator;
 
-/// A value: nothing, a text, a flag, a list, or named values, also as JSON has them. Of two values with
+/// A value: nothing, a text, a flag, a fragment, a list, or named values, also as JSON has them. Of two values with
 /// one name the first counts.
 #[derive(Clone, Copy)]
 pub enum Value<'a, 't> {
     Null,
     Text(&'a str),
     Flag(bool),
+    Fragment(Fragment<'a>),
     List(&'a [Value<'a, 't>]),
     Record(&'a [(&'a str, Value<'a, 't>)]),
     Array(&'a [json::Value<'t>]),

@@ -20,7 +20,7 @@ pub enum TagFault {
     /// between them, or `.` alone. A partial or a layout has none with white space or a brace, and none that
     /// is empty.
     BadName,
-    /// `{{{` or `{{&`: no text stands in a page as it is.
+    /// `{{{` without a `}}}`.
     Raw,
     /// Another sign, with which no tag begins.
     BadTag,
@@ -43,6 +43,9 @@ pub enum ViewFault {
     Part(Position, PartFault),
     /// This slot stands in two places, or its text has two meanings, by what stands before it or behind it.
     Ambiguous(Position),
+    /// This slot for a fragment does not stand between tags: it stands in a tag, in a value, in an element whose
+    /// content is read its own way, in a `template`, or behind a reference that is open.
+    NotInText(Position),
     /// More than eight states of the tokenizer lead here.
     TooManyWays(Position),
     /// Some unrolling ends within a tag, a reference, or an element whose content is read its own way.
@@ -77,8 +80,10 @@ impl From<AllocError> for ViewFault {
 pub enum ValueFault {
     /// The name of a slot means nothing.
     Missing,
-    /// The name of a slot means a list or named values.
+    /// The name of a slot means a list, named values or a fragment.
     NotAText,
+    /// The name of a slot for a fragment means something else.
+    NotAFragment,
     /// The name of a slot between attributes means something else than named values that are attributes.
     NotAttributes,
     /// The name of a section means a list of two items or more, and its body cannot be repeated.

@@ -5,18 +5,21 @@ ghost use Rattle.html_view.specs.Kept.{asked_node, asked_nodes, placed_node, pla
 ghost use Rattle.html_view.specs.Nodes.{written_times};
 ghost use Rattle.html_view.specs.declared.node.Times.TheVariants.{Each};
 
+use crate::checked::CheckedSlot;
 use crate::faults::{Position, ViewFault};
 use crate::heads::{Heads, Known};
 use crate::history::Entry;
-use crate::node::{Asked, Node, Opening, Placed, Times};
+use crate::node::{Node, Opening, Times};
+use crate::placed::{Named, Opened, Placed, PlacedNode};
 use crate::ways::{MOST_WAYS, Ways};
+use html_template::StoredMarkup;
 use std::alloc::Allocator;
 
 /// A body as it is placed, how often it may stand, and the ways behind it.
 #[derive(Drop)]
 struct FollowedBody<'a, A: Allocator> {
     times: Times,
-    nodes: Vec<Node<'a, Placed<'a>, A>, A>,
+    nodes: Vec<PlacedNode<'a, A>, A>,
     ways: Ways<A>,
 }
 
@@ -26,11 +29,11 @@ struct FollowedBody<'a, A: Allocator> {
 pub(crate) fn follow<'a, A: Allocator + Copy>(
     alloc: A,
     entry: Entry,
-    nodes: &Vec<Node<'a, Asked<'a>, A>, A>,
+    nodes: &Vec<Node<'a, A>, A>,
     next: &[u8],
     ways: &mut Ways<A>,
     heads: &mut Heads<A>,
-) -> Result<Vec<Node<'a, Placed<'a>, A>, A>, ViewFault>
+) -> Result<Vec<PlacedNode<'a, A>, A>, ViewFault>
     ensures { IfOk result (λ placed. Follows (asked_nodes nodes.now.items)
         (placed_nodes placed.items) (ways_of ways.old) (ways_of ways.new)) }
 {
@@ -48,9 +51,7 @@ pub(crate) fn follow<'a, A: Allocator + Copy>(
     Ok(placed)
 }
 
-fn behind_first<'m, 'a, A: Allocator>(
-    nodes: &'m [Node<'a, Asked<'a>, A>],
-) -> &'m [Node<'a, Asked<'a>, A>] {
+fn behind_first<'m, 'a, A: Allocator>(nodes: &'m [Node<'a, A>]) -> &'m [Node<'a, A>] {
     match nodes {
         [_, others @ ..] => others,
         [] => nodes,
@@ -60,10 +61,7 @@ fn behind_first<'m, 'a, A: Allocator>(
 // The markup with which nodes are guessed to begin, behind which this is guessed to stand. It tells whether a
 // slot before it, with which a URL begins, is a base. No law rests on it: markup that does not go on so is
 // refused.
-fn first_markup<'m, 'a, A: Allocator>(
-    nodes: &'m [Node<'a, Asked<'a>, A>],
-    next: &'m [u8],
-) -> &'m [u8] {
+fn first_markup<'m, 'a, A: Allocator>(nodes: &'m [Node<'a, A>], next: &'m [u8]) -> &'m [u8] {
     match nodes {
         [first, ..] => markup_in(first, next),
         [] => next,
@@ -71,10 +69,10 @@ fn first_markup<'m, 'a, A: Allocator>(
 }
 
 // The same of a node: that of the body, where it is a section whose body begins with markup.
-fn markup_in<'m, 'a, A: Allocator>(node: &'m Node<'a, Asked<'a>, A>, next: &'m [u8]) -> &'m [u8] {
+fn markup_in<'m, 'a, A: Allocator>(node: &'m Node<'a, A>, next: &'m [u8]) -> &'m [u8] {
     match node {
         Node::Markup(text, _) => text.as_bytes(),
-        Node::Slot(_) => &next[..0],
+        Node::Slot(_) | Node::Fragment(_) => &next[..0],
         Node::Section(_, body, _) => match body.as_slice() {
             [first, ..] => own_markup(first, next),
             [] => next,
@@ -82,7 +80,7 @@ fn markup_in<'m, 'a, A: Allocator>(node: &'m Node<'a, Asked<'a>, A>, next: &'m [
     }
 }
 
-fn own_markup<'m, 'a, A: Allocator>(node: &'m Node<'a, Asked<'a>, A>, next: &'m [u8]) -> &'m [u8] {
+fn own_markup<'m, 'a, A: Allocator>(node: &'m Node<'a, A>, next: &'m [u8]) -> &'m [u8] {
     match node {
         Node::Markup(text, _) => text.as_bytes(),
         _ => next,
@@ -93,26 +91,33 @@ fn own_markup<'m, 'a, A: Allocator>(node: &'m Node<'a, Asked<'a>, A>, next: &'m 
 #[cycle(follow)]
 fn follow_node<'a, A: Allocator + Copy>(
     alloc: A,
-    node: &Node<'a, Asked<'a>, A>,
+    node: &Node<'a, A>,
     next: &[u8],
     ways: &mut Ways<A>,
     heads: &mut Heads<A>,
-) -> Result<Node<'a, Placed<'a>, A>, ViewFault>
+) -> Result<PlacedNode<'a, A>, ViewFault>
     ensures { IfOk result (λ placed. Follows (asked_node node.now) (placed_node placed)
         (ways_of ways.old) (ways_of ways.new)) }
 {
     match node {
         Node::Markup(text, position) => {
             ways.take_markup(text.as_bytes(), *position, &mut heads.history)?;
-            Ok(Node::Markup(*text, *position))
+            Ok(PlacedNode::Markup(StoredMarkup::new(*text)))
         }
         Node::Slot(slot) => {
             let found = ways.take_slot(next, slot.position, &mut heads.history)?;
-            Ok(Node::Slot(Placed {
-                asked: *slot,
-                place: found.place,
-                kind: found.kind,
+            let asked = Named::of(alloc, slot.name, slot.position)?;
+            Ok(PlacedNode::Slot(Placed {
+                asked,
+                checked: CheckedSlot::new(found.place, found.kind),
             }))
+        }
+        Node::Fragment(slot) => {
+            if !ways.are_first() {
+                return Err(ViewFault::NotInText(slot.position));
+            }
+            let named = Named::of(alloc, slot.name, slot.position)?;
+            Ok(PlacedNode::Fragment(named))
         }
         Node::Section(opening, body, otherwise) => {
             let number = heads.open()?;
@@ -120,12 +125,12 @@ fn follow_node<'a, A: Allocator + Copy>(
             let other = follow(alloc, Entry::Other(number), otherwise, next, ways, heads)?;
             // Of two ways that are one, that with fewer sections standing is kept.
             ways.add_all(&passes.ways, opening.position)?;
-            let opening = Opening {
-                name: opening.name,
-                position: opening.position,
+            let tag = Named::of(alloc, opening.name, opening.position)?;
+            let opened = Opened {
+                tag,
                 times: passes.times,
             };
-            Ok(Node::Section(opening, passes.nodes, other))
+            Ok(PlacedNode::Section(opened, passes.nodes, other))
         }
     }
 }
@@ -136,7 +141,7 @@ fn follow_body<'a, A: Allocator + Copy>(
     alloc: A,
     number: usize,
     opening: Opening<'a>,
-    body: &Vec<Node<'a, Asked<'a>, A>, A>,
+    body: &Vec<Node<'a, A>, A>,
     next: &[u8],
     ways: &Ways<A>,
     heads: &mut Heads<A>,
@@ -181,7 +186,7 @@ fn follow_once<'a, A: Allocator + Copy>(
     alloc: A,
     times: Times,
     number: usize,
-    body: &Vec<Node<'a, Asked<'a>, A>, A>,
+    body: &Vec<Node<'a, A>, A>,
     next: &[u8],
     ways: &Ways<A>,
     heads: &mut Heads<A>,
@@ -206,7 +211,7 @@ fn follow_new<'a, A: Allocator + Copy>(
     alloc: A,
     position: Position,
     number: usize,
-    body: &Vec<Node<'a, Asked<'a>, A>, A>,
+    body: &Vec<Node<'a, A>, A>,
     next: &[u8],
     ways: &Ways<A>,
     heads: &mut Heads<A>,
@@ -250,7 +255,7 @@ fn follow_again<'a, A: Allocator + Copy>(
     alloc: A,
     position: Position,
     number: usize,
-    body: &Vec<Node<'a, Asked<'a>, A>, A>,
+    body: &Vec<Node<'a, A>, A>,
     next: &[u8],
     ways: &Ways<A>,
     heads: &mut Heads<A>,
@@ -289,7 +294,7 @@ fn follow_rounds<'a, A: Allocator + Copy>(
     alloc: A,
     position: Position,
     number: usize,
-    body: &Vec<Node<'a, Asked<'a>, A>, A>,
+    body: &Vec<Node<'a, A>, A>,
     next: &[u8],
     ways: Ways<A>,
     heads: &mut Heads<A>,

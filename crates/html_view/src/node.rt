@@ -1,7 +1,5 @@
-//! The nodes of a view, as the source has them and as they are placed.
+//! The nodes of a view, as the source has them.
 use crate::faults::Position;
-use html_template::SlotKind;
-use html_tokenizer::SlotPlace;
 use std::alloc::Allocator;
 
 /// How often the body of a section may stand.
@@ -36,19 +34,13 @@ pub struct Asked<'a> {
     pub position: Position,
 }
 
-/// A slot, where it stands in the page, and what its text is.
-#[derive(Clone, Copy)]
-pub struct Placed<'a> {
-    pub asked: Asked<'a>,
-    pub place: SlotPlace,
-    pub kind: SlotKind,
-}
-
-/// A node, where this is known of each slot.
+/// A node, as it is written.
 #[derive(Drop)]
-pub enum Node<'a, S, A: Allocator> {
+pub enum Node<'a, A: Allocator> {
     Markup(&'a str, Position),
-    Slot(S),
+    Slot(Asked<'a>),
+    /// A slot for a fragment.
+    Fragment(Asked<'a>),
     /// A body, and what stands where it does not.
-    Section(Opening<'a>, Vec<Node<'a, S, A>, A>, Vec<Node<'a, S, A>, A>),
+    Section(Opening<'a>, Vec<Node<'a, A>, A>, Vec<Node<'a, A>, A>),
 }

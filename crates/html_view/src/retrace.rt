@@ -14,7 +14,7 @@ ghost use Rattle.html_view.specs.declared.node.Opening.{Opening};
 use crate::faults::{Position, Refused, ViewFault};
 use crate::heads::Heads;
 use crate::history::Step;
-use crate::node::{Asked, Node, Opening, Times};
+use crate::node::{Node, Opening, Times};
 use crate::way::Way;
 use html_template::PartFault;
 use std::alloc::{AllocError, Allocator};
@@ -22,7 +22,7 @@ use std::alloc::{AllocError, Allocator};
 /// Nodes that are still to be read.
 #[derive(Clone, Copy)]
 struct Frame<'n, 'a, A: Allocator> {
-    nodes: &'n [Node<'a, Asked<'a>, A>],
+    nodes: &'n [Node<'a, A>],
     // The first of them is this section, whose body stood: it may stand again, and nothing stands where it
     // does not.
     again: Option<usize>,
@@ -36,11 +36,7 @@ struct Trace<'n, 'a, A: Allocator> {
 }
 
 impl<'n, 'a, A: Allocator + Copy> Trace<'n, 'a, A> {
-    fn add(
-        &mut self,
-        nodes: &'n [Node<'a, Asked<'a>, A>],
-        again: Option<usize>,
-    ) -> Result<(), AllocError>
+    fn add(&mut self, nodes: &'n [Node<'a, A>], again: Option<usize>) -> Result<(), AllocError>
         ensures work { OnOk result (work_of self.new.work.items
             ≡ once_stood again (asked_nodes nodes.now node.End) ∷ work_of self.old.work.items) }
         ensures standing { self.new.standing ≡ self.old.standing }
@@ -56,8 +52,8 @@ impl<'n, 'a, A: Allocator + Copy> Trace<'n, 'a, A> {
         &mut self,
         frame: Frame<'n, 'a, A>,
         opening: Opening<'a>,
-        body: &'n Vec<Node<'a, Asked<'a>, A>, A>,
-        rest: &'n [Node<'a, Asked<'a>, A>],
+        body: &'n Vec<Node<'a, A>, A>,
+        rest: &'n [Node<'a, A>],
         number: usize,
     ) -> Result<(), AllocError>
         requires { (otherwise : Nodes node.Asked) × BeginsWith frame.nodes.now opening
@@ -98,8 +94,8 @@ impl<'n, 'a, A: Allocator + Copy> Trace<'n, 'a, A> {
     fn leave_out(
         &mut self,
         frame: Frame<'n, 'a, A>,
-        otherwise: &'n Vec<Node<'a, Asked<'a>, A>, A>,
-        rest: &'n [Node<'a, Asked<'a>, A>],
+        otherwise: &'n Vec<Node<'a, A>, A>,
+        rest: &'n [Node<'a, A>],
     ) -> Result<(), AllocError>
         requires { (opening : Opening) × (body : Nodes node.Asked) × BeginsWith frame.nodes.now
             opening body (asked_nodes otherwise.now.items node.End) rest.now }
@@ -130,7 +126,7 @@ impl<'n, 'a, A: Allocator + Copy> Trace<'n, 'a, A> {
 /// not seen.
 pub(crate) fn refused<'a, A: Allocator + Copy>(
     alloc: A,
-    nodes: &Vec<Node<'a, Asked<'a>, A>, A>,
+    nodes: &Vec<Node<'a, A>, A>,
     fault: ViewFault,
     heads: &Heads<A>,
 ) -> Refused<A>
@@ -140,6 +136,7 @@ pub(crate) fn refused<'a, A: Allocator + Copy>(
         ViewFault::Part(_, _) | ViewFault::Unfinished => {}
         ViewFault::Tag(_, _) => return without(alloc, fault),
         ViewFault::Ambiguous(_) => return without(alloc, fault),
+        ViewFault::NotInText(_) => return without(alloc, fault),
         ViewFault::TooManyWays(_) => return without(alloc, fault),
         ViewFault::Memory => return without(alloc, fault),
     }
@@ -167,7 +164,7 @@ pub(crate) fn without<A: Allocator>(alloc: A, fault: ViewFault) -> Refused<A>
 
 fn retraced<'a, A: Allocator + Copy>(
     alloc: A,
-    nodes: &Vec<Node<'a, Asked<'a>, A>, A>,
+    nodes: &Vec<Node<'a, A>, A>,
     heads: &Heads<A>,
 ) -> Result<Option<Refused<A>>, AllocError>
     ensures { IfOk result (λ found. IfSome found (λ refused.
@@ -180,7 +177,7 @@ fn retraced<'a, A: Allocator + Copy>(
 // Reads the unrolling of these steps, the last of which is the first one, up to its fault.
 fn retrace<'n, 'a, A: Allocator + Copy>(
     alloc: A,
-    nodes: &'n [Node<'a, Asked<'a>, A>],
+    nodes: &'n [Node<'a, A>],
     steps: Vec<Step, A>,
 ) -> Result<Option<Refused<A>>, AllocError>
     ensures { IfOk result (λ found. IfSome found (λ refused.
@@ -210,6 +207,8 @@ fn retrace<'n, 'a, A: Allocator + Copy>(
                 Ok(_) => trace.add(rest, None)?,
                 Err(why) => return Ok(Some(trace.refused(slot.position, why))),
             },
+            // It may be empty.
+            Node::Fragment(_) => trace.add(rest, None)?,
             Node::Section(opening, body, otherwise) => match pass(&mut steps, frame.again) {
                 Some(number) => trace.stand(frame, *opening, body, rest, number)?,
                 None => trace.leave_out(frame, otherwise, rest)?,

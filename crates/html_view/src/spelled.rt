@@ -42,7 +42,7 @@ fn attribute<'a, A: Allocator + Copy>(
     row: Attribute,
     times: Times,
     position: Position,
-) -> Result<Node<'a, Asked<'a>, A>, ViewFault>
+) -> Result<Node<'a, A>, ViewFault>
     requires { times ≢ Once }
     ensures { IfOk result (λ node. (rest : spec.Nodes spec.Asked)
         → asked_node node rest ≡ of_row times position row rest) }
@@ -81,10 +81,7 @@ fn add_all<'a, A: Allocator + Copy>(
 }
 
 // The section of a slot between attributes.
-fn attributes<'a, A: Allocator + Copy>(
-    alloc: A,
-    slot: Asked<'a>,
-) -> Result<Node<'a, Asked<'a>, A>, ViewFault>
+fn attributes<'a, A: Allocator + Copy>(alloc: A, slot: Asked<'a>) -> Result<Node<'a, A>, ViewFault>
     ensures { IfOk result (λ node. (rest : spec.Nodes spec.Asked)
         → asked_node node rest ≡ attributes (asked_of slot.entry) rest) }
 {
@@ -102,9 +99,9 @@ fn attributes<'a, A: Allocator + Copy>(
 #[cycle(spell)]
 fn spell_node<'a, A: Allocator + Copy>(
     alloc: A,
-    node: &Node<'a, Asked<'a>, A>,
+    node: &Node<'a, A>,
     reader: &mut Reader<A>,
-) -> Result<Node<'a, Asked<'a>, A>, ViewFault>
+) -> Result<Node<'a, A>, ViewFault>
     ensures { IfOk result (λ made. Spells (asked_node node.now) (asked_node made)
         (tokenizer_of reader.old) (tokenizer_of reader.new)) }
 {
@@ -120,6 +117,7 @@ fn spell_node<'a, A: Allocator + Copy>(
             let _standing = reader.slot();
             Ok(Node::Slot(*slot))
         }
+        Node::Fragment(slot) => Ok(Node::Fragment(*slot)),
         Node::Section(opening, body, otherwise) => {
             let mut before = reader.copy(alloc)?;
             let body = spell(alloc, body, reader)?;

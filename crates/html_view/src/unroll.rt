@@ -1,24 +1,26 @@
 //! What data makes of nodes, put into a sink.
 ghost use Rattle.std.specs.Prelude.{◌≡◌, [], ◌∷◌, IfErr, IfOk, Ok, Err, option_map};
 ghost use Rattle.std.specs.Str.{IsUtf8};
+ghost use Rattle.html_template.specs.Fragments.{markup_of};
 ghost use Rattle.html_view.specs.CutNames.{words_in};
 ghost use Rattle.html_view.specs.Data as data_of;
 ghost use Rattle.html_view.specs.Data.{filled_stacks, given_stacks, inside, is_nothing, item_stacks, list_stacks, stacks};
 ghost use Rattle.html_view.specs.Nodes as node;
 ghost use Rattle.html_view.specs.Putting.{Puts, PutsFront, StandsSo};
-ghost use Rattle.html_view.specs.Rendered.{text_for, unrolled, unrolled_each};
-ghost use Rattle.html_view.specs.Stepped.{slot_of, step_node, stepped};
+ghost use Rattle.html_view.specs.Rendered.{fragment_for, text_for, unrolled, unrolled_each};
+ghost use Rattle.html_view.specs.Kept.{named_of, nodes_of, placed_node, slot_of};
 ghost use Rattle.html_view.specs.Values.{datum_of, items_in, stack_of};
+ghost use Rattle.html_view.specs.declared.data.Value as Value;
 ghost use Rattle.html_view.specs.declared.node.Times.TheVariants.{Given};
 
 use crate::attributes::refused_for;
 use crate::data::{Around, Items, Value, find, look_up};
 use crate::faults::{Position, ValueFault};
 use crate::node::Times;
-use crate::step::{SlotStep, Step};
+use crate::placed::{Named, Placed, PlacedNode};
 use crate::words::Words;
 use hesc_core::Sink;
-use html_template::{put_markup, put_text};
+use html_template::{Fragment, StoredMarkup, put_markup, put_text};
 use std::alloc::Allocator;
 
 /// Where a value is refused, and why.
@@ -50,14 +52,14 @@ pub(crate) enum Stop<F> {
 // The text for a slot, of what its name means.
 #[inline(always)]
 fn text_for<'p, 't: 'p, A: Allocator>(
-    slot: &SlotStep<'_, A>,
+    slot: &Placed<'_, A>,
     value: Option<Value<'p, 't>>,
 ) -> Result<&'p str, ValueFault>
     ensures ok { IfOk result (λ text. text_for (slot_of slot.now)
         (option_map datum_of value.entry) ≡ Ok text.now) }
     ensures utf8 { IfOk result (λ text. IsUtf8 text.now) }
     ensures err { IfErr result (λ fault. text_for (slot_of slot.now)
-        (option_map datum_of value.entry) ≡ Err (slot.now.position, fault)) }
+        (option_map datum_of value.entry) ≡ Err (slot.now.asked.position, fault)) }
 {
     let text = match value {
         None => return Err(ValueFault::Missing),
@@ -65,6 +67,7 @@ fn text_for<'p, 't: 'p, A: Allocator>(
         Some(Value::Text(text)) => text,
         Some(Value::Flag(true)) => "true",
         Some(Value::Flag(false)) => "false",
+        Some(Value::Fragment(_)) => return Err(ValueFault::NotAText),
         Some(Value::List(_)) => return Err(ValueFault::NotAText),
         Some(Value::Record(_)) => return Err(ValueFault::NotAText),
         Some(Value::Array(_)) => return Err(ValueFault::NotAText),
@@ -80,7 +83,7 @@ fn text_for<'p, 't: 'p, A: Allocator>(
 
 #[inline(always)]
 fn put_slot<'s, 'p, 't: 'p, A: Allocator, S: Sink>(
-    slot: &SlotStep<'_, A>,
+    slot: &Placed<'_, A>,
     around: &Around<'s, 'p, 't>,
     sink: &mut S,
     refusal: &mut Refusal,
@@ -91,7 +94,7 @@ fn put_slot<'s, 'p, 't: 'p, A: Allocator, S: Sink>(
     ensures same_reference { S.reference sink.new ≡ S.reference sink.old }
     ensures same_before { S.before sink.new ≡ S.before sink.old }
 {
-    match &slot.name {
+    match &slot.asked.words {
         Words::One(word) => put_value(slot, find(around, *word), around, sink, refusal),
         Words::Innermost | Words::Several(_, _) => put_slot_of_words(slot, around, sink, refusal),
     }
@@ -101,7 +104,7 @@ fn put_slot<'s, 'p, 't: 'p, A: Allocator, S: Sink>(
 // for the values that lie between.
 #[inline(never)]
 fn put_slot_of_words<'s, 'p, 't: 'p, A: Allocator, S: Sink>(
-    slot: &SlotStep<'_, A>,
+    slot: &Placed<'_, A>,
     around: &Around<'s, 'p, 't>,
     sink: &mut S,
     refusal: &mut Refusal,
@@ -112,20 +115,26 @@ fn put_slot_of_words<'s, 'p, 't: 'p, A: Allocator, S: Sink>(
     ensures same_reference { S.reference sink.new ≡ S.reference sink.old }
     ensures same_before { S.before sink.new ≡ S.before sink.old }
 {
-    put_value(slot, look_up(&slot.name, around), around, sink, refusal)
+    put_value(
+        slot,
+        look_up(&slot.asked.words, around),
+        around,
+        sink,
+        refusal,
+    )
 }
 
 // Puts the text for a slot, whose name means this value.
 #[inline(always)]
 fn put_value<'s, 'p, 't: 'p, A: Allocator, S: Sink>(
-    slot: &SlotStep<'_, A>,
+    slot: &Placed<'_, A>,
     value: Option<Value<'p, 't>>,
     around: &Around<'s, 'p, 't>,
     sink: &mut S,
     refusal: &mut Refusal,
 ) -> Result<(), Stop<S::Fault>>
     requires means { option_map datum_of value
-        ≡ data_of.look_up (words_in slot.now.name) (stack_of around.now) }
+        ≡ data_of.look_up (words_in slot.now.asked.words) (stack_of around.now) }
     ensures puts { PutsFront (λ rest. unrolled (node.Slot (slot_of slot.now) rest)
         (stack_of around.now)) (stack_of around.now) (S.taken sink.old) (S.taken sink.new)
         refusal.new result }
@@ -135,6 +144,58 @@ fn put_value<'s, 'p, 't: 'p, A: Allocator, S: Sink>(
     let _around = around;
     match text_for(slot, value) {
         Ok(text) => match put_text(&slot.checked.stored, text, sink) {
+            Ok(()) => Ok(()),
+            Err(fault) => Err(Stop::Failed(fault)),
+        },
+        Err(why) => {
+            *refusal = Refusal {
+                position: slot.asked.position,
+                why,
+            };
+            Err(Stop::Refused)
+        }
+    }
+}
+
+// The fragment for a slot, of what its name means.
+fn fragment_for<'p, 't: 'p, A: Allocator>(
+    slot: &Named<'_, A>,
+    value: Option<Value<'p, 't>>,
+) -> Result<Fragment<'p>, ValueFault>
+    ensures ok { IfOk result (λ fragment. fragment_for (named_of slot.now)
+        (option_map datum_of value.entry) ≡ Ok (markup_of fragment)) }
+    ensures err { IfErr result (λ fault. fragment_for (named_of slot.now)
+        (option_map datum_of value.entry) ≡ Err (slot.now.position, fault)) }
+{
+    let _slot = slot;
+    match value {
+        None => Err(ValueFault::Missing),
+        Some(Value::Null) => Err(ValueFault::Missing),
+        Some(Value::Fragment(fragment)) => Ok(fragment),
+        Some(Value::Text(_)) => Err(ValueFault::NotAFragment),
+        Some(Value::Flag(_)) => Err(ValueFault::NotAFragment),
+        Some(Value::List(_)) => Err(ValueFault::NotAFragment),
+        Some(Value::Record(_)) => Err(ValueFault::NotAFragment),
+        Some(Value::Array(_)) => Err(ValueFault::NotAFragment),
+        Some(Value::Object(_)) => Err(ValueFault::NotAFragment),
+    }
+}
+
+#[inline(never)]
+fn put_fragment<'s, 'p, 't: 'p, A: Allocator, S: Sink>(
+    slot: &Named<'_, A>,
+    around: &Around<'s, 'p, 't>,
+    sink: &mut S,
+    refusal: &mut Refusal,
+) -> Result<(), Stop<S::Fault>>
+    ensures puts { PutsFront (λ rest. unrolled (node.Fragment (named_of slot.now) rest)
+        (stack_of around.now)) (stack_of around.now) (S.taken sink.old) (S.taken sink.new)
+        refusal.new result }
+    ensures same_reference { S.reference sink.new ≡ S.reference sink.old }
+    ensures same_before { S.before sink.new ≡ S.before sink.old }
+{
+    match fragment_for(slot, look_up(&slot.words, around)) {
+        Ok(fragment) => match put_markup(&StoredMarkup::new(fragment.as_str()), sink) {
             Ok(()) => Ok(()),
             Err(fault) => Err(Stop::Failed(fault)),
         },
@@ -176,6 +237,22 @@ fn stand_once<'s, 'p, 't>(
     match times {
         Times::Whether => Stand::Here,
         _ => Stand::Inside(value),
+    }
+}
+
+// How the body of a section of a fragment stands.
+fn stand_of_fragment<'s, 'p, 't>(
+    times: Times,
+    fragment: Fragment<'p>,
+    around: &Around<'s, 'p, 't>,
+) -> Stand<'p, 't>
+    ensures { StandsSo times (filled_stacks times (Some (datum_of (Value.Fragment fragment.entry))) (stack_of around.now))
+        (stack_of around.now) result }
+{
+    if fragment.as_str().is_empty() {
+        Stand::Never
+    } else {
+        stand_once(times, Value::Fragment(fragment), around)
     }
 }
 
@@ -258,6 +335,7 @@ fn stand_of_filled<'s, 'p, 't>(
         Some(Value::Flag(true)) => Stand::Here,
         Some(Value::Text("")) => Stand::Never,
         Some(Value::Text(text)) => stand_once(times, Value::Text(text), around),
+        Some(Value::Fragment(fragment)) => stand_of_fragment(times, fragment, around),
         Some(Value::Record(fields)) => stand_once(times, Value::Record(fields), around),
         Some(Value::Object(members)) => stand_once(times, Value::Object(members), around),
         Some(Value::List(values)) => stand_of_list(times, Items::List(values), around),
@@ -265,43 +343,44 @@ fn stand_of_filled<'s, 'p, 't>(
     }
 }
 
-// Puts what data makes of a step.
+// Puts what data makes of a node.
 #[cycle(put)]
 #[inline(always)]
-fn put_step<'s, 'a, 'p, 't: 'p, A: Allocator, S: Sink>(
-    step: &Step<'a, A>,
+fn put_node<'s, 'a, 'p, 't: 'p, A: Allocator, S: Sink>(
+    node: &PlacedNode<'a, A>,
     around: &'s Around<'s, 'p, 't>,
     sink: &mut S,
     refusal: &mut Refusal,
 ) -> Result<(), Stop<S::Fault>>
-    ensures puts { PutsFront (λ rest. unrolled (step_node step.now rest) (stack_of around.now))
+    ensures puts { PutsFront (λ rest. unrolled (placed_node node.now rest) (stack_of around.now))
         (stack_of around.now) (S.taken sink.old) (S.taken sink.new) refusal.new result }
     ensures same_reference { S.reference sink.new ≡ S.reference sink.old }
     ensures same_before { S.before sink.new ≡ S.before sink.old }
 {
-    match step {
-        Step::Markup(markup) => match put_markup(markup, sink) {
+    match node {
+        PlacedNode::Markup(markup) => match put_markup(markup, sink) {
             Ok(()) => Ok(()),
             Err(fault) => Err(Stop::Failed(fault)),
         },
-        Step::Slot(slot) => put_slot(slot, around, sink, refusal),
-        Step::Section(opening, body, otherwise) => {
-            let value = look_up(&opening.name, around);
-            if let Some(why) = refused_for(opening.times, value) {
+        PlacedNode::Slot(slot) => put_slot(slot, around, sink, refusal),
+        PlacedNode::Fragment(slot) => put_fragment(slot, around, sink, refusal),
+        PlacedNode::Section(opened, body, otherwise) => {
+            let value = look_up(&opened.tag.words, around);
+            if let Some(why) = refused_for(opened.times, value) {
                 *refusal = Refusal {
-                    position: opening.position,
+                    position: opened.tag.position,
                     why,
                 };
                 return Err(Stop::Refused);
             }
-            match stand_of(opening.times, value, around) {
-                Stand::Never => put_steps(otherwise, around, sink, refusal),
-                Stand::Here => put_steps(body, around, sink, refusal),
+            match stand_of(opened.times, value, around) {
+                Stand::Never => put_nodes(otherwise, around, sink, refusal),
+                Stand::Here => put_nodes(body, around, sink, refusal),
                 Stand::Inside(value) => put_inside(body, value, around, sink, refusal),
                 Stand::Each(items) => put_each(body, items, around, sink, refusal),
                 Stand::Repeated => {
                     *refusal = Refusal {
-                        position: opening.position,
+                        position: opened.tag.position,
                         why: ValueFault::Repeated,
                     };
                     Err(Stop::Refused)
@@ -312,35 +391,35 @@ fn put_step<'s, 'a, 'p, 't: 'p, A: Allocator, S: Sink>(
 }
 
 // Puts what data makes of a body with this value around, too. What is around is made here, so that no other
-// step has to make room for it.
+// node has to make room for it.
 #[cycle(put)]
 #[inline(always)]
 fn put_inside<'s, 'a, 'p, 't: 'p, A: Allocator, S: Sink>(
-    body: &Vec<Step<'a, A>, A>,
+    body: &Vec<PlacedNode<'a, A>, A>,
     value: Value<'p, 't>,
     around: &'s Around<'s, 'p, 't>,
     sink: &mut S,
     refusal: &mut Refusal,
 ) -> Result<(), Stop<S::Fault>>
-    ensures puts { Puts (unrolled (stepped body.now.items) (datum_of value.entry ∷ stack_of around.now))
+    ensures puts { Puts (unrolled (nodes_of body.now.items) (datum_of value.entry ∷ stack_of around.now))
         (S.taken sink.old) (S.taken sink.new) refusal.new result }
     ensures same_reference { S.reference sink.new ≡ S.reference sink.old }
     ensures same_before { S.before sink.new ≡ S.before sink.old }
 {
     let inner = Around::Inside(value, around);
-    put_steps(body, &inner, sink, refusal)
+    put_nodes(body, &inner, sink, refusal)
 }
 
 // Puts what data makes of a body, once for each item.
 #[cycle(put)]
 fn put_each<'s, 'a, 'p, 't: 'p, A: Allocator, S: Sink>(
-    body: &Vec<Step<'a, A>, A>,
+    body: &Vec<PlacedNode<'a, A>, A>,
     items: Items<'p, 't>,
     around: &'s Around<'s, 'p, 't>,
     sink: &mut S,
     refusal: &mut Refusal,
 ) -> Result<(), Stop<S::Fault>>
-    ensures puts { Puts (unrolled_each (λ inner. unrolled (stepped body.now.items) inner)
+    ensures puts { Puts (unrolled_each (λ inner. unrolled (nodes_of body.now.items) inner)
         (item_stacks (items_in items.entry) (stack_of around.now)))
         (S.taken sink.old) (S.taken sink.new) refusal.new result }
     ensures same_reference { S.reference sink.new ≡ S.reference sink.old }
@@ -349,7 +428,7 @@ fn put_each<'s, 'a, 'p, 't: 'p, A: Allocator, S: Sink>(
     let mut rest = items;
     'items: while let Some((item, others)) = rest.take_first() {
         let inner = Around::Inside(item, around);
-        match put_steps(body, &inner, sink, refusal) {
+        match put_nodes(body, &inner, sink, refusal) {
             Ok(()) => {}
             Err(stop) => return Err(stop),
         }
@@ -358,21 +437,21 @@ fn put_each<'s, 'a, 'p, 't: 'p, A: Allocator, S: Sink>(
     Ok(())
 }
 
-/// Puts what data makes of steps, one after the other.
+/// Puts what data makes of nodes, one after the other.
 #[cycle(put)]
-pub(crate) fn put_steps<'s, 'a, 'p, 't: 'p, A: Allocator, S: Sink>(
-    steps: &Vec<Step<'a, A>, A>,
+pub(crate) fn put_nodes<'s, 'a, 'p, 't: 'p, A: Allocator, S: Sink>(
+    nodes: &Vec<PlacedNode<'a, A>, A>,
     around: &'s Around<'s, 'p, 't>,
     sink: &mut S,
     refusal: &mut Refusal,
 ) -> Result<(), Stop<S::Fault>>
-    ensures puts { Puts (unrolled (stepped steps.now.items) (stack_of around.now))
+    ensures puts { Puts (unrolled (nodes_of nodes.now.items) (stack_of around.now))
         (S.taken sink.old) (S.taken sink.new) refusal.new result }
     ensures same_reference { S.reference sink.new ≡ S.reference sink.old }
     ensures same_before { S.before sink.new ≡ S.before sink.old }
 {
-    for step in steps {
-        match put_step(step, around, sink, refusal) {
+    for node in nodes {
+        match put_node(node, around, sink, refusal) {
             Ok(()) => {}
             Err(stop) => return Err(stop),
         }

@@ -8,7 +8,6 @@ ghost use Rattle.html_view.specs.Nodes.{written};
 ghost use Rattle.html_view.specs.Reached.{Shows, ShowsOf};
 ghost use Rattle.html_view.specs.Reading.{partials_of};
 ghost use Rattle.html_view.specs.Spelled.{IsSpelled, spelled};
-ghost use Rattle.html_view.specs.Stepped.{MakeTheSame};
 ghost use Rattle.html_view.specs.Unrolled.{AreTemplates};
 ghost use Rattle.html_view.specs.Values.{datum_of};
 
@@ -19,14 +18,14 @@ use crate::follow::follow;
 use crate::heads::Heads;
 use crate::history::Entry;
 use crate::names::{Name, add_names};
-use crate::node::{Asked, Node, Placed};
+use crate::node::Node;
+use crate::placed::PlacedNode;
 use crate::retrace::{refused, without};
 use crate::source::read;
 use crate::spelled::spell;
-use crate::step::{Step, steps_of};
 use crate::ways::Ways;
 use core::mem::replace_with;
-use html_template::WriteFault;
+use html_template::{FragmentBuf, WriteFault};
 use html_tokenizer::Reader;
 use std::alloc::{AllocError, Allocator, Global};
 use std::io::Write;
@@ -35,21 +34,18 @@ use std::io::Write;
 #[derive(Drop)]
 pub struct View<'a, A: Allocator = Global> {
     alloc: A,
-    nodes: Vec<Node<'a, Placed<'a>, A>, A>,
-    // The nodes, as they are rendered.
-    steps: Vec<Step<'a, A>, A>,
+    nodes: Vec<PlacedNode<'a, A>, A>,
     ghost sound: { AreTemplates (nodes_of nodes.items) },
-    ghost same: { MakeTheSame steps.items (nodes_of nodes.items) },
 }
 
 impl<'a, A: Allocator + Copy> View<'a, A> {
-    ghost use Rattle.html_view.specs.Views.{AddsPage, IsOfTexts, Renders, Writes, WritesPage, nodes_in, unrolled_by};
+    ghost use Rattle.html_view.specs.Views.{AddsPage, IsOfTexts, MakesFragment, Renders, Writes, WritesPage, nodes_in, unrolled_by};
 
     /// The view of these nodes. Each slot is placed by what stands before it, whichever sections stand.
     /// The body of a section of [`Times::Each`](crate::Times::Each) that cannot be repeated stands once.
     ///
     /// Of `<ul>`, a section with the body `<li>`, a slot and `</li>`, and `</ul>` the slot stands in text.
-    pub fn new(alloc: A, nodes: &Vec<Node<'a, Asked<'a>, A>, A>) -> Result<View<'a, A>, Refused<A>>
+    pub fn new(alloc: A, nodes: &Vec<Node<'a, A>, A>) -> Result<View<'a, A>, Refused<A>>
         ensures nodes { IfOk result (λ view. written (nodes_in view)
             ≡ asked_nodes nodes.now.items node.End) }
         ensures spelled { IfOk result (λ view. spelled (asked_nodes nodes.now.items node.End)
@@ -67,7 +63,7 @@ impl<'a, A: Allocator + Copy> View<'a, A> {
     // The view, or the fault that some way has, whose steps are then kept.
     fn placed(
         alloc: A,
-        nodes: &Vec<Node<'a, Asked<'a>, A>, A>,
+        nodes: &Vec<Node<'a, A>, A>,
         heads: &mut Heads<A>,
     ) -> Result<View<'a, A>, ViewFault>
         ensures nodes { IfOk result (λ view. written (nodes_in view)
@@ -80,20 +76,12 @@ impl<'a, A: Allocator + Copy> View<'a, A> {
         if !ways.may_end(&mut heads.history)? {
             return Err(ViewFault::Unfinished);
         }
-        let steps = steps_of(alloc, &nodes)?;
-        Ok(View {
-            alloc,
-            nodes,
-            steps,
-        })
+        Ok(View { alloc, nodes })
     }
 
     // The view of these nodes, with each slot between attributes spelled out. Most have none: they are a view as
     // they are, unless they are refused.
-    fn of_spelled(
-        alloc: A,
-        nodes: &Vec<Node<'a, Asked<'a>, A>, A>,
-    ) -> Result<View<'a, A>, Refused<A>>
+    fn of_spelled(alloc: A, nodes: &Vec<Node<'a, A>, A>) -> Result<View<'a, A>, Refused<A>>
         ensures nodes { IfOk result (λ view. written (nodes_in view)
             ≡ spelled (asked_nodes nodes.now.items node.End)) }
         ensures refused { IfErr result (λ refused. Shows (spelled (asked_nodes nodes.now.items node.End))
@@ -117,6 +105,7 @@ impl<'a, A: Allocator + Copy> View<'a, A> {
     /// - `{{name}}`, a slot, and `{{"{{"}}`, a `{{` of the markup; between the attributes of a start tag the slot is
     ///   spelled out, as a section of [`Times::Attributes`](crate::Times::Attributes) with one for each attribute that
     ///   its named values may have
+    /// - `{{{name}}}` and `{{&name}}`, a slot for a fragment
     /// - `{{#name}}`..`{{/name}}` and `{{?name}}`..`{{/name}}`, a section for each item and a condition, and
     ///   `{{^name}}`..`{{/name}}`, what stands where that of this name before it does not
     /// - `{{! text }}`, a comment
@@ -149,7 +138,7 @@ impl<'a, A: Allocator + Copy> View<'a, A> {
     }
 
     /// The nodes, each slot placed.
-    pub fn nodes(&self) -> &Vec<Node<'a, Placed<'a>, A>, A>
+    pub fn nodes(&self) -> &Vec<PlacedNode<'a, A>, A>
         ensures { result.now ≡ self.now.nodes }
     {
         &self.nodes
@@ -188,10 +177,27 @@ impl<'a, A: Allocator + Copy> View<'a, A> {
         let outermost = Around::Nothing;
         let around = Around::Inside(value, &outermost);
         let rendering = Rendering {
-            steps: &self.steps,
+            nodes: &self.nodes,
             around: &around,
         };
         replace_with(output, &rendering, appended)
+    }
+
+    /// The page of this data, as a fragment, which may stand in other views.
+    ///
+    /// Of `<b>`, a slot named `a` and `</b>`, the fragment of a record whose `a` is `x<y` is `<b>x&lt;y</b>`.
+    pub fn fragment<'p, 't: 'p, B: Allocator>(
+        &self,
+        alloc: B,
+        value: Value<'p, 't>,
+    ) -> Result<FragmentBuf<B>, DataFault>
+    where
+        'a: 'p,
+        ensures { MakesFragment (unrolled_by self.now (datum_of value.entry)) result }
+    {
+        let mut page = String::new(alloc);
+        self.append(&mut page, value)?;
+        Ok(FragmentBuf::of_page(page))
     }
 
     /// Writes the page of this data: markup as it stands, and each text as it is encoded. No page is made
@@ -215,7 +221,7 @@ impl<'a, A: Allocator + Copy> View<'a, A> {
         let outermost = Around::Nothing;
         let around = Around::Inside(value, &outermost);
         let rendering = Rendering {
-            steps: &self.steps,
+            nodes: &self.nodes,
             around: &around,
         };
         write(output, &rendering)

@@ -84,6 +84,13 @@ impl<A: Allocator + Copy> Way<A> {
         })
     }
 
+    /// Whether a page may begin here.
+    pub(crate) fn is_first(&self) -> bool
+        ensures { IsTrue result → way_of self.now ≡ first_way }
+    {
+        matches!(self.url, OpenUrl::Outside) && self.markup.is_empty() && self.reader.may_end()
+    }
+
     /// Whether both are one way, by whatever steps.
     pub(crate) fn is_same(&self, other: &Way<A>) -> bool
         ensures { IsTrue result → way_of self.now ≡ way_of other.now }

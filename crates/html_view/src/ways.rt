@@ -231,6 +231,22 @@ impl<A: Allocator + Copy> Ways<A> {
         Ok(Past { slot, ways })
     }
 
+    /// Whether each of them is where a page may begin.
+    pub(crate) fn are_first(&self) -> bool
+        ensures { IsTrue result → (way : spec.Way) → Among way (ways_of self.now)
+            → way ≡ first_way }
+    {
+        if !self.first.is_first() {
+            return false;
+        }
+        for way in &self.others {
+            if !way.is_first() {
+                return false;
+            }
+        }
+        true
+    }
+
     /// Whether a page may end on each of them.
     pub(crate) fn may_end(&self, history: &mut History<A>) -> Result<bool, AllocError>
         ensures { IfOk result (λ may. IsTrue may → (way : spec.Way) → Among way (ways_of self.now)
@@ -338,7 +354,9 @@ fn is_same_kind(first: SlotKind, second: SlotKind) -> bool
     ensures { IsTrue result → first ≡ second }
 {
     match (first, second) {
-        (SlotKind::Text, SlotKind::Text) | (SlotKind::Literal, SlotKind::Literal) => true,
+        (SlotKind::Text, SlotKind::Text)
+        | (SlotKind::Literal, SlotKind::Literal)
+        | (SlotKind::Json, SlotKind::Json) => true,
         (SlotKind::UrlPart(slot), SlotKind::UrlPart(other)) => {
             slot.place == other.place && slot.begins_segment == other.begins_segment
         }

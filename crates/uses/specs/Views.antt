@@ -1,1 +1,2 @@
 pub mod FramedPages
+pub mod NestedPages

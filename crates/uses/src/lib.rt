@@ -15,5 +15,5 @@ pub use crate::templates::{
     price_list, search_page,
 };
 pub use crate::urls::search_link;
-pub use crate::views::{framed_page, json_page, two_pages};
+pub use crate::views::{framed_page, json_page, nested_page, two_pages};
 pub use crate::writers::{log_item, log_list};

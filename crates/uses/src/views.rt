@@ -2,4 +2,5 @@
 
 pub mod framed_page;
 pub mod json_page;
+pub mod nested_page;
 pub mod two_pages;

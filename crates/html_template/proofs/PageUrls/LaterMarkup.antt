@@ -5,14 +5,14 @@ use Rattle.std.proofs.lemmas.Bool.{cases_Bool}
 use Rattle.std.proofs.lemmas.Slice.Eq.{bytes_eq-Decides}
 use Rattle.std.specs.Option.{option_and_then}
 use Rattle.html_template.specs.declared.faults.PartFault.{PartFault}
-use Rattle.html_template.specs.declared.faults.PartFault.TheVariants.{AfterLink}
+use Rattle.html_template.specs.declared.faults.PartFault.TheVariants.{AfterLink, NotFixed}
 use Rattle.html_template.specs.declared.open_url.OpenUrl.{OpenUrl}
 use Rattle.html_template.specs.declared.open_url.OpenUrl.TheVariants.{Outside, Within, Front}
 use Rattle.html_template.specs.OpenUrls.{after_base, behind_base_text, behind_part, behind_slot, if_plain, is_slash, plain_text, url_end}
 use Rattle.html_tokenizer.specs.declared.slot_place.SlotPlace.{SlotPlace}
 use Rattle.html_tokenizer.specs.UrlValues.{url_text}
 use Rattle.html_urls.specs.Bases.{goes_as, open_behind}
-use Rattle.html_urls.specs.OpenParts.{after_markup, may_be_dots}
+use Rattle.html_urls.specs.OpenParts.{after_markup, ends_scheme, may_be_dots}
 use Rattle.html_urls.specs.Slots.{is_plain}
 use Rattle.html_urls.specs.declared.base.BehindBase.{BehindBase}
 use Rattle.html_urls.specs.declared.base.BehindBase.TheVariants.{Segment}
@@ -40,34 +40,39 @@ plain_adds is_ended markup text (Some found) is told =
 pub adds_text : (is_ended : Bool) (markup text : List ℕ) → plain_text is_ended markup ≡ Some text → AddsText is_ended markup text
 adds_text is_ended markup text told = plain_adds is_ended markup text (url_text is_ended markup) refl told
 
+abbrev pub as_told : OpenUrl → Result OpenUrl PartFault
+as_told url = Ok url
+
 -- the value goes on behind the markup, or ends in it
 pub record BehindSlot (p : SlotPlace) (part : OpenPart) (ended : Bool) (markup : List ℕ) (url : OpenUrl) : Type 0 where
   pub text : List ℕ
   pub adds : AddsText ended markup text
   pub after : OpenPart
+  pub scheme : ends_scheme part text ≡ false
   pub opened : after_markup part text ≡ Some after
   pub told : url_end p ended after ≡ Ok url
 
 behind_after : (p : SlotPlace) (part : OpenPart) (ended : Bool) (markup text : List ℕ) (url : OpenUrl) (after : Option OpenPart) →
-    AddsText ended markup text → after_markup part text ≡ after → behind_part p ended after ≡ Ok url → BehindSlot p part ended markup url
-behind_after p part ended markup text url None adds opened told = absurd (cc)
-behind_after p part ended markup text url (Some after) adds opened told =
-    record { text = text; adds = adds; after = after; opened = opened; told = told }
+    AddsText ended markup text → ends_scheme part text ≡ false → after_markup part text ≡ after → behind_part p ended after ≡ Ok url → BehindSlot p part ended markup url
+behind_after p part ended markup text url None adds scheme opened told = absurd (cc)
+behind_after p part ended markup text url (Some after) adds scheme opened told =
+    record { text = text; adds = adds; after = after; scheme = scheme; opened = opened; told = told }
 
 behind_read : (p : SlotPlace) (part : OpenPart) (ended : Bool) (markup : List ℕ) (url : OpenUrl) (read : Option (List ℕ)) →
     plain_text ended markup ≡ read → behind_slot p part ended read ≡ Ok url → BehindSlot p part ended markup url
 behind_read p part ended markup url None is told = absurd (cc)
 behind_read p part ended markup url (Some text) is told =
-    behind_after p part ended markup text url (after_markup part text) (adds_text ended markup text is) refl told
+    elim (cases_Bool (ends_scheme part text)) [
+      | inl ends ↦ let clash : Err NotFixed ≡ as_told url = rw ends at told in
+          absurd (cc)
+      | inr other ↦ behind_after p part ended markup text url (after_markup part text) (adds_text ended markup text is) other refl (rw other at told)
+    ]
 
 pub behind_told : (p : SlotPlace) (part : OpenPart) (ended : Bool) (markup : List ℕ) (url : OpenUrl) →
     behind_slot p part ended (plain_text ended markup) ≡ Ok url → BehindSlot p part ended markup url
 behind_told p part ended markup url told = behind_read p part ended markup url (plain_text ended markup) refl told
 
 -- ---- at the end of the markup, or of the value
-
-abbrev pub as_told : OpenUrl → Result OpenUrl PartFault
-as_told url = Ok url
 
 pub ok_url : {first second : OpenUrl} → as_told first ≡ as_told second → first ≡ second
 ok_url same = cc

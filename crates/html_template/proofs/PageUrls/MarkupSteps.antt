@@ -26,7 +26,7 @@ use Rattle.html_tokenizer.proofs.UrlValues.Slots.Refusals.{not_refused}
 use Rattle.html_tokenizer.proofs.UrlValues.Slots.Tame.{IsTame}
 use Rattle.html_tokenizer.proofs.UrlValues.Staying.{StaysUrl, stays_none}
 use Rattle.html_urls.specs.Bases.{goes_as, goes_on_so, open_behind}
-use Rattle.html_urls.specs.OpenParts.{after_markup, may_be_dots}
+use Rattle.html_urls.specs.OpenParts.{after_markup, ends_scheme, may_be_dots}
 use Rattle.html_urls.specs.Shapes.{front_of}
 use Rattle.html_urls.specs.Slots as part
 use Rattle.html_urls.specs.Slots.{are_plain, ends_in_escape, is_plain, no_parts}
@@ -65,18 +65,22 @@ outside_goes t markup bytes chunks tame goes = λ value from.
 plain_anywhere : (text : List ℕ) (is_last : Bool) → is_plain text false ≡ true → is_plain text is_last ≡ true
 plain_anywhere text is_last plain = grind (arith, nat_tests)
 
+-- behind a base no first segment is open
+behind_no_scheme : (behind : BehindBase) (text : List ℕ) → ends_scheme (open_behind behind) text ≡ false
+behind_no_scheme behind text = grind (arith, nat_tests)
+
 module _ (p : SlotPlace) (content : Content) (attribute : Attribute) (place : is_value_place p ≡ true) (url : is_url attribute ≡ true) where
   abbrev here : Tokenizer
   here = at_value (In p) content attribute
 
   -- ---- in a part of it
 
-  goes_within : (open_part after : OpenPart) (raw text : List ℕ) (there : Tokenizer) (chunks : List Chunk) → is_plain text false ≡ true → after_markup open_part text ≡ Some after →
+  goes_within : (open_part after : OpenPart) (raw text : List ℕ) (there : Tokenizer) (chunks : List Chunk) → is_plain text false ≡ true → ends_scheme open_part text ≡ false → after_markup open_part text ≡ Some after →
       StaysUrl here raw text there → GoesOn after there chunks → GoesOn open_part here (Markup raw ∷ chunks)
-  goes_within open_part after raw text there chunks plain opened stays behind = record {
+  goes_within open_part after raw text there chunks plain scheme opened stays behind = record {
     parts = part.Markup text ∷ behind.parts;
     slots = behind.slots;
-    fixed = λ number. rw (plain_anywhere text (no_parts behind.parts) plain, opened) (behind.fixed (number + 1));
+    fixed = λ number. rw (plain_anywhere text (no_parts behind.parts) plain, scheme, opened) (behind.fixed (number + 1));
     later = behind.later;
     told = λ url_by before.
         rw (stays.none_ends [], stays.passes.after, stays.value []) (behind.told url_by (before ++ part.Markup text ∷ []))
@@ -87,12 +91,12 @@ module _ (p : SlotPlace) (content : Content) (attribute : Attribute) (place : is
         (behind.ends (value ++ text) texts full utf8);
   }
 
-  ends_within : (open_part after : OpenPart) (text : List ℕ) (chunks : List Chunk) → is_plain text true ≡ true → after_markup open_part text ≡ Some after →
+  ends_within : (open_part after : OpenPart) (text : List ℕ) (chunks : List Chunk) → is_plain text true ≡ true → ends_scheme open_part text ≡ false → after_markup open_part text ≡ Some after →
       may_be_dots after ≡ false → EndsParts here text chunks → GoesOn open_part here chunks
-  ends_within open_part after text chunks plain opened none ends = record {
+  ends_within open_part after text chunks plain scheme opened none ends = record {
     parts = part.Markup text ∷ [];
     slots = [];
-    fixed = λ number. rw (plain, opened, none) refl;
+    fixed = λ number. rw (plain, scheme, opened, none) refl;
     later = ends.end.later;
     told = ends.told;
     fits = λ texts full. tt;
@@ -129,7 +133,7 @@ module _ (p : SlotPlace) (content : Content) (attribute : Attribute) (place : is
         let later : Goes (Within p behind.after) there bytes chunks =
         subst (λ (x : Tokenizer). Goes (Within p behind.after) x bytes chunks) reads.stays.passes.after
         (goes_told (Within p behind.after) (state_after here bytes) bytes chunks (goes_on p behind.after opened behind.told) goes) in
-        goes_within open_part behind.after bytes behind.text there chunks behind.adds.plain behind.opened reads.stays (later (record { state_is = refl; attribute_is = reads.url }))
+        goes_within open_part behind.after bytes behind.text there chunks behind.adds.plain behind.scheme behind.opened reads.stays (later (record { state_is = refl; attribute_is = reads.url }))
 
     cut_goes : IsCut (ends_value p) bytes → GoesOn open_part here (Markup bytes ∷ chunks)
     cut_goes cut =
@@ -137,7 +141,7 @@ module _ (p : SlotPlace) (content : Content) (attribute : Attribute) (place : is
         let ends : nat_lt (value_length p bytes) (length bytes) ≡ true = grind (arith, nat_tests) in
         let behind = behind_told p open_part true (take (value_length p bytes) bytes) opened (rw ends at told) in
         let end = is_ended p behind.after opened behind.told in
-        ends_within open_part behind.after behind.text (Markup bytes ∷ chunks) behind.adds.plain behind.opened end.no_dots
+        ends_within open_part behind.after behind.text (Markup bytes ∷ chunks) behind.adds.plain behind.scheme behind.opened end.no_dots
         (cut_ends bytes behind.text chunks unrefused cut behind.adds.read (goes_told Outside (state_after here bytes) bytes chunks end.outside goes))
 
     within_goes : GoesOn open_part here (Markup bytes ∷ chunks)
@@ -151,7 +155,7 @@ module _ (p : SlotPlace) (content : Content) (attribute : Attribute) (place : is
       goes_on_so behind (text ++ front_of on.parts) ≡ true → GoesBehind behind here (Markup raw ∷ chunks)
   unfolding goes_within
   base_within behind after raw text there chunks plain opened stays on goes =
-      record { on = goes_within (open_behind behind) after raw text there chunks plain opened stays on; goes = goes }
+      record { on = goes_within (open_behind behind) after raw text there chunks plain (behind_no_scheme behind text) opened stays on; goes = goes }
 
   -- or ends in it
   base_ends : (behind : BehindBase) (after : OpenPart) (text : List ℕ) (chunks : List Chunk) → is_plain text true ≡ true →
@@ -159,7 +163,7 @@ module _ (p : SlotPlace) (content : Content) (attribute : Attribute) (place : is
       GoesBehind behind here chunks
   unfolding ends_within
   base_ends behind after text chunks plain opened none goes ends =
-      record { on = ends_within (open_behind behind) after text chunks plain opened none ends; goes = goes_alone behind text goes }
+      record { on = ends_within (open_behind behind) after text chunks plain (behind_no_scheme behind text) opened none ends; goes = goes_alone behind text goes }
 
   -- a `/` that stands alone
   slash_within : (behind : BehindBase) (raw text : List ℕ) (there : Tokenizer) (chunks : List Chunk) → is_plain text false ≡ true → goes_as behind text ≡ true →

@@ -10,7 +10,7 @@ use Rattle.html_template.specs.Slots.{past_slot, suits}
 use Rattle.html_template.specs.TemplateFaults.{slot_at}
 use Rattle.html_template.specs.Templates.{Chunk, Slot}
 use Rattle.html_tokenizer.specs.declared.reader.Standing.{Standing}
-use Rattle.html_tokenizer.specs.declared.reader.Standing.TheVariants.{Stands, InUrl, InLink, InScript, Nowhere, Barred}
+use Rattle.html_tokenizer.specs.declared.reader.Standing.TheVariants.{Stands, InUrl, InLink, InScript, InJson, Nowhere, Barred}
 use Rattle.html_tokenizer.specs.declared.slot_place.SlotPlace.{SlotPlace}
 use Rattle.html_tokenizer.specs.declared.slot_place.SlotPlace.TheVariants as place
 use Rattle.html_tokenizer.specs.Standing.{standing}
@@ -21,10 +21,10 @@ use Rattle.html_urls.specs.Bases.{behind_base}
 use Rattle.html_urls.specs.declared.base.BehindBase.{BehindBase}
 use Rattle.html_urls.specs.declared.open_part.OpenPart.{OpenPart}
 use Rattle.html_template.proofs.PageUrls.Filled.{GoesBehind, GoesOn, HasLater}
-use Rattle.html_template.proofs.PageUrls.OpenEnds.{no_literal_stands, no_text_stands}
+use Rattle.html_template.proofs.PageUrls.OpenEnds.{no_json_stands, no_literal_stands, no_text_stands}
 use Rattle.html_template.proofs.PageUrls.Opening.{FromMarkup, Goes, StandsAt}
 use Rattle.html_template.proofs.PageUrls.Placed.{IsFirst, first_told, part_told, past_markup, quoted_slot, whole}
-use Rattle.html_template.proofs.PageUrls.TextSlots.{literal_goes, text_goes}
+use Rattle.html_template.proofs.PageUrls.TextSlots.{json_goes, literal_goes, text_goes}
 use Rattle.html_template.proofs.PageUrls.UrlSlots.{base_goes, first_goes, later_goes, slot_behind, whole_goes}
 use Rattle.html_template.proofs.TemplateLaw.{base_in_url, part_in_url, whole_in_url}
 use Rattle.html_template.proofs.Walks.{before_suits, ok_slot, same_itself}
@@ -91,6 +91,8 @@ module _ (t : Tokenizer) (chunks : List Chunk) (tame : IsTame t) where
   from_markup following markup value slot (InLink p) is from told = url_from_markup following p true markup value slot (rw is (same_itself p)) from told
   from_markup following markup value slot InScript is from told =
       subst (FromBegun (HasLater t value) following) (ok_slot told) (λ suited goes. literal_goes place.ScriptDouble t value chunks suited goes)
+  from_markup following markup value slot InJson is from told =
+      subst (FromBegun (HasLater t value) following) (ok_slot told) (λ suited goes. json_goes place.Text t value chunks suited goes)
   from_markup following markup value slot Nowhere is from told = absurd (cc)
   from_markup following markup value slot Barred is from told = absurd (cc)
 
@@ -104,6 +106,7 @@ module _ (t : Tokenizer) (chunks : List Chunk) (tame : IsTame t) where
   within following q open_part markup slot (InUrl p) is stands told = url_within following p q false open_part markup slot told
   within following q open_part markup slot (InLink p) is stands told = url_within following p q true open_part markup slot told
   within following q open_part markup slot InScript is stands told = absurd (no_literal_stands q t is stands)
+  within following q open_part markup slot InJson is stands told = absurd (no_json_stands q t is stands)
   within following q open_part markup slot Nowhere is stands told = absurd (cc)
   within following q open_part markup slot Barred is stands told = absurd (cc)
 
@@ -118,6 +121,7 @@ module _ (t : Tokenizer) (chunks : List Chunk) (tame : IsTame t) where
   behind_a_base following q behind markup slot (InUrl p) is stands told = url_behind following p behind slot told
   behind_a_base following q behind markup slot (InLink p) is stands told = url_behind following p behind slot told
   behind_a_base following q behind markup slot InScript is stands told = absurd (no_literal_stands q t is stands)
+  behind_a_base following q behind markup slot InJson is stands told = absurd (no_json_stands q t is stands)
   behind_a_base following q behind markup slot Nowhere is stands told = absurd (cc)
   behind_a_base following q behind markup slot Barred is stands told = absurd (cc)
 

@@ -1,4 +1,4 @@
--- A slot for a text or a string literal, which stands in no URL.
+-- A slot for a text, a string literal or JSON, which stands in no URL.
 use Rattle.std.proofs.Common.{ℕ, ◌≡◌, true, false, List, [], ◌∷◌, refl, arith}
 use Rattle.std.proofs.lemmas.Bool.Decides.{nat_tests}
 use Rattle.std.specs.List.{AllByRecursion}
@@ -29,6 +29,9 @@ text_stands_apart p t suited = grind (arith, nat_tests)
 pub literal_stands_apart : (p : SlotPlace) (t : Tokenizer) → suits kind.Literal p (standing t) ≡ true → IsApart t
 literal_stands_apart p t suited = grind (arith, nat_tests)
 
+pub json_stands_apart : (p : SlotPlace) (t : Tokenizer) → suits kind.Json p (standing t) ≡ true → IsApart t
+json_stands_apart p t suited = grind (arith, nat_tests)
+
 -- the text of such a slot is in no URL
 record IsApartKind (found : SlotKind) : Type 0 where
   first : (text : List ℕ) → first_text found text ≡ []
@@ -40,6 +43,9 @@ text_kind = record { first = λ text. refl; none = λ text. refl; opens = λ hel
 
 literal_kind : IsApartKind kind.Literal
 literal_kind = record { first = λ text. refl; none = λ text. refl; opens = λ held. refl }
+
+json_kind : IsApartKind kind.Json
+json_kind = record { first = λ text. refl; none = λ text. refl; opens = λ held. refl }
 
 module _ {found : SlotKind} (apart_kind : IsApartKind found) (p : SlotPlace) (t next : Tokenizer) (value : List ℕ) (chunks : List Chunk)
     (suited : suits found p (standing t) ≡ true) (goes_to : past_slot p found t ≡ next) (no_url : is_url next.attribute ≡ false)
@@ -71,3 +77,13 @@ literal_goes p t value chunks suited =
     (λ text full utf8.
     let passes = slot_passes p kind.Literal t.state t.content t.attribute text suited full utf8 in
     (literal_apart p t t (written p kind.Literal text) (handed p kind.Literal text) apart passes, passes.after))
+
+pub json_goes : (p : SlotPlace) (t : Tokenizer) (value : List ℕ) (chunks : List Chunk) → suits kind.Json p (standing t) ≡ true →
+    Goes Outside (past_slot p kind.Json t) [] chunks → HasLater t value (Slot p kind.Json ∷ chunks)
+json_goes p t value chunks suited =
+    let next : Tokenizer = past_slot p kind.Json t in
+    let apart = json_stands_apart p t suited in
+    goes_apart json_kind p t next value chunks suited refl apart.no_url
+    (λ text full utf8.
+    let passes = slot_passes p kind.Json t.state t.content t.attribute text suited full utf8 in
+    (text_apart p t next (written p kind.Json text) (handed p kind.Json text) apart passes, passes.after))

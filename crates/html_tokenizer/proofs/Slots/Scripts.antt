@@ -1,12 +1,12 @@
 -- What the encoder of a script's strings writes stays in the string, and is read as the text.
-use Rattle.std.proofs.Common.{ℕ, ◌≡◌, ◌+◌, true, false, List, [], ◌∷◌, ◌++◌, ◌==◌, ◌⊎◌, inl, inr, Option, Some, None, IsUtf8, length, map, encode_utf8, refl, subst, sym, ap, ◌∙◌, arith, append-nil, length-append}
+use Rattle.std.proofs.Common.{ℕ, ◌≡◌, ◌+◌, not, Bool, true, false, List, [], ◌∷◌, ◌++◌, ◌==◌, ◌⊎◌, inl, inr, Option, Some, None, if◌then◌else◌, IsUtf8, length, map, encode_utf8, refl, subst, sym, ap, ◌∙◌, arith, append-nil, length-append}
 use Rattle.std.specs.Char.{is_digit}
 use Rattle.std.specs.Int.{is_in_range}
 use Rattle.std.specs.List.{list_all}
 use Rattle.std.specs.Str.Parse.{digits_value}
 use Rattle.std.proofs.lemmas.Bool.{and_parts, cases_Bool, eqb-true, false≢true}
 use Rattle.std.proofs.lemmas.Bool.Decides.{nat_tests}
-use Rattle.hesc_specs.specs.Text.Ascii.{backslash, double_quote, lower_x, single_quote, slash}
+use Rattle.hesc_specs.specs.Text.Ascii.{backslash, double_quote, less_than, lower_x, single_quote, slash}
 use Rattle.hesc_specs.specs.Strings.Encoding.{string_encoding}
 use Rattle.hesc_specs.specs.declared.elements.Element.TheVariants.{Script}
 use Rattle.hesc_specs.specs.declared.quotes.Quotes.{Quotes}
@@ -24,11 +24,12 @@ use Rattle.html_tokenizer.specs.declared.states.Code.TheVariants as code
 use Rattle.html_tokenizer.specs.Tokenizer.Actions.{Action, StringEnd, StringStart, read_byte}
 use Rattle.html_tokenizer.specs.Tokenizer.Code.{is_script}
 use Rattle.html_tokenizer.specs.Tokenizer.Code.Comments.{ends_line}
+use Rattle.html_tokenizer.specs.Tokenizer.Code.Scripts.{is_json_space, json_byte}
 use Rattle.html_tokenizer.specs.Tokenizer.Code.Strings.{script_escape_byte}
 use Rattle.html_tokenizer.specs.Tokenizer.States.{In, InCode, Within, Ordinary, at}
 use Rattle.html_tokenizer.specs.Tokenizer.Tokenization.{consume}
 use Rattle.html_tokenizer.specs.Tokenizer.Transitions.{goes}
-use Rattle.html_tokenizer.proofs.Passing.{Passes, passes_both, passes_byte, passes_one}
+use Rattle.html_tokenizer.proofs.Passing.{Passes, passes_both, passes_byte, passes_none, passes_one}
 use Rattle.html_tokenizer.proofs.Slots.Strings.{ReadsString, StaysIn, begins_escape, string_keeps}
 
 -- the string of a script that this mark ends
@@ -211,3 +212,44 @@ literal_passes content text is utf8 =
     let reads = script_double_reads content in
     passes_byte (literal_begins content.element content.templates is)
     (passes_both (script_stays reads text utf8) (passes_one (StringEnd ∷ []) (reads.string.bytes double_quote)))
+
+-- ---- JSON in a data block
+
+not_true : (t : Bool) → not t ≡ true → t ≡ false
+not_true false apart = refl
+not_true true apart = absurd (false≢true apart)
+
+json_begins : (element : OpenElement) (templates b : ℕ) → is_script element ≡ true → not (b == less_than) ≡ true →
+    consume (at (InCode code.Json) (record { element = element; templates = templates })) b
+    ≡ json_byte (if is_json_space b then code.Json else code.JsonRest) (record { element = element; templates = templates }) b
+unfolding consume
+json_begins element.Script templates b is apart = rw (not_true (b == less_than) apart) refl
+json_begins other templates b is apart = absurd (false≢true is)
+
+json_stays : (element : OpenElement) (templates b : ℕ) → is_script element ≡ true → not (b == less_than) ≡ true →
+    consume (at (InCode code.JsonRest) (record { element = element; templates = templates })) b
+    ≡ json_byte code.JsonRest (record { element = element; templates = templates }) b
+unfolding consume
+json_stays element.Script templates b is apart = rw (not_true (b == less_than) apart) refl
+json_stays other templates b is apart = absurd (false≢true is)
+
+-- bytes without a `<` are characters
+json_goes_on : (content : Content) (bytes : List ℕ) → is_script content.element ≡ true → list_all (λ b. not (b == less_than)) bytes ≡ true →
+    Passes (at (InCode code.JsonRest) content) bytes (map (read_byte place.Text) bytes) (at (InCode code.JsonRest) content)
+json_goes_on content [] is apart = passes_none
+json_goes_on content (b ∷ bytes) is apart =
+    let parts = and_parts (not (b == less_than)) (list_all (λ b. not (b == less_than)) bytes) apart in
+    passes_byte (json_stays content.element content.templates b is parts.0) (json_goes_on content bytes is parts.1)
+
+-- and where they are not white space alone, no slot follows them
+pub json_passes : (content : Content) (bytes : List ℕ) → is_script content.element ≡ true → list_all (λ b. not (b == less_than)) bytes ≡ true →
+    list_all is_json_space bytes ≡ false →
+    Passes (at (InCode code.Json) content) bytes (map (read_byte place.Text) bytes) (at (InCode code.JsonRest) content)
+json_passes content [] is apart some = absurd (false≢true (sym some))
+json_passes content (b ∷ bytes) is apart some =
+    let parts = and_parts (not (b == less_than)) (list_all (λ b. not (b == less_than)) bytes) apart in
+    let here = json_begins content.element content.templates b is parts.0 in
+    elim (cases_Bool (is_json_space b)) [
+      | inl blank ↦ passes_byte (rw blank at here) (json_passes content bytes is parts.1 (rw blank at some))
+      | inr other ↦ passes_byte (rw other at here) (json_goes_on content bytes is parts.1)
+    ]

@@ -6,7 +6,7 @@ use Rattle.hesc_specs.specs.Text.Ascii.{less_than}
 use Rattle.hesc_specs.specs.Text.Words.{begins}
 use Rattle.html_tokenizer.specs.declared.elements.Content.{Content}
 use Rattle.html_tokenizer.specs.declared.elements.OpenElement.{OpenElement}
-use Rattle.html_tokenizer.specs.declared.elements.OpenElement.TheVariants.{Normal, ResourceTag, Script, DataBlock, Meta, MetaContent, MetaPragma, MetaType, LinkTag, EmbedTag, SvgEmbedTag, MathEmbedTag, SelectEmbedTag, NoScript, NoScriptStyle, NoScriptFrame}
+use Rattle.html_tokenizer.specs.declared.elements.OpenElement.TheVariants.{Normal, ResourceTag, Script, TypedScript, DataBlock, JsonBlock, Meta, MetaContent, MetaPragma, MetaType, LinkTag, EmbedTag, SvgEmbedTag, MathEmbedTag, SelectEmbedTag, NoScript, NoScriptStyle, NoScriptFrame}
 use Rattle.html_tokenizer.specs.Tokenizer.Attributes.Encodings.{is_utf_8, names_no_other}
 use Rattle.html_tokenizer.specs.Tokenizer.States.{Tokenizer, Attribute, Ordinary, Forbidden, Link, Url, FixedUrl, ScriptType, Encoding, Pragma, PageType, Relation, Unread, Raw, BeforeValue, at_value, refused}
 use Rattle.html_tokenizer.specs.Tokenizer.Elements.{with_element}
@@ -62,6 +62,10 @@ is_javascript type =
     bytes_eq type [] || bytes_eq type (codes "module") ||
     bytes_eq type (codes "text/javascript") || bytes_eq type (codes "application/javascript")
 
+-- the type of a data block of JSON: 4.12.1, RFC 8259, 11 IANA Considerations; JSON-LD 1.1, 7 Embedding JSON-LD in HTML Documents
+abbrev pub is_json : List ℕ → Bool
+is_json type = bytes_eq type (codes "application/json") || bytes_eq type (codes "application/ld+json")
+
 -- 4.6.7 Link types: the `rel` of a `link` whose URL is only shown, or followed by the reader
 abbrev pub is_shown_relation : List ℕ → Bool
 is_shown_relation relation =
@@ -82,7 +86,9 @@ is_content name = bytes_eq name (codes "content")
 
 abbrev pub is_script_tag : OpenElement → Bool
 is_script_tag Script = true
+is_script_tag TypedScript = true
 is_script_tag DataBlock = true
+is_script_tag JsonBlock = true
 is_script_tag other = false
 
 -- after the `=` of an attribute whose value means the same in each element
@@ -113,6 +119,19 @@ abbrev pub resource_value : Content → List ℕ → Tokenizer
 resource_value content name =
     if bytes_eq name (codes "rel") then at_value BeforeValue content (Relation []) else plain_value content name
 
+-- of a script behind its type, which is the one that counts: 13.2.5.33 Attribute name state
+abbrev pub typed_value : Content → List ℕ → Tokenizer
+typed_value content name =
+    if names_script_type name then forbidden_value (with_element content DataBlock) else value_but_of (codes "for") content name
+
+-- behind an attribute of this name without a value: the type of a script is then JavaScript's
+abbrev pub without_value_in : OpenElement → Content → List ℕ → Content
+without_value_in Script content name = if bytes_eq name (codes "type") then with_element content TypedScript else content
+without_value_in other content name = content
+
+abbrev pub without_value : Content → List ℕ → Content
+without_value content name = without_value_in content.element content name
+
 -- after the `=` of an attribute: a script is a data block unless its one type is JavaScript's, and with a `for` other
 -- than `window` it is passed over (4.12.1); a `meta` has one `http-equiv`; of the `type` `text/html` an `embed` or an
 -- `object` runs its resource as a page (4.8.6, 4.8.7); the first `rel` of a `link` says what it is to the page (4.2.4)
@@ -121,8 +140,9 @@ value_in Script content name =
     if bytes_eq name (codes "type") then at_value BeforeValue (with_element content DataBlock) (ScriptType [])
     else (if names_script_type name then forbidden_value (with_element content DataBlock)
     else value_but_of (codes "for") content name)
-value_in DataBlock content name =
-    if names_script_type name then forbidden_value content else value_but_of (codes "for") content name
+value_in TypedScript content name = typed_value content name
+value_in DataBlock content name = typed_value content name
+value_in JsonBlock content name = typed_value content name
 value_in Meta content name =
     meta_value (at_value BeforeValue (with_element content MetaPragma) (Pragma [])) (plain_value (with_element content MetaContent) name) content name
 value_in MetaContent content name = meta_value (at_value BeforeValue content (Pragma [])) (plain_value content name) content name
@@ -158,9 +178,16 @@ content_after_pragma other content name =
     else (if is_cache_header name then Some (with_element content MetaContent)
     else Some content)
 
+-- after the type of a script
+abbrev pub after_script_type : Content → List ℕ → Content
+after_script_type content type =
+    if is_javascript type then with_element content TypedScript
+    else (if is_json type then with_element content JsonBlock
+    else content)
+
 -- after the value of an attribute, if the profile has it
 abbrev pub content_after : Content → Attribute → Option Content
-content_after content (ScriptType type) = Some (if is_javascript type then with_element content Script else content)
+content_after content (ScriptType type) = Some (after_script_type content type)
 content_after content (Encoding label) = if is_utf_8 label then Some content else None
 content_after content (Pragma name) = content_after_pragma content.element content name
 content_after content (PageType value) = if names_no_other value then Some content else None

@@ -3,10 +3,10 @@ pub mod Restricted
 use Rattle.std.specs.Prelude.{ℕ, Bool, true, false, ◌&&◌, ◌||◌, not, List, ◌+◌, ◌-◌, ◌==◌, Option, Some, None, if◌then◌else◌, bytes_eq, codes}
 use Rattle.std.specs.Option.{option_map}
 use Rattle.html_tokenizer.specs.declared.slot_place.SlotPlace.TheVariants as place
-use Rattle.html_tokenizer.specs.declared.states.Code.TheVariants.{Front, Plain, Opaque}
+use Rattle.html_tokenizer.specs.declared.states.Code.TheVariants.{Front, Json, Plain, Opaque}
 use Rattle.html_tokenizer.specs.declared.elements.Content.{Content}
 use Rattle.html_tokenizer.specs.declared.elements.OpenElement.{OpenElement}
-use Rattle.html_tokenizer.specs.declared.elements.OpenElement.TheVariants.{Normal, Title, Textarea, Script, DataBlock, Style, Frame, Meta, MetaContent, MetaPragma, MetaType, LinkTag, ResourceTag, EmbedTag, SvgEmbedTag, MathEmbedTag, SelectEmbedTag, SvgTag, Svg, SvgTitle, SvgStyle, MathTag, Math, MathMi, MathMo, MathMn, MathMs, MathMtext, Select, NoScript, NoScriptStyle, NoScriptFrame}
+use Rattle.html_tokenizer.specs.declared.elements.OpenElement.TheVariants.{Normal, Title, Textarea, Script, TypedScript, DataBlock, JsonBlock, Style, Frame, Meta, MetaContent, MetaPragma, MetaType, LinkTag, ResourceTag, EmbedTag, SvgEmbedTag, MathEmbedTag, SelectEmbedTag, SvgTag, Svg, SvgTitle, SvgStyle, MathTag, Math, MathMi, MathMo, MathMn, MathMs, MathMtext, Select, NoScript, NoScriptStyle, NoScriptFrame}
 use Rattle.html_tokenizer.specs.Tokenizer.Elements.Restricted.{is_left_out, runs_by_type, in_svg, in_math, in_select, in_noscript}
 use Rattle.html_tokenizer.specs.Tokenizer.States as state
 use Rattle.html_tokenizer.specs.Tokenizer.States.{State}
@@ -85,7 +85,9 @@ inside_element Meta = Normal
 inside_element MetaContent = Normal
 inside_element MetaPragma = Normal
 inside_element MetaType = Normal
+inside_element TypedScript = Script
 inside_element DataBlock = Script
+inside_element JsonBlock = Script
 inside_element LinkTag = Normal
 inside_element ResourceTag = Normal
 inside_element EmbedTag = Normal
@@ -102,7 +104,9 @@ inside content = with_element content (inside_element content.element)
 -- where the content of an element begins
 abbrev pub content_state : OpenElement → State
 content_state Script = state.InCode Plain
+content_state TypedScript = state.InCode Plain
 content_state DataBlock = state.InCode Opaque
+content_state JsonBlock = state.InCode Json
 content_state Style = state.InCode Front
 content_state Frame = state.InCode Opaque
 content_state SvgStyle = state.InCode Opaque

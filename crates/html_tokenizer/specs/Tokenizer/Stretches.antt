@@ -8,7 +8,7 @@ use Rattle.hesc_grammars.specs.StyleStrings.{is_newline_or_nul}
 use Rattle.html_tokenizer.specs.declared.slot_place.SlotPlace.{SlotPlace}
 use Rattle.html_tokenizer.specs.declared.slot_place.SlotPlace.TheVariants.{Text, DoubleQuoted, SingleQuoted, Unquoted, ScriptSingle, ScriptDouble, StyleSingle, StyleDouble}
 use Rattle.html_tokenizer.specs.declared.states.Code.{Code}
-use Rattle.html_tokenizer.specs.declared.states.Code.TheVariants.{FrontComment, Plain, Name, LetterI, LettersIm, LettersImp, LettersImpo, LettersImpor, LetterF, LettersFr, LettersFro, LineComment, BlockComment, Url, Opaque, Escaped, DoubleEscaped}
+use Rattle.html_tokenizer.specs.declared.states.Code.TheVariants.{FrontComment, JsonRest, Plain, Name, LetterI, LettersIm, LettersImp, LettersImpo, LettersImpor, LetterF, LettersFr, LettersFro, LineComment, BlockComment, Url, Opaque, Escaped, DoubleEscaped}
 use Rattle.html_tokenizer.specs.declared.states.Kind.{Kind}
 use Rattle.html_tokenizer.specs.declared.states.Kind.TheVariants as kind
 use Rattle.html_tokenizer.specs.declared.states.Phase.{Phase}
@@ -49,6 +49,7 @@ leaves_code Style FrontComment b = b == asterisk || b == less_than || b == 0
 leaves_code Script Escaped b = b == dash || b == less_than
 leaves_code Script DoubleEscaped b = b == dash || b == less_than
 leaves_code Script Opaque b = b == less_than
+leaves_code Script JsonRest b = b == less_than
 leaves_code Style Opaque b = b == less_than
 leaves_code Frame Opaque b = b == less_than
 leaves_code other code b = true

@@ -11,7 +11,7 @@ use Rattle.html_tokenizer.specs.declared.slot_place.SlotPlace.TheVariants as pla
 use Rattle.html_tokenizer.specs.declared.elements.Content.{Content}
 use Rattle.html_tokenizer.specs.declared.elements.OpenElement.{OpenElement}
 use Rattle.html_tokenizer.specs.Tokenizer.Actions.{NewComment, CommentByte, NewStartTag, NewEndTag, TagNameByte, NewAttribute, NameByte, SetSelfClosing, EmitTag}
-use Rattle.html_tokenizer.specs.Tokenizer.Attributes.{value_of}
+use Rattle.html_tokenizer.specs.Tokenizer.Attributes.{value_of, without_value}
 use Rattle.html_tokenizer.specs.Tokenizer.Elements.{beside, closed, content_of, content_state, ends_content, holds_comments, holds_markup, inside, with_element}
 use Rattle.html_tokenizer.specs.Tokenizer.States as state
 use Rattle.html_tokenizer.specs.Tokenizer.States.{State}
@@ -115,7 +115,7 @@ attribute_name_byte content name b =
 abbrev pub after_name_byte : Content → List ℕ → ℕ → Transition
 after_name_byte content name b =
     if b == equals_sign then moves (value_of content name) []
-    else in_tag (state.AfterName name) content b (first_name_byte content b)
+    else in_tag (state.AfterName name) content b (first_name_byte (without_value content name) b)
 
 -- 13.2.5.39 After attribute value (quoted) state
 abbrev pub after_value_byte : Content → ℕ → Transition

@@ -30,6 +30,7 @@ pub(crate) fn opaque_byte(code: Code, content: Content, byte: u8) -> Move
         Code::DoubleEscaped | Code::DoubleEscapedDash | Code::DoubleEscapedDashDash => {
             Code::DoubleEscaped
         }
+        Code::JsonRest => Code::JsonRest,
         _ => Code::Opaque,
     };
     stays(next, content, byte)
@@ -85,6 +86,7 @@ pub(crate) fn is_opaque(code: Code) -> bool
     matches!(
         code,
         Code::Opaque
+            | Code::JsonRest
             | Code::EscapeStart
             | Code::EscapeStartDash
             | Code::Escaped

@@ -1,7 +1,7 @@
 //! What a byte does in the code of a script, outside of strings.
 ghost use Rattle.std.specs.Prelude.{◌≡◌, ℕ, List};
 ghost use Rattle.html_tokenizer.specs.Tokenizer.Code.Comments.{line_byte};
-ghost use Rattle.html_tokenizer.specs.Tokenizer.Code.Scripts.{import_byte, letters_byte, module_byte, name_byte, script_byte, script_code_byte};
+ghost use Rattle.html_tokenizer.specs.Tokenizer.Code.Scripts.{import_byte, is_json_space, letters_byte, module_byte, name_byte, script_byte, script_code_byte};
 ghost use Rattle.html_tokenizer.specs.Tokenizer.Code.Words.{longer};
 ghost use Rattle.html_tokenizer.specs.Tokenizer.Phases.{moved};
 ghost use Rattle.html_tokenizer.specs.Tokenizer.States.{Forbidden, In, at_value};
@@ -96,12 +96,24 @@ fn import_byte(content: Content, byte: u8) -> Move
     }
 }
 
+/// Whether the byte is white space of JSON.
+///
+/// Of a space it is `true`, and of a form feed `false`.
+#[inline(always)]
+pub fn is_json_space(byte: u8) -> bool
+    ensures { result ≡ is_json_space byte }
+{
+    matches!(byte, b' ' | b'\t' | b'\n' | b'\r')
+}
+
 #[inline(always)]
 pub(crate) fn script_code_byte(code: Code, content: Content, byte: u8) -> Move
     ensures { (word : List ℕ) → moved result word ≡ (script_code_byte code content byte).next }
 {
     match code {
         Code::Plain => script_byte(content, byte),
+        Code::Json if is_json_space(byte) => stays(Code::Json, content, byte),
+        Code::Json => stays(Code::JsonRest, content, byte),
         Code::LetterI
         | Code::LettersIm
         | Code::LettersImp

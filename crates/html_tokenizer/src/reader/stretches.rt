@@ -111,6 +111,7 @@ fn code_stretch(code: Code, element: OpenElement, bytes: &[u8]) -> usize
         (Code::Opaque, OpenElement::Script | OpenElement::Style | OpenElement::Frame) => {
             first_byte(b'<', bytes, 0)
         }
+        (Code::JsonRest, OpenElement::Script) => first_byte(b'<', bytes, 0),
         (Code::BlockComment, OpenElement::Script | OpenElement::Style) => {
             first_of_two(b'*', b'<', bytes, 0)
         }

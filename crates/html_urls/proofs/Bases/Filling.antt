@@ -13,14 +13,14 @@ use Rattle.html_urls.specs.Slots.{FillSlots, FillUrl, Given, Markup, Slot, Told,
 use Rattle.html_urls.proofs.Bases.Ends.{IsBase, base_is, markup_joined}
 use Rattle.html_urls.proofs.Bases.Opened.{opens}
 use Rattle.html_urls.proofs.Bases.GoesAs.{behind_goes}
-use Rattle.html_urls.proofs.Filled.Told.{later_markup, later_nothing, later_slot, told_slots}
+use Rattle.html_urls.proofs.Filled.Told.{later_markup, later_nothing, later_scheme, later_slot, told_slots}
 
 -- the slots behind an open part are the same whatever number the first part has
 pub any_number : (parts : List Given) (k n : ℕ) (p : OpenPart) (slots : List UrlSlot) → later_slots k p parts ≡ Ok slots → later_slots n p parts ≡ Ok slots
 any_number [] k n p slots told = let (closed, none) = later_nothing k p slots told in rw closed (ap Ok (sym none))
 any_number (Markup bytes ∷ parts) k n p slots told =
     let (q, plain, here, rest) = later_markup k p bytes parts slots told in
-    rw (plain, here) (any_number parts (k + 1) (n + 1) q slots rest)
+    rw (plain, later_scheme k p bytes parts slots told, here) (any_number parts (k + 1) (n + 1) q slots rest)
 any_number (Slot ∷ parts) k n p slots told =
     let (slot, more, here, rest, are) = later_slot k p parts slots told in
     rw here (ap (after_slots (slot ∷ [])) (any_number parts (k + 1) (n + 1) (after_text p) more rest) ∙ ap Ok (sym are))

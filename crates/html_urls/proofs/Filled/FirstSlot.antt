@@ -1,8 +1,11 @@
 -- The markup before the first slot, and what its text and the parts behind it do.
-use Rattle.std.proofs.Common.{◌≡◌, ℕ, ◌<◌, Bool, true, false, ◌==◌, nat_lt, List, [], ◌∷◌, ◌++◌, length, drop, Option, Some, None, is_some, All, sym, refl, ap, ◌∙◌, subst, append_assoc, append-nil, arith, if◌then◌else◌, inl, inr}
-use Rattle.std.proofs.lemmas.Bool.{cases_Bool, cond-true, cond-false, lt-leb}
+use Rattle.std.proofs.Common.{codes, ◌≡◌, ℕ, ◌<◌, Bool, true, false, ◌==◌, nat_lt, List, [], ◌∷◌, ◌++◌, length, drop, Option, Some, None, is_some, All, sym, refl, ap, ◌∙◌, subst, append_assoc, append-nil, arith, if◌then◌else◌, inl, inr, ◌⊎◌}
+use Rattle.std.specs.List.{list_all}
+use Rattle.std.proofs.lemmas.Bool.{and_parts, cases_Bool, cond-true, cond-false, lt-leb}
 use Rattle.std.proofs.lemmas.Bool.Decides.{nat_tests}
 use Rattle.std.proofs.lemmas.List.Elements.{All-nil, All-head, All-weaker}
+use Rattle.url.proofs.InputLemmas.{All_from_list_all}
+use Rattle.html_urls.proofs.Paths.Opening.{all_right}
 use Rattle.url.specs.Input.{rsplit_once, split_once, trim_c0_control_and_space}
 use Rattle.url.specs.Path.{dot_count}
 use Rattle.url.specs.Parts.{Parts}
@@ -10,7 +13,7 @@ use Rattle.url.specs.Parser.{parse_url}
 use Rattle.url.proofs.HostLemmas.{none_from_list_any}
 use Rattle.html_urls.specs.Components.{component}
 use Rattle.html_urls.specs.Heads.{on_ok}
-use Rattle.html_urls.specs.Hosts.{FixesHost, IsWebBase}
+use Rattle.html_urls.specs.Hosts.{FixesHost, IsFirstSegment, IsWebBase, absolute, hosted, is_first_byte, is_first_segment, relative, rooted}
 use Rattle.html_urls.specs.Inputs.{IsNot, IsVisible, kept, kept_rest, EndsVisibly}
 use Rattle.html_urls.specs.Links.{is_link}
 use Rattle.html_urls.specs.Parts.Paths.{FitsSegment, IsPathText}
@@ -18,14 +21,14 @@ use Rattle.html_urls.specs.Parts.Rests.{path_of}
 use Rattle.html_urls.specs.Parts.Segments.{HasNoDotSegments, last_segment}
 use Rattle.html_urls.specs.Places.{EndsIn, Fits, SuitsPlace, goes_on}
 use Rattle.html_urls.specs.declared.open_part.OpenPart.{OpenPart}
-use Rattle.html_urls.specs.declared.open_part.OpenPart.TheVariants.{NewSegment, DotSegment, NamedSegment, Query, Fragment}
+use Rattle.html_urls.specs.declared.open_part.OpenPart.TheVariants.{NewSegment, DotSegment, NamedSegment, FirstSegment, Query, Fragment}
 use Rattle.html_urls.specs.declared.parts.UrlSlot.{UrlSlot}
 use Rattle.html_urls.specs.declared.place.UrlPlace.{UrlPlace}
 use Rattle.html_urls.specs.declared.place.UrlPlace.TheVariants as place
-use Rattle.html_urls.specs.OpenParts.{after_front, has_byte, after_text, is_fixed, open_of, open_of_link, slot_at}
+use Rattle.html_urls.specs.OpenParts.{after_front, as_first, has_byte, after_text, is_first, is_fixed, open_of, open_of_link, slot_at}
 use Rattle.html_urls.specs.Slots.{is_plain_byte, may_fill}
 use Rattle.html_urls.proofs.Splits.{all_visible, kept_nothing, kept_visible}
-use Rattle.html_urls.proofs.Paths.PathSegments.{last_whole}
+use Rattle.html_urls.proofs.Paths.PathSegments.{last_of_whole, last_whole}
 use Rattle.html_urls.proofs.Places.FixedHosts.{byte_found, fixed_front}
 use Rattle.html_urls.proofs.Places.UrlLaw.{url_law}
 use Rattle.html_urls.proofs.Filled.OpenSegments.{path_front, Open, closes, in_path}
@@ -45,6 +48,7 @@ abbrev pub place_at : OpenPart → UrlPlace
 place_at NewSegment = place.Path
 place_at DotSegment = place.Path
 place_at NamedSegment = place.Path
+place_at FirstSegment = place.Path
 place_at Query = place.Query
 place_at Fragment = place.Fragment
 
@@ -55,6 +59,7 @@ slot_place p slot here = grind (arith, nat_tests)
 pub record StandsIn (front : List ℕ) (p : OpenPart) : Type 0 where
   pub ends : EndsIn (place_at p) front
   pub known : in_path p ≡ true → Open p (last_segment (kept front))
+  pub first : in_path p ≡ true → IsFirstSegment (kept front) → is_first p ≡ true
 
 pub plain_visible : (front : List ℕ) → All (λ b. is_plain_byte b ≡ true) front → All IsVisible front
 plain_visible front plain = All-weaker (λ b. is_plain_byte b ≡ true) IsVisible (λ b passes. grind (arith, nat_tests)) front plain
@@ -63,23 +68,67 @@ path_text : (xs : List ℕ) → All (λ b. is_plain_byte b ≡ true) xs → has_
 path_text xs plain no_fragment no_query i d within =
     grind (arith, nat_tests, plain i d within, none_from_list_any (λ b. b == 35) xs no_fragment i d within, none_from_list_any (λ b. b == 63) xs no_query i d within)
 
-path_stands : (front : List ℕ) (p : OpenPart) (slot : UrlSlot) → kept front ≡ front → EndsVisibly front → IsPathText front → is_fixed front ≡ true → after_front NewSegment front ≡ p → slot_at p ≡ Some slot → StandsIn front p
-path_stands front p slot kept_is ends text fixed is here =
-    let (path, opened) = subst (λ q. (in_path q ≡ true) × Open q (last_segment front)) is (path_front front [] NewSegment text (All-nil (IsNot 47)) refl refl) in
+-- a front that fixes the host is no first segment alone
+no_slash_in : (before rest : List ℕ) → All (λ b. is_first_byte b ≡ true) (before ++ 47 ∷ rest) → ⊥
+no_slash_in before rest bytes =
+    let clash = All-head (λ b. is_first_byte b ≡ true) 47 rest (all_right (λ b. is_first_byte b ≡ true) before (47 ∷ rest) bytes) in cc
+
+no_first : {front : List ℕ} → FixesHost front → All (λ b. is_first_byte b ≡ true) front → ⊥
+no_first (absolute scheme host rest is_web some other) bytes = no_slash_in (scheme ++ codes "://" ++ host) rest bytes
+no_first (hosted host rest some other) bytes = no_slash_in (codes "//" ++ host) rest bytes
+no_first (rooted rest other) bytes = no_slash_in [] rest bytes
+no_first (relative first rest some others) bytes = no_slash_in first rest bytes
+
+-- a front that ends in its path, where this is open
+in_path_stands : (front : List ℕ) (p : OpenPart) (slot : UrlSlot) → kept front ≡ front → EndsVisibly front → IsPathText front → in_path p ≡ true → Open p (last_segment front) → FixesHost front ⊎ IsFirstSegment front →
+    (IsFirstSegment front → is_first p ≡ true) → slot_at p ≡ Some slot → StandsIn front p
+in_path_stands front p slot kept_is ends text path opened fixed first here =
     let place : place_at p ≡ place.Path = grind (arith, nat_tests) in
     record {
       ends = subst (λ at. EndsIn at front) (sym place) (record {
         ends = ends;
         plain = subst IsPathText (sym kept_is) text;
-        fixed = subst FixesHost (sym kept_is) (fixed_front front fixed);
+        fixed = subst (λ f. FixesHost f ⊎ IsFirstSegment f) (sym kept_is) fixed;
         resolved = ap (λ f. dot_count (last_segment f)) kept_is ∙ closes p (last_segment front) path (grind (arith, nat_tests)) opened;
       });
       known = λ _. subst (λ f. Open p (last_segment f)) (sym kept_is) opened;
+      first = λ _ segment. first (subst IsFirstSegment kept_is segment);
     }
+
+path_stands : (front : List ℕ) (p : OpenPart) (slot : UrlSlot) → kept front ≡ front → EndsVisibly front → IsPathText front → is_fixed front ≡ true → after_front NewSegment front ≡ p → slot_at p ≡ Some slot → StandsIn front p
+path_stands front p slot kept_is ends text fixed is here =
+    let (path, opened) = subst (λ q. (in_path q ≡ true) × Open q (last_segment front)) is (path_front front [] NewSegment text (All-nil (IsNot 47)) refl refl) in
+    in_path_stands front p slot kept_is ends text path opened (inl (fixed_front front fixed)) (λ segment. absurd (no_first (fixed_front front fixed) segment.1)) here
+
+-- a first segment alone
+first_is : (front : List ℕ) → is_first_segment front ≡ true → IsFirstSegment front
+first_is front is =
+    let both = and_parts (nat_lt 0 (length front)) (list_all is_first_byte front) is in
+    (long both.0, All_from_list_all is_first_byte front both.1)
+  where
+    long : nat_lt 0 (length front) ≡ true → 0 < length front
+    long some = grind (arith, nat_tests)
+
+first_last : (front : List ℕ) → IsFirstSegment front → last_segment front ≡ front
+first_last front segment = last_of_whole front (All-weaker (λ b. is_first_byte b ≡ true) (IsNot 47) (λ b passes same. let clash = rw same at passes in cc) front segment.1)
+
+first_stands : (front : List ℕ) (p : OpenPart) (slot : UrlSlot) → kept front ≡ front → EndsVisibly front → IsPathText front → IsFirstSegment front → as_first (after_front NewSegment front) ≡ p → slot_at p ≡ Some slot → StandsIn front p
+first_stands front p slot kept_is ends text segment is here =
+    let (path, opened) = path_front front [] NewSegment text (All-nil (IsNot 47)) refl refl in
+    let (first_path, first_opened, is_it) = by_part (after_front NewSegment front) p path opened is here in
+    in_path_stands front p slot kept_is ends text first_path first_opened (inr segment) (λ _. is_it) here
+  where
+    by_part : (q p : OpenPart) → in_path q ≡ true → Open q (last_segment front) → as_first q ≡ p → slot_at p ≡ Some slot → (in_path p ≡ true) × Open p (last_segment front) × (is_first p ≡ true)
+    by_part NewSegment p path new is here = absurd (omega (arith, segment.0, ap length (sym (first_last front segment) ∙ new)))
+    by_part DotSegment p path open_still is here = let none : slot_at DotSegment ≡ Some slot = ap slot_at is ∙ here in absurd (cc)
+    by_part NamedSegment p path named is here = subst (λ r. (in_path r ≡ true) × Open r (last_segment front) × (is_first r ≡ true)) is (refl, named, refl)
+    by_part FirstSegment p path named is here = subst (λ r. (in_path r ≡ true) × Open r (last_segment front) × (is_first r ≡ true)) is (refl, named, refl)
+    by_part Query p path known is here = cc
+    by_part Fragment p path known is here = cc
 
 link_stands : (front : List ℕ) (p : OpenPart) (slot : UrlSlot) → All (λ b. is_plain_byte b ≡ true) front → open_of_link front ≡ Some p → slot_at p ≡ Some slot → StandsIn front p
 link_stands [] p slot plain is here = cc
-link_stands (b ∷ bytes) p slot plain is here = by_tests (has_byte 35 front) (has_byte 63 front) (is_fixed front) refl refl refl is
+link_stands (b ∷ bytes) p slot plain is here = by_tests (has_byte 35 front) (has_byte 63 front) (is_fixed front) (is_first_segment front) refl refl refl refl is
   where
     front : List ℕ
     front = b ∷ bytes
@@ -93,15 +142,17 @@ link_stands (b ∷ bytes) p slot plain is here = by_tests (has_byte 35 front) (h
     mark_kept : (mark : ℕ) → is_some (split_once mark (kept front)).1 ≡ has_byte mark front
     mark_kept mark = ap (λ f. is_some (split_once mark f).1) (kept_front front visible) ∙ sym (byte_found mark front)
 
-    by_tests : (f q x : Bool) → has_byte 35 front ≡ f → has_byte 63 front ≡ q → is_fixed front ≡ x → (if f then Some Fragment else (if q then Some Query else (if x then Some (after_front NewSegment front) else None))) ≡ Some p → StandsIn front p
-    by_tests true q x fragment query fixed found =
+    by_tests : (f q x s : Bool) → has_byte 35 front ≡ f → has_byte 63 front ≡ q → is_fixed front ≡ x → is_first_segment front ≡ s →
+        (if f then Some Fragment else (if q then Some Query else (if x then Some (after_front NewSegment front) else (if s then Some (as_first (after_front NewSegment front)) else None)))) ≡ Some p → StandsIn front p
+    by_tests true q x s fragment query fixed segment found =
         let same : Fragment ≡ p = cc in
-        subst (StandsIn front) same (record { ends = record { ends = ends; fragment = mark_kept 35 ∙ fragment }; known = λ path. cc })
-    by_tests false true x fragment query fixed found =
+        subst (StandsIn front) same (record { ends = record { ends = ends; fragment = mark_kept 35 ∙ fragment }; known = λ path. cc; first = λ path. cc })
+    by_tests false true x s fragment query fixed segment found =
         let same : Query ≡ p = cc in
-        subst (StandsIn front) same (record { ends = record { ends = ends; query = mark_kept 63 ∙ query; no_fragment = mark_kept 35 ∙ fragment }; known = λ path. cc })
-    by_tests false false true fragment query fixed found = path_stands front p slot (kept_front front visible) ends (path_text front plain fragment query) fixed (cc) here
-    by_tests false false false fragment query fixed found = cc
+        subst (StandsIn front) same (record { ends = record { ends = ends; query = mark_kept 63 ∙ query; no_fragment = mark_kept 35 ∙ fragment }; known = λ path. cc; first = λ path. cc })
+    by_tests false false true s fragment query fixed segment found = path_stands front p slot (kept_front front visible) ends (path_text front plain fragment query) fixed (cc) here
+    by_tests false false false true fragment query fixed segment found = first_stands front p slot (kept_front front visible) ends (path_text front plain fragment query) (first_is front segment) (cc) here
+    by_tests false false false false fragment query fixed segment found = cc
 
 pub front_stands : (front : List ℕ) (p : OpenPart) (slot : UrlSlot) → All (λ b. is_plain_byte b ≡ true) front → open_of front ≡ Some p → slot_at p ≡ Some slot → StandsIn front p
 front_stands front p slot plain is here =
@@ -124,11 +175,15 @@ path_fits front p slot text rest stands path here may good =
     record {
       plain = (good (text_in_path p path)).plain;
       resolved = subst HasNoDotSegments (ap (λ x. last ++ x) (path_over_text text rest) ∙ sym (append_assoc last (component text) (path_of rest))) (whole.resolved last (last_whole (kept front)) (stands.known path));
+      scheme = λ segment. (good (text_in_path p path)).scheme (first_after p (stands.first path segment));
       some = λ root. some_text p here path (subst (Open p) (ap last_segment root ∙ root_last) (stands.known path));
     }
   where
     text_in_path : (p : OpenPart) → in_path p ≡ true → in_path (after_text p) ≡ true
     text_in_path p path = grind (arith, nat_tests)
+
+    first_after : (p : OpenPart) → is_first p ≡ true → is_first (after_text p) ≡ true
+    first_after p first = grind (arith, nat_tests)
 
     some_text : (p : OpenPart) → slot_at p ≡ Some slot → in_path p ≡ true → Open p [] → 0 < length text
     some_text p here path known = grind (arith, nat_tests, nat_lt, one_dot)
@@ -139,6 +194,7 @@ text_fits front Fragment slot text rest stands here may good = tt
 text_fits front NewSegment slot text rest stands here may good = path_fits front NewSegment slot text rest stands refl here may good
 text_fits front DotSegment slot text rest stands here may good = cc
 text_fits front NamedSegment slot text rest stands here may good = path_fits front NamedSegment slot text rest stands refl here may good
+text_fits front FirstSegment slot text rest stands here may good = path_fits front FirstSegment slot text rest stands refl here may good
 
 -- ---- the URL
 

@@ -9,7 +9,7 @@ use Rattle.html_urls.specs.Inputs.{IsNot}
 use Rattle.html_urls.specs.Parts.Paths.{IsPathText, is_path_byte}
 use Rattle.html_urls.proofs.Paths.PathSegments.{last_after, last_of_whole}
 use Rattle.html_urls.specs.declared.open_part.OpenPart.{OpenPart}
-use Rattle.html_urls.specs.declared.open_part.OpenPart.TheVariants.{NewSegment, DotSegment, NamedSegment, Query, Fragment}
+use Rattle.html_urls.specs.declared.open_part.OpenPart.TheVariants.{NewSegment, DotSegment, NamedSegment, FirstSegment, Query, Fragment}
 use Rattle.html_urls.specs.OpenParts.{after_byte, after_front, after_segment_byte, begins_dots, may_be_dots}
 use Rattle.html_urls.specs.Parts.Segments.{is_dot_byte, last_segment}
 use Rattle.html_urls.proofs.Paths.Opening.{all_left, all_right}
@@ -39,6 +39,7 @@ abbrev pub Open : OpenPart → List ℕ → Type 0
 Open NewSegment s = s ≡ []
 Open DotSegment s = ⊤
 Open NamedSegment s = IsNamed s
+Open FirstSegment s = IsNamed s
 Open Query s = ⊤
 Open Fragment s = ⊤
 
@@ -46,6 +47,7 @@ abbrev pub in_path : OpenPart → Bool
 in_path NewSegment = true
 in_path DotSegment = true
 in_path NamedSegment = true
+in_path FirstSegment = true
 in_path Query = false
 in_path Fragment = false
 
@@ -58,6 +60,7 @@ pub closes : (p : OpenPart) (s : List ℕ) → in_path p ≡ true → may_be_dot
 closes NewSegment s path other is = ap dot_count is ∙ nothing_is_no_dot
 closes DotSegment s path other is = cc
 closes NamedSegment s path other is = ap dot_count (sym (append-nil s)) ∙ is []
+closes FirstSegment s path other is = ap dot_count (sym (append-nil s)) ∙ is []
 closes Query s path other is = cc
 closes Fragment s path other is = cc
 

@@ -1,10 +1,11 @@
 -- What is known of parts whose slots are told.
-use Rattle.std.proofs.Common.{◌≡◌, ℕ, ◌+◌, true, false, List, [], ◌∷◌, ◌++◌, Option, Some, None, Ok, Err, IsOkAnd, refl, arith}
+use Rattle.std.proofs.Common.{◌≡◌, ℕ, ◌+◌, true, false, List, [], ◌∷◌, ◌++◌, Option, Some, None, Ok, Err, IsOkAnd, Bool, if◌then◌else◌, refl, arith}
 use Rattle.std.proofs.lemmas.Bool.Decides.{nat_tests}
 use Rattle.html_urls.specs.declared.open_part.OpenPart.{OpenPart}
 use Rattle.html_urls.specs.declared.parts.UrlSlot.{UrlSlot}
-use Rattle.html_urls.specs.declared.parts.UrlFault.TheVariants.{NotFixed}
-use Rattle.html_urls.specs.OpenParts.{after_markup, after_text, may_be_dots, open_of, slot_at}
+use Rattle.html_urls.specs.declared.parts.UrlFault.TheVariants.{NotPlain, NotFixed, DotSegment}
+use Rattle.html_urls.specs.declared.parts.UrlFault.{UrlFault}
+use Rattle.html_urls.specs.OpenParts.{after_markup, after_text, ends_scheme, may_be_dots, open_of, slot_at}
 use Rattle.html_urls.specs.Slots.{FillSlots, Told, Given, Markup, Slot, first_slots, is_plain, later_slots, no_parts, told_of}
 
 -- ---- before the first slot
@@ -27,9 +28,22 @@ first_slot number front parts slots told = by_part (open_of front) refl told
 pub later_nothing : (number : ℕ) (p : OpenPart) (slots : List UrlSlot) → later_slots number p [] ≡ Ok slots → (may_be_dots p ≡ false) × (slots ≡ [])
 later_nothing number p slots told = grind (arith, nat_tests)
 
+passed : (not_plain not_fixed : UrlFault) (plain ends : Bool) {slots : List UrlSlot} {told : Told} → (if plain then (if ends then Err not_fixed else told) else Err not_plain) ≡ Ok slots → (plain ≡ true) × (ends ≡ false) × (told ≡ Ok slots)
+passed not_plain not_fixed true false is = (refl, refl, is)
+passed not_plain not_fixed true true is = cc
+passed not_plain not_fixed false ends is = cc
+
 pub later_markup : (number : ℕ) (p : OpenPart) (bytes : List ℕ) (parts : List Given) (slots : List UrlSlot) → later_slots number p (Markup bytes ∷ parts) ≡ Ok slots →
     (q : OpenPart) × (is_plain bytes (no_parts parts) ≡ true) × (after_markup p bytes ≡ Some q) × (later_slots (number + 1) q parts ≡ Ok slots)
-later_markup number p bytes parts slots told = grind (arith, nat_tests)
+later_markup number p bytes parts slots told = by_part (after_markup p bytes) refl (passed (NotPlain number) (NotFixed number) (is_plain bytes (no_parts parts)) (ends_scheme p bytes) told).2
+  where
+    by_part : (o : Option OpenPart) → after_markup p bytes ≡ o → told_of o (DotSegment number) (λ q. later_slots (number + 1) q parts) ≡ Ok slots →
+        (q : OpenPart) × (is_plain bytes (no_parts parts) ≡ true) × (after_markup p bytes ≡ Some q) × (later_slots (number + 1) q parts ≡ Ok slots)
+    by_part (Some q) is found = (q, (passed (NotPlain number) (NotFixed number) (is_plain bytes (no_parts parts)) (ends_scheme p bytes) told).0, is, found)
+    by_part None is found = cc
+
+pub later_scheme : (number : ℕ) (p : OpenPart) (bytes : List ℕ) (parts : List Given) (slots : List UrlSlot) → later_slots number p (Markup bytes ∷ parts) ≡ Ok slots → ends_scheme p bytes ≡ false
+later_scheme number p bytes parts slots told = (passed (NotPlain number) (NotFixed number) (is_plain bytes (no_parts parts)) (ends_scheme p bytes) told).1
 
 pub later_slot : (number : ℕ) (p : OpenPart) (parts : List Given) (slots : List UrlSlot) → later_slots number p (Slot ∷ parts) ≡ Ok slots →
     (slot : UrlSlot) × (more : List UrlSlot) × (slot_at p ≡ Some slot) × (later_slots (number + 1) (after_text p) parts ≡ Ok more) × (slots ≡ slot ∷ more)

@@ -94,7 +94,7 @@ own_scheme xs = grind (arith, nat_tests, cond_both, nat_lt, lt_of_not-le, get_or
 
 -- ---- the scheme of the text
 
-scheme_byte_no_mark : (b : ℕ) → is_scheme_byte b ≡ true → is_mark b ≡ false
+pub scheme_byte_no_mark : (b : ℕ) → is_scheme_byte b ≡ true → is_mark b ≡ false
 scheme_byte_no_mark b passes = grind (arith, nat_tests)
 
 unseen_no_mark : (b : ℕ) → nat_lt 32 b ≡ false → is_mark b ≡ false

@@ -1,5 +1,5 @@
 -- A text in the path.
-use Rattle.std.proofs.Common.{◌≡◌, ℕ, ◌<◌, true, false, List, [], ◌∷◌, ◌++◌, length, Option, None, Ok, IfOk, codes, All, sym, refl, ap, ◌∙◌, subst, append_assoc, arith, ◌≢◌, get_or}
+use Rattle.std.proofs.Common.{◌≡◌, ◌⊎◌, inl, inr, append-nil, ℕ, ◌<◌, true, false, List, [], ◌∷◌, ◌++◌, length, Option, None, Ok, IfOk, codes, All, sym, refl, ap, ◌∙◌, subst, append_assoc, arith, ◌≢◌, get_or}
 use Rattle.std.proofs.lemmas.Bool.Decides.{nat_tests}
 use Rattle.std.proofs.lemmas.List.{get_or_append_left}
 use Rattle.std.proofs.lemmas.List.Elements.{All-nil, All-tail, All-append, All-weaker}
@@ -16,8 +16,9 @@ use Rattle.url.proofs.InputLemmas.{split_once_none}
 use Rattle.html_urls.specs.declared.component.TheConstants.{COMPONENT}
 use Rattle.html_urls.specs.Components.{component, is_component_byte}
 use Rattle.html_urls.specs.Heads.{on_ok}
-use Rattle.html_urls.specs.Hosts.{FixesHost, absolute, hosted, rooted, relative, IsWebBase}
+use Rattle.html_urls.specs.Hosts.{FixesHost, IsFirstSegment, absolute, hosted, rooted, relative, IsWebBase}
 use Rattle.html_urls.specs.Inputs.{IsNot, kept, kept_rest}
+use Rattle.html_urls.specs.Links.{has_scheme}
 use Rattle.html_urls.specs.Parts.Paths.{is_path_byte, IsPathText, EndsInPath, FitsSegment, path_goes_on}
 use Rattle.html_urls.specs.Parts.Rests.{path_of, query_of, fragment_of}
 use Rattle.html_urls.specs.Parts.Segments.{last_segment, HasNoDotSegments}
@@ -25,7 +26,7 @@ use Rattle.html_urls.proofs.Components.{component_without, encode_around}
 use Rattle.html_urls.proofs.Splits.{kept_around, split_clear}
 use Rattle.html_urls.proofs.Paths.PathSegments.{after_front, last_after, path_alone, path_grows}
 use Rattle.html_urls.proofs.Paths.Opening.{Reads, authority_of, hosted_reads, from_base, folder_of, all_left, all_right, rooted_reads, first_not, absolute_reads}
-use Rattle.html_urls.proofs.Paths.FirstSegment.{folder_reads}
+use Rattle.html_urls.proofs.Paths.FirstSegment.{segment_reads, text_passed}
 
 -- ---- bytes
 
@@ -41,7 +42,7 @@ record Opened (base : Option Parts) (front text : List ℕ) : Type 0 where
   plain : All (IsNot 92) body
   last : last_segment body ≡ last_segment front
   alone : Reads base front start path body
-  goes_on : (rest : List ℕ) → Reads base (front ++ (component text ++ rest)) start path (body ++ (component text ++ rest))
+  goes_on : (rest : List ℕ) → (IsFirstSegment front → has_scheme rest ≡ false) → Reads base (front ++ (component text ++ rest)) start path (body ++ (component text ++ rest))
 
 -- the first byte of a segment that goes on with a component
 first_byte : (mark : ℕ) (rest text more : List ℕ) → mark ≢ 0 → is_component_byte mark ≡ false → get_or rest 0 0 ≢ mark → (rest ≡ [] → 0 < length text) → get_or (rest ++ (component text ++ more)) 0 0 ≢ mark
@@ -50,8 +51,8 @@ first_byte mark [] text more zero other first some =
     rw (get_or_append_left (component text) more 0 0 long) (component_without mark other text 0 0 long)
 first_byte mark (b ∷ rest) text more zero other first some = first
 
-opened : (base : Option Parts) (front text : List ℕ) → IsWebBase base → All (IsNot 92) front → FixesHost front → (front ≡ 47 ∷ [] → 0 < length text) → Opened base front text
-opened base _ text web plain (absolute scheme host rest is_web some other) text_some =
+host_opened : (base : Option Parts) (front text : List ℕ) → IsWebBase base → All (IsNot 92) front → FixesHost front → (front ≡ 47 ∷ [] → 0 < length text) → Opened base front text
+host_opened base _ text web plain (absolute scheme host rest is_web some other) text_some =
     let head = scheme ++ codes "://" ++ host in
     let before = all_left (IsNot 92) head (47 ∷ rest) plain in
     let host_plain = all_right (IsNot 92) (scheme ++ codes "://") host before in
@@ -63,9 +64,9 @@ opened base _ text web plain (absolute scheme host rest is_web some other) text_
       plain = after;
       last = sym (last_after head rest);
       alone = absolute_reads base scheme host rest is_web some other host_plain;
-      goes_on = λ more. subst (λ x. Reads base x (parse_authority (lowercase scheme) host) [] (rest ++ (component text ++ more))) (sym (append_assoc head (47 ∷ rest) (component text ++ more))) (absolute_reads base scheme host (rest ++ (component text ++ more)) is_web some other host_plain);
+      goes_on = λ more may. subst (λ x. Reads base x (parse_authority (lowercase scheme) host) [] (rest ++ (component text ++ more))) (sym (append_assoc head (47 ∷ rest) (component text ++ more))) (absolute_reads base scheme host (rest ++ (component text ++ more)) is_web some other host_plain);
     }
-opened base _ text web plain (hosted host rest some other) text_some =
+host_opened base _ text web plain (hosted host rest some other) text_some =
     let head = codes "//" ++ host in
     let host_plain = all_right (IsNot 92) (codes "//") host (all_left (IsNot 92) head (47 ∷ rest) plain) in
     let after = All-tail (IsNot 92) 47 rest (all_right (IsNot 92) head (47 ∷ rest) plain) in
@@ -76,9 +77,9 @@ opened base _ text web plain (hosted host rest some other) text_some =
       plain = after;
       last = sym (last_after head rest);
       alone = hosted_reads base host rest web some other host_plain;
-      goes_on = λ more. subst (λ x. Reads base x (authority_of base host) [] (rest ++ (component text ++ more))) (sym (append_assoc head (47 ∷ rest) (component text ++ more))) (hosted_reads base host (rest ++ (component text ++ more)) web some other host_plain);
+      goes_on = λ more may. subst (λ x. Reads base x (authority_of base host) [] (rest ++ (component text ++ more))) (sym (append_assoc head (47 ∷ rest) (component text ++ more))) (hosted_reads base host (rest ++ (component text ++ more)) web some other host_plain);
     }
-opened base _ text web plain (rooted rest other) text_some =
+host_opened base _ text web plain (rooted rest other) text_some =
     let after = All-tail (IsNot 92) 47 rest plain in
     let no_backslash = first_not rest after in
     let some = λ (none : rest ≡ []). text_some (ap (λ l. 47 ∷ l) none) in
@@ -89,16 +90,28 @@ opened base _ text web plain (rooted rest other) text_some =
       plain = after;
       last = sym (last_after [] rest);
       alone = rooted_reads base rest web other no_backslash;
-      goes_on = λ more. rooted_reads base (rest ++ (component text ++ more)) web (first_byte 47 rest text more (omega arith) refl other some) (first_byte 92 rest text more (omega arith) refl no_backslash some);
+      goes_on = λ more may. rooted_reads base (rest ++ (component text ++ more)) web (first_byte 47 rest text more (omega arith) refl other some) (first_byte 92 rest text more (omega arith) refl no_backslash some);
     }
-opened base _ text web plain (relative first rest some bytes) text_some = record {
+host_opened base _ text web plain (relative first rest some bytes) text_some = record {
   start = from_base base;
   path = folder_of base;
   body = first ++ 47 ∷ rest;
   plain = plain;
   last = refl;
-  alone = folder_reads base first rest web some bytes;
-  goes_on = λ more. subst (λ x. Reads base x (from_base base) (folder_of base) x) (sym (append_assoc first (47 ∷ rest) (component text ++ more))) (folder_reads base first (rest ++ (component text ++ more)) web some bytes);
+  alone = segment_reads base first (47 ∷ rest) web (some, bytes) refl;
+  goes_on = λ more may. subst (λ x. Reads base x (from_base base) (folder_of base) x) (sym (append_assoc first (47 ∷ rest) (component text ++ more))) (segment_reads base first (47 ∷ (rest ++ (component text ++ more))) web (some, bytes) refl);
+}
+
+opened : (base : Option Parts) (front text : List ℕ) → IsWebBase base → All (IsNot 92) front → FixesHost front ⊎ IsFirstSegment front → (front ≡ 47 ∷ [] → 0 < length text) → Opened base front text
+opened base front text web plain (inl fixed) text_some = host_opened base front text web plain fixed text_some
+opened base front text web plain (inr segment) text_some = record {
+  start = from_base base;
+  path = folder_of base;
+  body = front;
+  plain = plain;
+  last = refl;
+  alone = subst (λ x. Reads base x (from_base base) (folder_of base) x) (append-nil front) (segment_reads base front [] web segment refl);
+  goes_on = λ more may. segment_reads base front (component text ++ more) web segment (text_passed text more ∙ may segment);
 }
 
 -- ---- the law
@@ -135,7 +148,7 @@ path_law base front text rest web place fits =
     subst HasNoDotSegments (append_assoc (last_segment before) c body ∙ ap (λ x. x ++ (c ++ body)) (sym at.last)) fits.resolved in
     let encoded = encode_around PATH refl refl [] text body in
     let grown = path_grows at.path at.body (c ++ body) at.plain after_plain resolved dots ∙ ap (λ x. parse_path SpecialNotFile at.path at.body ++ x) encoded ∙ sym (append_assoc (parse_path SpecialNotFile at.path at.body) c (percent_encode PATH body)) in
-    ap read_hash whole_hash ∙ ap (λ r. read r hash.1) whole_question ∙ at.goes_on body (query_of rest) (fragment_of rest)
+    ap read_hash whole_hash ∙ ap (λ r. read r hash.1) whole_question ∙ at.goes_on body fits.scheme (query_of rest) (fragment_of rest)
     ∙ grow at.start text rest (parse_path SpecialNotFile at.path at.body) (parse_path SpecialNotFile at.path (at.body ++ (c ++ body))) grown
     ∙ sym (ap (on_ok (path_goes_on text rest)) (ap read_hash front_hash ∙ ap (λ r. read r None) front_question ∙ at.alone None None))
 

@@ -3,7 +3,7 @@ ghost use Rattle.std.specs.Prelude.{◌≡◌, ◌+◌, ◌<◌, ◌≤◌, ◌^
 
 use crate::faults::{Position, TagFault, ViewFault};
 use crate::source::lines::{before_line, behind_line};
-use crate::source::tag::{Sign, signed_name};
+use crate::source::tag::{Sign, behind_tag, signed_name};
 use html_template_source::cut_at;
 
 /// What stands between `{{` and `}}`, and where.
@@ -100,6 +100,9 @@ impl<'a> Cursor<'a> {
                 position: place,
             },
             Err(fault) => return Err(ViewFault::Tag(place, fault)),
+        };
+        let Some(behind) = behind_tag(tag.sign, behind) else {
+            return Err(ViewFault::Tag(place, TagFault::Raw));
         };
         let markup = self.pass(markup, tag.sign, behind);
         Ok(Piece {

@@ -78,6 +78,8 @@ impl<'a, 'p, 'g, A: Allocator + Copy> Reader<'a, 'p, 'g, A> {
         match tag.sign {
             Sign::Comment | Sign::End => Ok(()),
             Sign::Slot => add(nodes, Node::Slot(Asked { name, position })),
+            Sign::Fragment => add(nodes, Node::Fragment(Asked { name, position })),
+            Sign::Braced => add(nodes, Node::Fragment(Asked { name, position })),
             Sign::Quoted => add(nodes, Node::Markup("{{", position)),
             Sign::Each => self.read_section(cursor, tag, Times::Each, around, nodes),
             Sign::If => self.read_section(cursor, tag, Times::If, around, nodes),

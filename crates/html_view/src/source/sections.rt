@@ -18,13 +18,13 @@ ghost use Rattle.html_view.specs.declared.node.Times.TheVariants.{Once};
 ghost use Rattle.html_view.specs.declared.source.tag.Sign.TheVariants.{Unless};
 
 use crate::faults::ViewFault;
-use crate::node::{Asked, Node, Opening, Times};
+use crate::node::{Node, Opening, Times};
 use crate::source::cursor::{Cursor, Piece, Tag};
 use crate::source::tag::Sign;
 use std::alloc::Allocator;
 
 /// Nodes as they are written.
-pub(crate) type Nodes<'a, A> = Vec<Node<'a, Asked<'a>, A>, A>;
+pub(crate) type Nodes<'a, A> = Vec<Node<'a, A>, A>;
 
 /// The tag `{{^name}}` behind a section of its name, and the white space between them.
 #[derive(Drop)]
@@ -93,7 +93,7 @@ impl<'a, A: Allocator + Copy> Otherwise<'a, A> {
         times: Times,
         body: Nodes<'a, A>,
         others: Nodes<'a, A>,
-    ) -> Result<Node<'a, Asked<'a>, A>, ViewFault>
+    ) -> Result<Node<'a, A>, ViewFault>
         requires { times ≢ Once }
         ensures section { IfOk result (λ section. (rest after : spec.Nodes spec.Asked)
             → asked_nodes others.entry.items spec.End
@@ -178,7 +178,7 @@ pub(crate) fn add_markup<'a, A: Allocator>(
 #[inline(always)]
 pub(crate) fn add<'a, A: Allocator>(
     nodes: &mut Nodes<'a, A>,
-    node: Node<'a, Asked<'a>, A>,
+    node: Node<'a, A>,
 ) -> Result<(), ViewFault>
     ensures nodes { OnOk result ((after : spec.Nodes spec.Asked) → asked_nodes nodes.new.items after
         ≡ asked_nodes nodes.old.items (asked_node node.entry after)) }

@@ -1,9 +1,10 @@
 //! A tag: a sign and a name, cut out of what stands between `{{` and `}}`.
-ghost use Rattle.std.specs.Prelude.{◌≡◌, ◌≢◌, ◌∷◌, ◌++◌, [], IfErr, IfOk, IsTrue};
+ghost use Rattle.std.specs.Prelude.{◌≡◌, ◌≢◌, ◌≤◌, ◌∷◌, ◌++◌, [], IfErr, IfOk, IfSome, IsTrue, length};
 ghost use Rattle.std.specs.List.{AllByRecursion};
+ghost use Rattle.html_template_source.specs.Sources.{closing};
 ghost use Rattle.html_view.specs.Names.{words_behind};
 ghost use Rattle.html_view.specs.Reading.{has_end};
-ghost use Rattle.html_view.specs.Tags.{IsName, IsNameOf, IsPartialName, IsTag, IsWord, is_apart, is_letter, may_be_lone, sign_text};
+ghost use Rattle.html_view.specs.Tags.{IsName, IsNameOf, IsPartialName, IsTag, IsWord, is_apart, is_letter, closing_of, may_be_lone, sign_text};
 ghost use Rattle.html_view.specs.declared.faults.TagFault.TheVariants.{Unclosed};
 ghost use Rattle.html_view.specs.declared.source.tag.Sign.TheVariants.{Slot};
 
@@ -17,6 +18,10 @@ const QUOTED_OPENING: &str = "\"{{\"";
 pub(crate) enum Sign {
     /// `{{name}}`.
     Slot,
+    /// `{{&name}}`.
+    Fragment,
+    /// `{{{name}}}`, the same.
+    Braced,
     /// `{{"{{"}}`, a `{{` of the markup.
     Quoted,
     /// `{{! text }}`.
@@ -50,7 +55,7 @@ impl Sign {
         ensures { result ≡ may_be_lone self }
     {
         match self {
-            Sign::Slot | Sign::Quoted => false,
+            Sign::Slot | Sign::Fragment | Sign::Braced | Sign::Quoted => false,
             _ => true,
         }
     }
@@ -93,6 +98,17 @@ pub(crate) fn signed_name(inside: &str) -> Result<SignedName<'_>, TagFault>
     }
 }
 
+/// What stands behind a tag of this sign, behind its `}}`. One of three braces has one more.
+pub(crate) fn behind_tag(sign: Sign, behind: &str) -> Option<&str>
+    ensures closed { IfSome result (λ rest. closing ++ behind.now ≡ closing_of sign ++ rest.now) }
+    ensures less { IfSome result (λ rest. length rest.now ≤ length behind.now) }
+{
+    match sign {
+        Sign::Braced => behind.strip_prefix('}'),
+        _ => Some(behind),
+    }
+}
+
 // The sign with which a text begins, and what stands behind it.
 fn signed(text: &str) -> Result<SignedName<'_>, TagFault>
     ensures parts { IfOk result (λ found. text.now ≡ sign_text found.sign ++ found.name.now) }
@@ -130,7 +146,8 @@ fn sign_of(first: char) -> Result<Sign, TagFault>
         '>' => Ok(Sign::Partial),
         '<' => Ok(Sign::Layout),
         '$' => Ok(Sign::Block),
-        '{' | '&' => Err(TagFault::Raw),
+        '&' => Ok(Sign::Fragment),
+        '{' => Ok(Sign::Braced),
         // These begin the name of a slot.
         '.' | '-' | '_' => Ok(Sign::Slot),
         other if other.is_ascii_punctuation() => Err(TagFault::BadTag),

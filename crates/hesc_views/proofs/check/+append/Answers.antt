@@ -6,7 +6,7 @@ use Rattle.hesc_views.proofs.check.+append.Goals as goal
 pub append_node-returns-in_ok-append_tag-in-Section :
     goal.append_node-returns-in_ok-append_tag-in-Section
 append_node-returns-in_ok-append_tag-in-Section g t c =
-    section_appended c.in-Section.opening c.in-Section.body c.in-Section.otherwise c.args.node.now _ _ _ _ _ _ _ c.in-Section.is
+    section_appended c.in-Section.opened c.in-Section.body c.in-Section.otherwise c.args.node.now _ _ _ _ _ _ _ c.in-Section.is
     (c.body_sign-sign.ensures ∙ rw (c.is_empty.ensures, c.is_empty-in-Section.ensures, vec_has_none c.in-Section.body, vec_has_none c.in-Section.otherwise) refl)
     (c.otherwise_sign.ensures ∙ rw (c.is_empty-in-Section-2.ensures, vec_has_none c.in-Section.otherwise) refl)
     c.in_ok-append_body-in-Section.ensures c.in_ok-append_tag-in-Section.ensures c.append_nodes.ensures

@@ -11,6 +11,7 @@ use Rattle.html_tokenizer.specs.Tokenizer.Elements.{beside}
 use Rattle.html_tokenizer.specs.Tokenizer.States.{AfterName, AfterValue, Attribute, BeforeName, BeforeValue, CodeEndTag, CodeLess, CodeWord, EndTagName, EndTagOpen, In, InCode, Name, Ordinary, SelfClosing, State, StringLess, TagName, TagOpen, ValueEndTag, Within, Tokenizer, at_value}
 use Rattle.html_tokenizer.specs.Tokenizer.Transitions.{Transition, moves}
 use Rattle.html_tokenizer.specs.declared.slot_place.SlotPlace.TheVariants.{Text}
+use Rattle.html_tokenizer.specs.Tokenizer.Attributes.{without_value}
 use Rattle.html_tokenizer.specs.Tokenizer.Tags.{first_name_byte, in_tag, name_byte}
 use Rattle.html_tokenizer.specs.Tokenizer.Tags.EndTags.{is_rcdata}
 use Rattle.html_tokenizer.specs.Tokenizer.Tokenization.{byte_in, consume, value_byte}
@@ -95,8 +96,9 @@ opens (Name name) content attribute b none is =
     let other : Transition = name_byte content name b in
     name_opens content name b (in_tag (AfterName name) content b other) (in_tag_holds_none (AfterName name) content b other (name_holds_none content name b)) is
 opens (AfterName name) content attribute b none is =
-    let other : Transition = first_name_byte content b in
-    name_opens content name b (in_tag (AfterName name) content b other) (in_tag_holds_none (AfterName name) content b other (first_name_holds_none content b)) is
+    let here : Content = without_value content name in
+    let other : Transition = first_name_byte here b in
+    name_opens content name b (in_tag (AfterName name) content b other) (in_tag_holds_none (AfterName name) content b other (first_name_holds_none here b)) is
 opens BeforeName content attribute b none is =
     absurd (true≢false (sym is ∙ in_tag_holds_none BeforeName content b (first_name_byte content b) (first_name_holds_none content b)))
 opens other content attribute b none is =

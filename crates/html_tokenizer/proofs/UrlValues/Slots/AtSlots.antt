@@ -6,7 +6,7 @@ use Rattle.hesc_specs.specs.Text.Ascii.{double_quote, greater_than, single_quote
 use Rattle.html_tokenizer.specs.declared.elements.Content.{Content}
 use Rattle.html_tokenizer.specs.declared.slot_place.SlotPlace.{SlotPlace}
 use Rattle.html_tokenizer.specs.declared.slot_place.SlotPlace.TheVariants.{DoubleQuoted, SingleQuoted, Unquoted}
-use Rattle.html_tokenizer.specs.Standing.{is_refused, before_value, in_content, is_same, standing, standing_in, takes_literal, unless_forbidden}
+use Rattle.html_tokenizer.specs.Standing.{is_refused, before_value, in_content, is_same, standing, standing_in, takes_json, takes_literal, unless_forbidden}
 use Rattle.html_tokenizer.specs.Tokenizer.States.{Attribute, BeforeValue, In, Refused, State, Tokenizer, at_value, InCode, Link, Ordinary, Url, Within}
 use Rattle.html_tokenizer.specs.Tokenizer.Tags.{is_space}
 use Rattle.html_tokenizer.specs.Tokenizer.Tokenization.{consume, state_after}
@@ -24,7 +24,7 @@ use Rattle.html_tokenizer.proofs.UrlValues.Slots.Marks.{mark_starts, walks_back}
 use Rattle.html_tokenizer.specs.declared.elements.OpenElement.{OpenElement}
 use Rattle.html_tokenizer.specs.declared.elements.OpenElement.TheVariants.{NoScript}
 use Rattle.html_tokenizer.specs.declared.reader.Standing.{Standing}
-use Rattle.html_tokenizer.specs.declared.reader.Standing.TheVariants.{InUrl, InLink, InScript, Nowhere, Barred}
+use Rattle.html_tokenizer.specs.declared.reader.Standing.TheVariants.{InUrl, InLink, InScript, InJson, Nowhere, Barred}
 use Rattle.html_tokenizer.specs.Tokenizer.Code.Escapes.{is_opaque}
 use Rattle.html_tokenizer.proofs.UrlValues.Following.{in_value, same_place}
 
@@ -169,10 +169,11 @@ before_none : (p : SlotPlace) (attribute : Attribute) → in_url p (before_value
 before_none p Ordinary = refl
 before_none p other = refl
 
-in_code_none : (p : SlotPlace) (opaque literal : Bool) → in_url p (if opaque then Barred else (if literal then InScript else Nowhere)) ≡ false
-in_code_none p true literal = refl
-in_code_none p false true = refl
-in_code_none p false false = refl
+in_code_none : (p : SlotPlace) (opaque literal json : Bool) → in_url p (if opaque then Barred else (if literal then InScript else (if json then InJson else Nowhere))) ≡ false
+in_code_none p true literal json = refl
+in_code_none p false true json = refl
+in_code_none p false false true = refl
+in_code_none p false false false = refl
 
 stands_in : (p : SlotPlace) (s : State) (content : Content) (attribute : Attribute) → in_url p (standing_in s content attribute) ≡ true →
     AtUrl p (at_value s content attribute)
@@ -180,7 +181,7 @@ stands_in p (In q) content attribute is =
     let found = forbids_none p q attribute (within_content p content.element (unless_forbidden attribute q) is) in
     record { url = found.url; at = inside_at p (In q) found.same }
 stands_in p BeforeValue content attribute is = absurd (true≢false (sym is ∙ before_none p attribute))
-stands_in p (InCode kind) content attribute is = absurd (true≢false (sym is ∙ in_code_none p (is_opaque kind) (takes_literal kind content attribute)))
+stands_in p (InCode kind) content attribute is = absurd (true≢false (sym is ∙ in_code_none p (is_opaque kind) (takes_literal kind content attribute) (takes_json kind content attribute)))
 stands_in p other content attribute is = absurd (false≢true is)
 
 pub stands_in_url : (p : SlotPlace) (u : Tokenizer) → in_url p (standing u) ≡ true → AtUrl p u

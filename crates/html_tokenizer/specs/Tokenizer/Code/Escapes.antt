@@ -29,6 +29,7 @@ other_escape other = code.Escaped
 -- the rest takes no slot
 abbrev pub is_opaque : Code → Bool
 is_opaque code.Opaque = true
+is_opaque code.JsonRest = true
 is_opaque code.EscapeStart = true
 is_opaque code.EscapeStartDash = true
 is_opaque code.Escaped = true

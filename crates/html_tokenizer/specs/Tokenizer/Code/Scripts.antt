@@ -1,11 +1,11 @@
 -- What a byte does in the code of a script, outside of strings.
-use Rattle.std.specs.Prelude.{ℕ, ◌||◌, [], ◌∷◌, ◌==◌, Option, Some, None, if◌then◌else◌}
-use Rattle.hesc_specs.specs.Text.Ascii.{number_sign, double_quote, single_quote, slash, greater_than, backslash, backtick}
+use Rattle.std.specs.Prelude.{ℕ, Bool, ◌||◌, [], ◌∷◌, ◌==◌, Option, Some, None, if◌then◌else◌}
+use Rattle.hesc_specs.specs.Text.Ascii.{tab, line_feed, carriage_return, space, number_sign, double_quote, single_quote, slash, greater_than, backslash, backtick}
 use Rattle.html_tokenizer.specs.declared.slot_place.SlotPlace.TheVariants.{ScriptSingle, ScriptDouble}
 use Rattle.html_tokenizer.specs.declared.states.Code.{Code}
 use Rattle.html_tokenizer.specs.declared.states.Code.TheVariants as code
 use Rattle.html_tokenizer.specs.declared.elements.Content.{Content}
-use Rattle.html_tokenizer.specs.Tokenizer.Actions.{StringStart}
+use Rattle.html_tokenizer.specs.Tokenizer.Actions.{EmitByte, StringStart}
 use Rattle.html_tokenizer.specs.Tokenizer.Comments.{dash}
 use Rattle.html_tokenizer.specs.Tokenizer.States as state
 use Rattle.html_tokenizer.specs.Tokenizer.States.{Forbidden, at_value}
@@ -53,8 +53,18 @@ import_byte content b =
     if b == opening_parenthesis || b == full_stop then gives_up content b
     else module_byte code.AfterImport content b
 
+-- RFC 8259, 2 JSON Grammar: white space
+abbrev pub is_json_space : ℕ → Bool
+is_json_space b = b == space || b == tab || b == line_feed || b == carriage_return
+
+-- a byte of a data block of JSON: 13.2.5.4 Script data state
+abbrev pub json_byte : Code → Content → ℕ → Transition
+json_byte kind content b = goes (state.InCode kind) content (EmitByte b ∷ [])
+
 abbrev pub script_code_byte : Code → Content → ℕ → Transition
 script_code_byte code.Plain content b = script_byte content b
+script_code_byte code.Json content b = json_byte (if is_json_space b then code.Json else code.JsonRest) content b
+script_code_byte code.JsonRest content b = json_byte code.JsonRest content b
 script_code_byte code.Name content b = name_byte content b
 script_code_byte code.LetterI content b = letters_byte (longer code.LetterI b) content b
 script_code_byte code.LettersIm content b = letters_byte (longer code.LettersIm b) content b

@@ -1,13 +1,13 @@
-use Rattle.std.proofs.Common.{rules, ◌≤◌, ◌+◌, ◌∙◌, List, length, subst, refl, sym, arith}
+use Rattle.std.proofs.Common.{rules, ◌≤◌, ◌+◌, ◌∙◌, List, length, subst, sym, arith}
 use Rattle.html_view.specs.Following.{Follows, ways_of}
 use Rattle.html_view.specs.Kept.{asked_node, asked_nodes, placed_node, placed_nodes}
 use Rattle.html_view.specs.Takes.{AreAmong, GoesOn}
-use Rattle.html_view.specs.declared.node.Node.{Markup, Node, Section, Slot}
-use Rattle.html_view.specs.declared.node.Opening.{Opening}
-use Rattle.html_view.specs.declared.node.Placed.{Placed}
-use Rattle.html_view.specs.declared.node.Asked.{Asked}
+use Rattle.html_view.specs.declared.node.Node.{Node}
+use Rattle.html_view.specs.declared.placed.Opened.{Opened}
+use Rattle.html_view.specs.declared.placed.Placed.{Placed}
+use Rattle.html_view.specs.declared.placed.PlacedNode.{Fragment, Markup, Section, Slot}
 use Rattle.html_view.specs.declared.node.Times.TheVariants.{Each}
-use Rattle.html_view.proofs.Followed.{all_among, body_back, body_once, body_wider, followed_all, followed_more, followed_start, markup_followed, section_followed, slot_followed}
+use Rattle.html_view.proofs.Followed.{all_among, body_back, body_once, body_wider, followed_all, followed_more, followed_start, fragment_followed, markup_followed, section_followed, slot_followed}
 use Rattle.html_view.proofs.follow.+follow.Goals as goal
 use Rattle.html_view.proofs.follow.+follow.Goals.{follow_again-in-Some, follow_again-in-None}
 
@@ -60,29 +60,34 @@ follow_new-returns-in-Some-clause-body g t c =
 
 pub follow_node-returns-in_ok-take_markup-in-Markup : goal.follow_node-returns-in_ok-take_markup-in-Markup
 follow_node-returns-in_ok-take_markup-in-Markup g t c =
-    subst (λ (n : Node Asked _). Follows (asked_node n) (placed_node (Markup c.in-Markup.text c.in-Markup.position))
-    (ways_of c.args.ways.now) (ways_of c.take_markup.new.self)) (sym c.in-Markup.is)
-    (markup_followed _ c.in-Markup.text c.in-Markup.position c.in-Markup.position (ways_of c.args.ways.now) (ways_of c.take_markup.new.self)
+    subst (λ (n : Node _). Follows (asked_node n) (placed_node (Markup c.new.result)) (ways_of c.args.ways.now) (ways_of c.take_markup.new.self))
+    (sym c.in-Markup.is)
+    (markup_followed _ c.in-Markup.text c.in-Markup.position c.new.result (ways_of c.args.ways.now) (ways_of c.take_markup.new.self) c.new.ensures
     (λ way among. subst (λ b. GoesOn way b (ways_of c.take_markup.new.self)) c.as_bytes.ensures.value (c.in_ok-take_markup-in-Markup.ensures way among)))
 
-pub follow_node-returns-in_ok-found-in-Slot : goal.follow_node-returns-in_ok-found-in-Slot
-follow_node-returns-in_ok-found-in-Slot g t c =
-    let made : Placed = record { asked = c.in-Slot.slot; place = c.in_ok-found-in-Slot.found.place; kind = c.in_ok-found-in-Slot.found.kind } in
-    subst (λ (n : Node Asked _). Follows (asked_node n) (placed_node (Slot made)) (ways_of c.args.ways.now) (ways_of c.take_slot.new.self)) (sym c.in-Slot.is)
-    (slot_followed _ made (ways_of c.args.ways.now) (ways_of c.take_slot.new.self) (c.in_ok-found-in-Slot.ensures _ refl refl))
+pub follow_node-returns-in_ok-asked-in-Slot : goal.follow_node-returns-in_ok-asked-in-Slot
+follow_node-returns-in_ok-asked-in-Slot g t c =
+    let made : Placed _ = record { asked = c.in_ok-asked-in-Slot.asked; checked = c.new-in-Slot.result } in
+    subst (λ (n : Node _). Follows (asked_node n) (placed_node (Slot made)) (ways_of c.args.ways.now) (ways_of c.take_slot.new.self)) (sym c.in-Slot.is)
+    (slot_followed c.in-Slot.slot made (ways_of c.args.ways.now) (ways_of c.take_slot.new.self) c.in_ok-asked-in-Slot.ensures
+    (c.in_ok-found-in-Slot.ensures _ (sym c.new-in-Slot.ensures.place) (sym c.new-in-Slot.ensures.kind)))
 
-pub follow_node-returns-in_ok-add_all-in-Section : goal.follow_node-returns-in_ok-add_all-in-Section
-follow_node-returns-in_ok-add_all-in-Section g t c =
-    let made : Opening = record { name = c.in-Section.opening.name; position = c.in-Section.opening.position; times = c.in_ok-passes-in-Section.passes.times } in
-    subst (λ (n : Node Asked _). Follows (asked_node n)
+pub follow_node-returns-in_ok-named-in-Fragment : goal.follow_node-returns-in_ok-named-in-Fragment
+follow_node-returns-in_ok-named-in-Fragment g t c =
+    subst (λ (n : Node _). Follows (asked_node n) (placed_node (Fragment c.in_ok-named-in-Fragment.named)) (ways_of c.args.ways.now) (ways_of c.args.ways.now))
+    (sym c.in-Fragment.is)
+    (fragment_followed c.in-Fragment.slot c.in_ok-named-in-Fragment.named (ways_of c.args.ways.now) c.in_ok-named-in-Fragment.ensures (c.are_first.ensures c.if-not-are_first.false))
+
+pub follow_node-returns-in_ok-tag-in-Section : goal.follow_node-returns-in_ok-tag-in-Section
+follow_node-returns-in_ok-tag-in-Section g t c =
+    let made : Opened _ = record { tag = c.in_ok-tag-in-Section.tag; times = c.in_ok-passes-in-Section.passes.times } in
+    subst (λ (n : Node _). Follows (asked_node n)
     (placed_node (Section made c.in_ok-passes-in-Section.passes.nodes c.in_ok-other-in-Section.other)) (ways_of c.args.ways.now) (ways_of c.add_all.new.self))
     (sym c.in-Section.is)
-    (section_followed c.in-Section.opening
-    made
-    c.in-Section.body c.in-Section.otherwise c.in_ok-passes-in-Section.passes.nodes c.in_ok-other-in-Section.other
-    (ways_of c.args.ways.now) (ways_of c.in_ok-passes-in-Section.passes.ways) (ways_of c.follow.new.ways) (ways_of c.add_all.new.self)
-    refl refl c.in_ok-passes-in-Section.ensures.times c.in_ok-passes-in-Section.ensures.body c.in_ok-other-in-Section.ensures
-    c.in_ok-add_all-in-Section.ensures.added c.in_ok-add_all-in-Section.ensures.kept)
+    (section_followed c.in-Section.opening made c.in-Section.body c.in-Section.otherwise c.in_ok-passes-in-Section.passes.nodes
+    c.in_ok-other-in-Section.other (ways_of c.args.ways.now) (ways_of c.in_ok-passes-in-Section.passes.ways) (ways_of c.follow.new.ways)
+    (ways_of c.add_all.new.self) c.in_ok-tag-in-Section.ensures c.in_ok-passes-in-Section.ensures.times c.in_ok-passes-in-Section.ensures.body
+    c.in_ok-other-in-Section.ensures c.in_ok-add_all-in-Section.ensures.added c.in_ok-add_all-in-Section.ensures.kept)
 
 pub follow_rounds-returns-then-has_all-clause-body : goal.follow_rounds-returns-then-has_all-clause-body
 follow_rounds-returns-then-has_all-clause-body g t c =

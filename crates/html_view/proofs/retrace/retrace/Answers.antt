@@ -13,9 +13,9 @@ use Rattle.html_view.specs.declared.faults.Refused.{Refused}
 use Rattle.html_view.specs.declared.faults.ViewFault.TheVariants.{Unfinished}
 use Rattle.html_view.specs.declared.retrace.Trace.{Trace}
 use Rattle.html_view.specs.declared.way.Way as code
-use Rattle.html_view.proofs.Retraced.{Traced, begins_section, empty_of, frame_markup, frame_slot, no_front, shown_end, shown_markup, shown_slot, traced_end, traced_first, traced_led, traced_markup, traced_popped, traced_slot}
+use Rattle.html_view.proofs.Retraced.{Traced, begins_section, empty_of, frame_fragment, frame_markup, frame_slot, no_front, shown_end, shown_markup, shown_slot, traced_end, traced_first, traced_fragment, traced_led, traced_markup, traced_popped, traced_slot}
 use Rattle.html_view.proofs.retrace.retrace.Goals as goal
-use Rattle.html_view.proofs.retrace.retrace.Goals.{in-Markup+in_ok-turn_to_markup-in-Markup+in-Ok+in_ok-add-in-Ok, in-Slot+in_ok-take_slot-in-Slot+in-Ok-2+in_ok-add-in-Ok-2, in-Section+in-Some-pass+in_ok-stand-in-Some-pass, in-Section+in-None+in_ok-leave_out-in-None}
+use Rattle.html_view.proofs.retrace.retrace.Goals.{in-Markup+in_ok-turn_to_markup-in-Markup+in-Ok+in_ok-add-in-Ok, in-Slot+in_ok-take_slot-in-Slot+in-Ok-2+in_ok-add-in-Ok-2, in-Fragment+in_ok-add-in-Fragment, in-Section+in-Some-pass+in_ok-stand-in-Some-pass, in-Section+in-None+in_ok-leave_out-in-None}
 
 -- the same, by where they come from
 same_trace : {A : Type 0} (nodes : Nodes Asked) (way old_way : code.Way A) (trace old : Trace A) → way ≡ old_way → trace ≡ old →
@@ -131,6 +131,14 @@ loop-step-preserved g c =
           (added nodes (way_of w.take_slot.new.self) w.add-in-Ok-2.new.self _ _ w.in_ok-add-in-Ok-2.ensures.standing w.in_ok-add-in-Ok-2.ensures.work
           (traced_slot nodes way (way_of w.take_slot.new.self) w.in-Ok-2.field-0 c.loop-step.trace.standing.items (asked_of w.in-Slot.slot) _
           (work_of c.pop.new.self.items) traced (rw w.in-Ok-2.is at w.in_ok-take_slot-in-Slot.ensures)))
+      | in-Fragment+in_ok-add-in-Fragment w ↦
+          let traced = traced_popped nodes way c.loop-step.trace.standing.items c.loop-step.trace.work.items c.pop.new.self.items c.in-Some.frame _
+          c.in-Some.ensures.items
+          (frame_fragment c.in-Some.frame c.node-item.result w.in-Fragment.field-0 c.in-len1-up.len_at_least c.node-item.is w.in-Fragment.is)
+          c.loop-step.invariant in
+          same_trace nodes _ _ _ _ w.way'-is w.trace-is
+          (added nodes way w.add-in-Fragment.new.self _ _ w.in_ok-add-in-Fragment.ensures.standing w.in_ok-add-in-Fragment.ensures.work
+          (traced_fragment nodes way c.loop-step.trace.standing.items (asked_of w.in-Fragment.field-0) _ (work_of c.pop.new.self.items) traced))
       | in-Section+in-Some-pass+in_ok-stand-in-Some-pass w ↦
           same_trace nodes _ _ _ _ w.way'-is w.trace-is
           (traced_led nodes way c.loop-step.trace.standing.items w.stand.new.self.standing.items (frame_of c.in-Some.frame ∷ work_of c.pop.new.self.items)

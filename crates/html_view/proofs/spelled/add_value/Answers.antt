@@ -1,6 +1,7 @@
 use Rattle.std.proofs.Common.{◌∙◌, ap}
 use Rattle.html_view.specs.Kept.{asked_nodes}
-use Rattle.html_view.proofs.SourceReads.{asked_slot, on_ok}
+use Rattle.html_view.proofs.Followed.{asked_slot}
+use Rattle.html_view.proofs.SourceReads.{on_ok}
 use Rattle.html_view.proofs.spelled.add_value.Goals as goal
 
 pub returns-in-Given : goal.returns-in-Given

@@ -1,7 +1,8 @@
 use Rattle.std.proofs.Common.{◌∙◌, ap}
 use Rattle.html_view.specs.Attributes.{value_of}
 use Rattle.html_view.specs.Nodes as node
-use Rattle.html_view.proofs.SourceReads.{asked_markup, none_before}
+use Rattle.html_view.proofs.Followed.{asked_markup}
+use Rattle.html_view.proofs.SourceReads.{none_before}
 use Rattle.html_view.proofs.Spelling.{section_written}
 use Rattle.html_view.proofs.spelled.attribute.Goals as goal
 

@@ -1,15 +1,15 @@
 use Rattle.std.proofs.Common.{◌≡◌, drop}
 use Rattle.html_view.specs.Data.{item_stacks}
 use Rattle.html_view.specs.Rendered.{unrolled, unrolled_each}
-use Rattle.html_view.specs.Stepped.{stepped}
+use Rattle.html_view.specs.Kept.{nodes_of}
 use Rattle.html_view.specs.Values.{items_in, stack_of}
 use Rattle.html_view.proofs.Putting.{IsSoFar, item_count}
 use Rattle.html_view.proofs.unroll.+put.Given as goal
 
 abbrev pub invariant-put_each-items : goal.invariant-put_each-items
 invariant-put_each-items g l = record {
-  so_far : IsSoFar (unrolled_each (λ inner. unrolled (stepped l.body.items) inner) (item_stacks (items_in l.items) (stack_of l.around)))
-      (unrolled_each (λ inner. unrolled (stepped l.body.items) inner) (item_stacks (items_in l.rest) (stack_of l.around)))
+  so_far : IsSoFar (unrolled_each (λ inner. unrolled (nodes_of l.body.items) inner) (item_stacks (items_in l.items) (stack_of l.around)))
+      (unrolled_each (λ inner. unrolled (nodes_of l.body.items) inner) (item_stacks (items_in l.rest) (stack_of l.around)))
       (g.S.Sink.taken l.initial.sink) (g.S.Sink.taken l.sink);
   reference : g.S.Sink.reference l.sink ≡ g.S.Sink.reference l.initial.sink;
   before : g.S.Sink.before l.sink ≡ g.S.Sink.before l.initial.sink;
@@ -18,9 +18,9 @@ invariant-put_each-items g l = record {
 abbrev pub decreases-put_each-items : goal.decreases-put_each-items
 decreases-put_each-items g l = item_count (items_in l.rest)
 
-abbrev pub invariant-put_steps-loop-step : goal.invariant-put_steps-loop-step
-invariant-put_steps-loop-step g l = record {
-  so_far : IsSoFar (unrolled (stepped l.steps.items) (stack_of l.around)) (unrolled (stepped (drop l.step-index l.steps.items)) (stack_of l.around))
+abbrev pub invariant-put_nodes-loop-node : goal.invariant-put_nodes-loop-node
+invariant-put_nodes-loop-node g l = record {
+  so_far : IsSoFar (unrolled (nodes_of l.nodes.items) (stack_of l.around)) (unrolled (nodes_of (drop l.node-index l.nodes.items)) (stack_of l.around))
       (g.S.Sink.taken l.initial.sink) (g.S.Sink.taken l.sink);
   reference : g.S.Sink.reference l.sink ≡ g.S.Sink.reference l.initial.sink;
   before : g.S.Sink.before l.sink ≡ g.S.Sink.before l.initial.sink;

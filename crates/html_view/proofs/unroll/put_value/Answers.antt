@@ -1,5 +1,5 @@
 use Rattle.std.proofs.Common.{rules}
-use Rattle.html_view.specs.Stepped.{slot_of}
+use Rattle.html_view.specs.Kept.{slot_of}
 use Rattle.html_view.specs.Values.{stack_of}
 use Rattle.html_view.proofs.Putting.{text_begun, text_put}
 use Rattle.html_view.proofs.unroll.put_value.Goals as goal

@@ -1,6 +1,7 @@
 use Rattle.std.proofs.Common.{sym, ap, ◌∙◌}
 use Rattle.html_view.specs.Kept.{asked_nodes}
-use Rattle.html_view.proofs.SourceReads.{asked_markup, marked_some, on_ok}
+use Rattle.html_view.proofs.Followed.{asked_markup}
+use Rattle.html_view.proofs.SourceReads.{marked_some, on_ok}
 use Rattle.html_view.proofs.source.sections.add_markup.Goals as goal
 
 pub returns-clause-nodes : goal.returns-clause-nodes

@@ -1,8 +1,6 @@
-use Rattle.std.proofs.Common.{ap}
 use Rattle.html_view.specs.Following.{ways_of}
 use Rattle.html_view.specs.Kept.{asked_nodes, placed_nodes}
 use Rattle.html_view.specs.Nodes as node
-use Rattle.html_view.specs.Rendered.{unrolled}
 use Rattle.html_view.proofs.Spelling.{view_plain}
 use Rattle.html_view.proofs.Views.{are_templates}
 use Rattle.html_view.proofs.view.View.placed.Goals as goal
@@ -11,7 +9,6 @@ pub invariant_of-result : goal.invariant_of-result
 invariant_of-result g c = record {
   sound = are_templates (asked_nodes c.args.nodes.now.items) (placed_nodes c.in_ok-nodes.nodes.items) (ways_of c.first-ways.result)
       (ways_of c.follow.new.ways) c.first-ways.ensures c.in_ok-nodes.ensures (c.in_ok-may_end.ensures c.if-not-branch.false);
-  same = λ stack. ap (λ n. unrolled n stack) c.in_ok-steps.ensures;
 }
 
 pub returns-clause-nodes : goal.returns-clause-nodes

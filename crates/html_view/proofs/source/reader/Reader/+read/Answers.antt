@@ -3,12 +3,13 @@ use Rattle.std.proofs.lemmas.List.{take_min}
 use Rattle.html_view.specs.Cursors.{Passes, here_of}
 use Rattle.html_view.specs.Kept.{asked_nodes}
 use Rattle.html_view.specs.Nodes as node
-use Rattle.html_view.specs.Reading.{Closes, Ends, all_marked, asked, asked_partial, marked, spaces_of, partials_of, reads_end, reads_tag, a_comment, a_quoted, a_slot}
+use Rattle.html_view.specs.Reading.{Closes, Ends, all_marked, asked, asked_partial, marked, spaces_of, partials_of, reads_end, reads_tag, a_braced, a_comment, a_fragment, a_quoted, a_slot}
 use Rattle.html_template_source.specs.Sources.{opening}
 use Rattle.html_view.specs.declared.node.Times.TheVariants as times
 use Rattle.html_view.specs.declared.source.cursor.Tag.{Tag}
 use Rattle.html_view.specs.declared.source.tag.Sign.TheVariants as sign
-use Rattle.html_view.proofs.SourceReads.{asked_markup, asked_slot, none_before, on_ok, opened_is, section_added, times_once, unless_added}
+use Rattle.html_view.proofs.Followed.{asked_fragment, asked_markup, asked_slot}
+use Rattle.html_view.proofs.SourceReads.{none_before, on_ok, opened_is, section_added, times_once, unless_added}
 use Rattle.html_view.proofs.SourceTagged.{adds_default, adds_given, adds_layout, adds_partial, adds_section, adds_sides, adds_unless}
 use Rattle.html_view.proofs.source.reader.Reader.+read.Goals as goal
 
@@ -109,6 +110,26 @@ read_tag-returns-in-Slot-clause-nodes g t c =
       found = node.Slot (asked c.args.tag) after;
       stands = a_slot is;
       same = added after ∙ ap (asked_nodes c.args.nodes.now.items) (asked_slot _ _ after);
+    })
+
+pub read_tag-returns-in-Fragment-clause-nodes : goal.read_tag-returns-in-Fragment-clause-nodes
+read_tag-returns-in-Fragment-clause-nodes g t c =
+    let is : c.args.tag.sign ≡ sign.Fragment = search rules in
+    on_ok c.add-in-Fragment.result _ _ c.add-in-Fragment.ensures.nodes
+    (λ added after. record {
+      found = node.Fragment (asked c.args.tag) after;
+      stands = a_fragment is;
+      same = added after ∙ ap (asked_nodes c.args.nodes.now.items) (asked_fragment _ _ after);
+    })
+
+pub read_tag-returns-in-Braced-clause-nodes : goal.read_tag-returns-in-Braced-clause-nodes
+read_tag-returns-in-Braced-clause-nodes g t c =
+    let is : c.args.tag.sign ≡ sign.Braced = search rules in
+    on_ok c.add-in-Braced.result _ _ c.add-in-Braced.ensures.nodes
+    (λ added after. record {
+      found = node.Fragment (asked c.args.tag) after;
+      stands = a_braced is;
+      same = added after ∙ ap (asked_nodes c.args.nodes.now.items) (asked_fragment _ _ after);
     })
 
 pub read_tag-returns-in-Quoted-clause-nodes : goal.read_tag-returns-in-Quoted-clause-nodes

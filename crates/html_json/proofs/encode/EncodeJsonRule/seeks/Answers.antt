@@ -1,0 +1,8 @@
+use Rattle.html_json.proofs.Changes.{begins_sought, ends}
+use Rattle.html_json.proofs.encode.EncodeJsonRule.seeks.Goals as goal
+
+pub returns-clause-begins : goal.returns-clause-begins
+returns-clause-begins c = begins_sought
+
+pub returns-clause-ends : goal.returns-clause-ends
+returns-clause-ends c source text from boundary none = ends source from none
