@@ -1,7 +1,8 @@
 //! The examples of templates and of their laws.
 use hesc_places::{Place, read_place};
 use html_template::{
-    Content, FillFault, Part, PartFault, Template, TemplateFault, TextFault, Texts, laws,
+    Content, FillFault, FragmentBuf, Part, PartFault, Template, TemplateFault, TextFault, Texts,
+    laws,
 };
 use html_template_source::{BindFault, NamedTemplate, SourceFault, cut_at, laws as source_laws};
 use html_tokenizer::{Reader, SlotPlace, Standing};
@@ -48,6 +49,25 @@ fn a_template_is_made_and_filled_as_it_is_said_to_be(rt: HostRuntime) {
     assert!(rt;
         Template::new(rt.alloc(), &parts).err() == Some(TemplateFault::Part(1, PartFault::NoPlace))
     );
+}
+
+#[test]
+fn fragments_are_made_and_joined_as_they_are_said_to_be(rt: HostRuntime) -> Result<(), Fail> {
+    let parts = [Part::Markup("<b>"), Part::Slot, Part::Markup("</b>")];
+    let Ok(template) = Template::new(rt.alloc(), &parts) else {
+        panic!(rt; "the slot stands in text");
+    };
+    let Ok(mut made) = template.fragment(rt.alloc(), &["a"]) else {
+        panic!(rt; "the text fills the slot");
+    };
+    assert!(rt; made.as_fragment().as_str() == "<b>a</b>");
+    assert!(rt; template.fragment(rt.alloc(), &[]).err() == Some(FillFault::WrongCount));
+    let mut text = FragmentBuf::new(rt.alloc());
+    text.push_text("a<b")?;
+    assert!(rt; text.as_fragment().as_str() == "a&lt;b");
+    made.push(text.as_fragment())?;
+    assert!(rt; made.as_fragment().as_str() == "<b>a</b>a&lt;b");
+    Ok(())
 }
 
 #[test]

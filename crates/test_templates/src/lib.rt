@@ -8,6 +8,8 @@ mod examples;
 #[cfg(test)]
 mod hostile;
 #[cfg(test)]
+mod json;
+#[cfg(test)]
 mod links;
 #[cfg(test)]
 mod markup;

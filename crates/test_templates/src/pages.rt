@@ -7,7 +7,7 @@ use std::process::Abort;
 use std::test::Fail;
 
 /// How many slots the page has.
-pub const PLACES: usize = 16;
+pub const PLACES: usize = 17;
 
 /// The markup before each slot, and the place that the slot stands in.
 pub static SLOTS: [(&str, Place); PLACES] = [
@@ -33,10 +33,14 @@ pub static SLOTS: [(&str, Place); PLACES] = [
         Place::DoubleAttribute,
     ),
     ("\">", Place::Text),
+    (
+        "</option></select><script type=\"application/json\">",
+        Place::ScriptBody,
+    ),
 ];
 
 /// The markup after the last slot.
-pub const LAST: &str = "</option></select>";
+pub const LAST: &str = "</script>";
 
 /// The parts of the page.
 pub fn parts(alloc: Global) -> Result<Vec<Part<'static>>, AllocError> {
@@ -52,7 +56,30 @@ pub fn parts(alloc: Global) -> Result<Vec<Part<'static>>, AllocError> {
 /// The slot that stands in a URL.
 pub const IN_URL: usize = 11;
 
-// What is read of a text in the slot of that number: a URL has its component, and a value without quotes
+// The slot for JSON.
+const IN_DATA: usize = 16;
+
+// What a data block has of a text: `null` for white space alone, and an escape for each `<`.
+fn json_of(alloc: Global, text: &str) -> Result<String, AllocError> {
+    let mut is_blank = true;
+    let mut written = String::new(alloc);
+    for character in text.chars() {
+        if !matches!(character, ' ' | '\t' | '\n' | '\r') {
+            is_blank = false;
+        }
+        if character == '<' {
+            written.push_str("\\u003C")?;
+        } else {
+            written.push(character)?;
+        }
+    }
+    if is_blank {
+        return String::from_str(alloc, "null");
+    }
+    Ok(written)
+}
+
+// What is read of a text in the slot of that number: a URL has its component, a data block its JSON, and a value without quotes
 // and a style's string have U+FFFD for NUL.
 fn read_back(alloc: Global, number: usize, place: Place, text: &str) -> Result<String, AllocError> {
     let replaces = matches!(
@@ -63,6 +90,9 @@ fn read_back(alloc: Global, number: usize, place: Place, text: &str) -> Result<S
     if number == IN_URL {
         append_component(&mut read, text)?;
         return Ok(read);
+    }
+    if number == IN_DATA {
+        return json_of(alloc, text);
     }
     if !replaces || !text.as_bytes().contains(&0) {
         read.push_str(text)?;
@@ -117,7 +147,7 @@ pub fn stay(alloc: Global, template: &Template, texts: &[&str]) -> Result<bool, 
 }
 
 const PLAIN: &str =
-    "<!DOCTYPE html><title>a < b</b>a</title><textarea></title> < </textarea><p>a</p><p title=\"a\"><p title='a'><p class=a title=a><script>f('</b>a', \"</SCRIPTS>a\");</script><style>p { x: '</script>a'; y: \"a\" }</style><svg viewBox=\"a\"><title>a</title><use href='#a'/><text>a</text></svg><math><mi>a</mi></math><select><option value=\"a\">a</option></select>";
+    "<!DOCTYPE html><title>a < b</b>a</title><textarea></title> < </textarea><p>a</p><p title=\"a\"><p title='a'><p class=a title=a><script>f('</b>a', \"</SCRIPTS>a\");</script><style>p { x: '</script>a'; y: \"a\" }</style><svg viewBox=\"a\"><title>a</title><use href='#a'/><text>a</text></svg><math><mi>a</mi></math><select><option value=\"a\">a</option></select><script type=\"application/json\">a</script>";
 
 #[test]
 fn a_page_is_told_from_others(rt: HostRuntime) -> Result<(), Fail> {

@@ -11,7 +11,7 @@ use test_support::{Trouble, WeakWriter, Weakness};
 
 static TEXTS: [&str; PLACES] = [
     "a<b", "&amp;", "\"", "'", "a b", "';", "\"\\", "</style>", "\u{20AC}", "\"x", "</title>",
-    "a/b", "</svg>", "", "&\"", "<b>",
+    "a/b", "</svg>", "", "&\"", "<b>", "[\"<\"]",
 ];
 
 // Takes all of a piece at a call.

@@ -17,6 +17,8 @@
 #![tactic(auto)]
 
 #[cfg(test)]
+mod fragments;
+#[cfg(test)]
 mod memory;
 mod names;
 mod nodes;

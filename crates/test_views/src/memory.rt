@@ -40,7 +40,7 @@ fn refuses_each<'x>(
 
 #[test]
 fn every_request_of_parse_is_refused_in_turn(rt: HostRuntime) -> Result<(), Fail> {
-    assert!(rt; refuses_each(rt.alloc(), SOURCE, &PARTIALS, 20));
+    assert!(rt; refuses_each(rt.alloc(), SOURCE, &PARTIALS, 15));
     Ok(())
 }
 

@@ -1,5 +1,5 @@
-//! The names that the view of a source asks for, a section's behind a `#`, and that of
-//! a record of attributes behind an `@`.
+//! The names that the view of a source asks for, a section's behind a `#`, a fragment's
+//! behind a `&`, and that of a record of attributes behind an `@`.
 use crate::refusals::refusal_of;
 use html_view::{Name, View};
 use std::alloc::{AllocError, Global};
@@ -19,6 +19,7 @@ pub fn names_of(
     for name in &names {
         match name {
             Name::Slot(name) => write!(shown, " {name}")?,
+            Name::Fragment(name) => write!(shown, " &{name}")?,
             Name::Section(name) => write!(shown, " #{name}")?,
             Name::Attributes(name) => write!(shown, " @{name}")?,
         }

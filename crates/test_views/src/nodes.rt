@@ -1,5 +1,5 @@
 //! Nodes in a form that can be read.
-use html_view::{Node, Opening, Placed, Times};
+use html_view::{Opened, PlacedNode, Times};
 use std::alloc::{AllocError, Global};
 
 fn word_of(times: Times) -> &'static str {
@@ -17,7 +17,7 @@ fn word_of(times: Times) -> &'static str {
 #[cycle(show)]
 pub fn show_nodes(
     shown: &mut String,
-    nodes: &Vec<Node<'_, Placed<'_>, Global>>,
+    nodes: &Vec<PlacedNode<'_, Global>>,
 ) -> Result<(), AllocError> {
     for node in nodes {
         show_node(shown, node)?;
@@ -26,21 +26,25 @@ pub fn show_nodes(
 }
 
 #[cycle(show)]
-fn show_node(shown: &mut String, node: &Node<'_, Placed<'_>, Global>) -> Result<(), AllocError> {
+fn show_node(shown: &mut String, node: &PlacedNode<'_, Global>) -> Result<(), AllocError> {
     match node {
-        Node::Markup(text, _) => shown.push_str(*text),
-        Node::Slot(slot) => {
+        PlacedNode::Markup(markup) => shown.push_str(markup.as_str()),
+        PlacedNode::Slot(slot) => {
             let name = slot.asked.name;
-            let place = slot.place;
+            let place = slot.place();
             write!(shown, "{{{name} {place:?}}}")
         }
+        PlacedNode::Fragment(slot) => {
+            let name = slot.name;
+            write!(shown, "{{{name} Fragment}}")
+        }
         // Its body has a section for each attribute, which pages show.
-        Node::Section(opening, _, _) if opening.times == Times::Attributes => {
-            let name = opening.name;
+        PlacedNode::Section(opened, _, _) if opened.times == Times::Attributes => {
+            let name = opened.tag.name;
             write!(shown, "{{{name} Attributes}}")
         }
-        Node::Section(opening, body, others) => {
-            open_section(shown, *opening)?;
+        PlacedNode::Section(opened, body, others) => {
+            open_section(shown, opened)?;
             show_nodes(shown, body)?;
             if !others.is_empty() {
                 shown.push('|')?;
@@ -51,8 +55,8 @@ fn show_node(shown: &mut String, node: &Node<'_, Placed<'_>, Global>) -> Result<
     }
 }
 
-fn open_section(shown: &mut String, opening: Opening<'_>) -> Result<(), AllocError> {
-    let word = word_of(opening.times);
-    let name = opening.name;
+fn open_section(shown: &mut String, opened: &Opened<'_, Global>) -> Result<(), AllocError> {
+    let word = word_of(opened.times);
+    let name = opened.tag.name;
     write!(shown, "[{word} {name}: ")
 }

@@ -95,10 +95,10 @@ pub static REFUSALS: [Refusal; 17] = [
     ),
     (
         &["check", "v"],
-        &[("v", b"<p>\xC3\xA9{{{a}}}")],
+        &[("v", b"<p>\xC3\xA9{{{a}}")],
         b"",
         1,
-        "hesc: v:1:5: no text stands in a page as it is; write {{name}}\n",
+        "hesc: v:1:5: no }}} ends this tag\n",
     ),
     (
         &["check", "v"],
@@ -150,7 +150,7 @@ pub static REFUSALS: [Refusal; 17] = [
 ];
 
 /// Of places and of ways.
-static OF_VIEWS: [Refusal; 13] = [
+static OF_VIEWS: [Refusal; 14] = [
     // Places.
     (
         &["check", "v"],
@@ -182,10 +182,10 @@ static OF_VIEWS: [Refusal; 13] = [
     ),
     (
         &["check", "v"],
-        &[("v", b"<a href=\"x{{a}}\">")],
+        &[("v", b"<a href=\"//{{a}}\">")],
         b"",
         1,
-        "hesc: v:1:11: the host of this URL is open; begin it with / or https://host/\n",
+        "hesc: v:1:12: the host of this URL is open; begin it with / or https://host/\n",
     ),
     (
         &["check", "v"],
@@ -218,6 +218,13 @@ static OF_VIEWS: [Refusal; 13] = [
         b"",
         1,
         "hesc: v:1:43: too many sections stand within one tag; let each hold whole attributes or whole tags\n",
+    ),
+    (
+        &["check", "v"],
+        &[("v", b"<p title=\"{{&a}}\">")],
+        b"",
+        1,
+        "hesc: v:1:11: no fragment may stand here, but in text\n",
     ),
     (
         &["check", "a/v.html"],
@@ -256,7 +263,7 @@ static OF_VIEWS: [Refusal; 13] = [
 ];
 
 /// Of the input and of values.
-static OF_DATA: [Refusal; 20] = [
+static OF_DATA: [Refusal; 21] = [
     // The input.
     (
         &["render", "v"],
@@ -329,6 +336,13 @@ static OF_DATA: [Refusal; 20] = [
         b"{\"a\": {}}",
         1,
         "hesc: v:1:2: the value is no text\n",
+    ),
+    (
+        &["render", "v"],
+        &[("v", b" {{{a}}}")],
+        b"{\"a\": \"<b>\"}",
+        1,
+        "hesc: v:1:2: the value is no fragment, as no value of JSON is; write {{name}} for its text\n",
     ),
     (
         &["render", "v"],

@@ -176,7 +176,8 @@ pub static CHECKS: [Success; 8] = [
             b"<p a={{a}} b='{{b}}' c=\"{{c}}\">\
             <a href='/{{d}}?{{e}}#{{f}}' title=t></a><a href='{{g}}'></a><link href='{{m}}'>\
             <a href='{{n}}/'></a><script src='{{o}}/p'></script>\
-            <style>p { content: '{{h}}' \"{{i}}\" }</style><script>x('{{j}}', \"{{k.l}}\", {{q}})</script>",
+            <style>p { content: '{{h}}' \"{{i}}\" }</style><script>x('{{j}}', \"{{k.l}}\", {{q}})</script>{{{r}}}\
+            <script type='application/json'>{{s}}</script>",
         )],
         b"not read",
         b"a unquoted\n\
@@ -193,7 +194,9 @@ pub static CHECKS: [Success; 8] = [
         i style-double\n\
         j script-single\n\
         k.l script-double\n\
-        q script-double literal\n",
+        q script-double literal\n\
+        r fragment\n\
+        s text json\n",
     ),
     // A section of white space alone has no line, nor has a body that never stands.
     (

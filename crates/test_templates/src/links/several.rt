@@ -35,7 +35,7 @@ fn each_slot_is_written_for_its_part(rt: HostRuntime) {
 }
 
 // Parts, and the fault of each.
-static FAULTS: [(&[Part], Option<TemplateFault>); 14] = [
+static FAULTS: [(&[Part], Option<TemplateFault>); 16] = [
     (
         &[
             Part::Markup("<a href=\"/u/"),
@@ -152,6 +152,25 @@ static FAULTS: [(&[Part], Option<TemplateFault>); 14] = [
             Part::Markup("\">"),
         ],
         Some(At(1, NotFixed)),
+    ),
+    (
+        &[
+            Part::Markup("<a href=\"a"),
+            Part::Slot,
+            Part::Markup("b"),
+            Part::Markup(":c\">"),
+        ],
+        Some(At(3, NotFixed)),
+    ),
+    (
+        &[
+            Part::Markup("<a href=\"a"),
+            Part::Slot,
+            Part::Markup("b"),
+            Part::Markup("/"),
+            Part::Markup(":c\">"),
+        ],
+        None,
     ),
 ];
 

@@ -2,7 +2,8 @@
 use html_urls::UrlPart::{Markup, Slot};
 use html_urls::{
     OpenPart, UrlFault, UrlPart, UrlPlace, UrlSlot, UrlTextFault, after_markup, after_text,
-    append_component, append_url, is_plain, may_be_dots, may_fill, open_of, slot_at, slots_of,
+    append_component, append_url, ends_scheme, is_plain, may_be_dots, may_fill, open_of, slot_at,
+    slots_of,
 };
 use std::alloc::Global;
 use std::test::Fail;
@@ -40,13 +41,15 @@ const IN_FRAGMENT: UrlSlot = UrlSlot {
 };
 
 // A front, and the fault of a slot behind it.
-const FRONTS: [(&str, UrlFault); 34] = [
+const FRONTS: [(&str, UrlFault); 36] = [
     ("", UrlFault::NotFixed(1)),
     ("//", UrlFault::NotFixed(1)),
     ("//x", UrlFault::NotFixed(1)),
     ("///x/", UrlFault::NotFixed(1)),
-    ("items", UrlFault::NotFixed(1)),
-    ("..", UrlFault::NotFixed(1)),
+    ("items:", UrlFault::NotFixed(1)),
+    ("..", UrlFault::DotSegment(1)),
+    (".", UrlFault::DotSegment(1)),
+    ("%2e", UrlFault::DotSegment(1)),
     ("a:b/", UrlFault::NotFixed(1)),
     (":/a/", UrlFault::NotFixed(1)),
     ("https:a/", UrlFault::NotFixed(1)),
@@ -86,6 +89,16 @@ const RESTS: [(&str, UrlFault); 7] = [
     ("/%2e/b", UrlFault::DotSegment(2)),
     ("/b ", UrlFault::NotPlain(2)),
     ("?q=\u{7F}", UrlFault::NotPlain(2)),
+];
+
+// What stands behind `item-` and a slot, and its fault.
+const FIRST_RESTS: [(&str, UrlFault); 6] = [
+    (":x", UrlFault::NotFixed(2)),
+    (":", UrlFault::NotFixed(2)),
+    ("b.c+d-1:/x", UrlFault::NotFixed(2)),
+    ("_:x", UrlFault::NotFixed(2)),
+    ("/../b", UrlFault::DotSegment(2)),
+    ("\\x:", UrlFault::NotPlain(2)),
 ];
 
 fn are_slots(alloc: Global, parts: &[UrlPart<'_>], wanted: &[UrlSlot]) -> bool {
@@ -192,6 +205,31 @@ fn each_slot_is_told_with_its_place(rt: HostRuntime) -> Result<(), Fail> {
             "{front}"
         );
     }
+    for rest in &["", ".html", "/b:c", "?b:c", "#b:c", "b/"] {
+        assert!(rt;
+            are_slots(
+                rt.alloc(),
+                &[Markup("item-"), Slot, Markup(rest)],
+                &[IN_SEGMENT]
+            ),
+            "{rest}"
+        );
+    }
+    assert!(rt;
+        are_slots(
+            rt.alloc(),
+            &[
+                Markup("a."),
+                Slot,
+                Slot,
+                Markup("/"),
+                Slot,
+                Markup("?:"),
+                Slot
+            ],
+            &[IN_SEGMENT, IN_SEGMENT, BEGINS, IN_QUERY]
+        )
+    );
     assert!(rt; are_slots(rt.alloc(), &[Markup("a?b/"), Slot], &[IN_QUERY]));
     assert!(rt; are_slots(rt.alloc(), &[Markup("a/b:c/"), Slot], &[BEGINS]));
     assert!(rt;
@@ -226,6 +264,18 @@ fn each_fault_names_its_part(rt: HostRuntime) -> Result<(), Fail> {
             "{rest:?}"
         );
     }
+    for &(rest, fault) in &FIRST_RESTS {
+        assert!(rt;
+            is_fault(
+                rt.alloc(),
+                &[Markup("item-"), Slot, Markup(rest), Slot],
+                fault
+            ),
+            "{rest:?}"
+        );
+    }
+    let colon = [Markup("a"), Slot, Markup("b"), Slot, Markup(":c")];
+    assert!(rt; is_fault(rt.alloc(), &colon, UrlFault::NotFixed(4)));
     assert!(rt; is_fault(rt.alloc(), &[Slot, Markup(":x")], UrlFault::NotFixed(0)));
     Ok(())
 }
@@ -264,6 +314,10 @@ fn slots_are_told_part_by_part(rt: HostRuntime) -> Result<(), Fail> {
     assert!(rt; !is_plain(b"?q=%4", false) && is_plain(b"?q=%4", true));
     assert!(rt; open_of(b"/items/") == Some(OpenPart::NewSegment));
     assert!(rt; open_of(b"mailto:a@b.example?subject=") == Some(OpenPart::Query));
+    assert!(rt; open_of(b"item-") == Some(OpenPart::FirstSegment) && open_of(b"item:").is_none());
+    assert!(rt; ends_scheme(OpenPart::FirstSegment, b"-b:c"));
+    assert!(rt; !ends_scheme(OpenPart::FirstSegment, b"/b:c"));
+    assert!(rt; !ends_scheme(OpenPart::NamedSegment, b"-b:c"));
     assert!(rt; open_of(b"//").is_none() && open_of(b"javascript:x?").is_none());
     assert!(rt; slot_at(OpenPart::NewSegment) == Some(BEGINS));
     assert!(rt; slot_at(OpenPart::DotSegment).is_none());
