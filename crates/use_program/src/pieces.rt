@@ -1,6 +1,4 @@
-//! A caller: a script that comes in pieces, cut anywhere, as from a stream.
-#![tactic(auto)]
-
+//! A script that comes in pieces, cut anywhere, as from a stream.
 ghost use Rattle.std.specs.Prelude.{◌≡◌, IfOk};
 ghost use Rattle.std.specs.List.{flat_map};
 ghost use Rattle.std.specs.String.{string_bytes};
@@ -9,10 +7,9 @@ ghost use Rattle.hesc_specs.specs.declared.elements.Element.TheVariants.{Script}
 
 use html_escape::{BodyEncoder, BodyKind, encode_pieces};
 use std::alloc::{AllocError, Global};
-use std::io;
 
 /// The body of a script that is there in pieces: one call, and no proof file.
-pub fn script(alloc: Global, pieces: &[&str]) -> Result<String, AllocError>
+pub(crate) fn script(alloc: Global, pieces: &[&str]) -> Result<String, AllocError>
     ensures { IfOk result (λ page. string_bytes page
         ≡ body_encoding Script (flat_map (λ piece. piece.now) pieces.now)) }
 {
@@ -22,7 +19,7 @@ pub fn script(alloc: Global, pieces: &[&str]) -> Result<String, AllocError>
 }
 
 /// The same with a session of one's own: its invariant is one line.
-pub fn script_by_session(alloc: Global, pieces: &[&str]) -> Result<String, AllocError>
+pub(crate) fn script_by_session(alloc: Global, pieces: &[&str]) -> Result<String, AllocError>
     ensures { IfOk result (λ page. string_bytes page
         ≡ body_encoding Script (flat_map (λ piece. piece.now) pieces.now)) }
 {
@@ -33,24 +30,4 @@ pub fn script_by_session(alloc: Global, pieces: &[&str]) -> Result<String, Alloc
     }
     BodyEncoder::append_rest(&mut page, &mut session)?;
     Ok(page)
-}
-
-/// Writes a line that is there in pieces, by each of the two, and then each line of the input as soon
-/// as it is decided. A session holds back 8 bytes at most.
-fn main(rt: HostRuntime) -> io::Result<()> {
-    let pieces = ["let a = \"<!", "--\"; let b = \"</scr", "ipt>\";"];
-    let line = script(rt.alloc(), &pieces)?;
-    println!(rt; "{line}")?;
-    let same = script_by_session(rt.alloc(), &pieces)?;
-    println!(rt; "{same}")?;
-    let mut session = BodyEncoder::new(BodyKind::Script);
-    for line in rt.lines(rt.alloc()) {
-        let mut part = String::new(rt.alloc());
-        session.push(&line?, &mut part)?;
-        session.push("\n", &mut part)?;
-        print!(rt; "{part}")?;
-    }
-    let mut part = String::new(rt.alloc());
-    session.finish(&mut part)?;
-    print!(rt; "{part}")
 }

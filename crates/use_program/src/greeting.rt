@@ -1,16 +1,13 @@
-//! A caller: a page that greets a guest by name, once as text and once in an attribute.
-#![tactic(auto)]
-
+//! A page that greets a guest by name, once as text and once in an attribute.
 ghost use Rattle.std.specs.Prelude.{◌≡◌, IfOk};
 ghost use Rattle.std.specs.String.{string_bytes};
-ghost use Rattle.use_greeting.specs.Greetings.{greeting_text};
+ghost use Rattle.use_program.specs.Greetings.{greeting_text};
 
 use html_escape::{Encoder, append};
 use std::alloc::{AllocError, Global};
-use std::io;
 
 /// `<p title="Hello, NAME">Hello, NAME!</p>`, whatever the name holds.
-pub fn greeting(alloc: Global, name: &str) -> Result<String, AllocError>
+pub(crate) fn greeting(alloc: Global, name: &str) -> Result<String, AllocError>
     ensures { IfOk result (λ page. string_bytes page ≡ greeting_text name.now) }
 {
     let mut page = String::from_str(alloc, "<p title=\"Hello, ")?;
@@ -19,9 +16,4 @@ pub fn greeting(alloc: Global, name: &str) -> Result<String, AllocError>
     append(&mut page, &Encoder::Text, name)?;
     page.push_str("!</p>")?;
     Ok(page)
-}
-
-fn main(rt: HostRuntime) -> io::Result<()> {
-    let page = greeting(rt.alloc(), "\"Tom\" <tom@example.org>")?;
-    println!(rt; "{page}")
 }
