@@ -1,3 +1,4 @@
+pub mod Declarations
 pub mod FlagTable
 pub mod HeldWords
 pub mod KnownReferences

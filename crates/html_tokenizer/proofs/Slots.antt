@@ -1,3 +1,4 @@
+pub mod Declarations
 pub mod Html
 pub mod Strings
 pub mod Scripts

@@ -42,7 +42,7 @@ module _ (p : SlotPlace) (content : Content) (attribute : Attribute) (b : ℕ) w
       let marks = or_parts (b == mark) (b == backslash) tags.0 in
       rw (marks.0, marks.1, tags.1, breaking.1) refl
 
-value_kept : (p : SlotPlace) (content : Content) (attribute : Attribute) (b : ℕ) → leaves_value p b ≡ false →
+pub value_kept : (p : SlotPlace) (content : Content) (attribute : Attribute) (b : ℕ) → leaves_value p b ≡ false →
     value_byte p content attribute b ≡ keeps p content attribute b
 value_kept Text content attribute b remains = let parts = or_parts (b == less_than) (b == ampersand) remains in rw (parts.0, parts.1) refl
 value_kept DoubleQuoted content attribute b remains = quoted_kept DoubleQuoted content attribute b double_quote remains

@@ -1,11 +1,13 @@
 -- Where a slot stands in what was read, and where a page may end.
 use Rattle.std.specs.Prelude.{◌≡◌, Bool, true, false, ◌&&◌, ◌==◌, if◌then◌else◌}
 use Rattle.html_tokenizer.specs.declared.reader.Standing.{Standing}
-use Rattle.html_tokenizer.specs.declared.reader.Standing.TheVariants.{Stands, InUrl, InLink, InScript, InJson, Nowhere, Barred}
+use Rattle.html_tokenizer.specs.declared.reader.Standing.TheVariants.{Stands, InUrl, InLink, InDeclaration, InScript, InJson, Nowhere, Barred}
 use Rattle.html_tokenizer.specs.declared.slot_place.SlotPlace.{SlotPlace}
 use Rattle.html_tokenizer.specs.declared.slot_place.SlotPlace.TheVariants.{Text, DoubleQuoted, SingleQuoted, Unquoted, ScriptSingle, ScriptDouble, StyleSingle, StyleDouble}
 use Rattle.html_tokenizer.specs.declared.states.Code.{Code}
 use Rattle.html_tokenizer.specs.declared.states.Code.TheVariants.{Plain, Json, JsonRest}
+use Rattle.html_tokenizer.specs.declared.states.StylePart.{StylePart}
+use Rattle.html_tokenizer.specs.declared.states.StylePart.TheVariants.{Value}
 use Rattle.html_tokenizer.specs.declared.elements.Content.{Content}
 use Rattle.html_tokenizer.specs.declared.elements.OpenElement.{OpenElement}
 use Rattle.html_tokenizer.specs.declared.elements.OpenElement.TheVariants as element
@@ -15,11 +17,18 @@ use Rattle.html_tokenizer.specs.Tokenizer.States as state
 use Rattle.html_tokenizer.specs.Tokenizer.States.{State, Attribute, Tokenizer, at_value, refused}
 use Rattle.html_tokenizer.specs.Tokenizer.Elements.{is_normal}
 
--- a slot in the value of an attribute, if its text would mean itself or stand in a URL
+-- a slot in a `style`: in the value of a declaration, where quote marks end the attribute's
+abbrev pub in_declaration : StylePart → SlotPlace → Standing
+in_declaration Value DoubleQuoted = InDeclaration DoubleQuoted
+in_declaration Value SingleQuoted = InDeclaration SingleQuoted
+in_declaration part p = Barred
+
+-- a slot in the value of an attribute, if its text would mean itself, or stand in a URL or in a declaration
 abbrev pub unless_forbidden : Attribute → SlotPlace → Standing
 unless_forbidden state.Ordinary p = Stands p
 unless_forbidden state.Url p = InUrl p
 unless_forbidden state.Link p = InLink p
+unless_forbidden (state.Declarations part) p = in_declaration part p
 unless_forbidden other p = Barred
 
 -- a slot with which a value without quotes begins: no URL
@@ -79,6 +88,7 @@ abbrev pub stands : SlotPlace → Standing → Bool
 stands p (Stands q) = is_same p q
 stands p (InUrl q) = is_same p q
 stands p (InLink q) = is_same p q
+stands p (InDeclaration q) = is_same p q
 stands p other = false
 
 -- the tokenizer after a slot at this place, by the template alone
@@ -94,6 +104,7 @@ abbrev pub AfterStanding : Standing → Tokenizer → Tokenizer → Type 0
 AfterStanding (Stands p) old new = new ≡ state_after_slot p old
 AfterStanding (InUrl p) old new = new ≡ state_after_slot p old
 AfterStanding (InLink p) old new = new ≡ state_after_slot p old
+AfterStanding (InDeclaration p) old new = new ≡ state_after_slot p old
 AfterStanding InJson old new = new ≡ past_json old
 AfterStanding other old new = new ≡ old
 

@@ -1,20 +1,28 @@
 //! What the names of attributes, and the values of some of them, mean.
+pub(crate) mod declarations;
 pub(crate) mod encodings;
 
 ghost use Rattle.std.specs.Prelude.{◌≡◌, ℕ, IsTrue, List, [], true};
-ghost use Rattle.html_tokenizer.specs.Tokenizer.Attributes.{attribute_of, content_after, content_after_pragma, fixed, followed, holds_language, holds_url, holds_urls, is_cache_header, is_javascript, is_json, is_script_tag, is_shown_relation, is_switch, names_script_type, raw_value, reference_read, resource_value, value_but_of, value_byte_read, value_of, without_value};
+ghost use Rattle.html_tokenizer.specs.Tokenizer.Attributes.{attribute_of, content_after, content_after_pragma, fixed, followed, holds_declarations, holds_language, holds_url, holds_urls, is_cache_header, is_javascript, is_json, is_script_tag, is_shown_relation, is_switch, names_script_type, raw_value, reference_read, resource_value, value_but_of, value_byte_read, value_of, without_value};
 ghost use Rattle.html_tokenizer.specs.Tokenizer.Elements.{is_meta};
 ghost use Rattle.html_tokenizer.specs.Tokenizer.Phases.{attribute_in, moved, word_after};
 ghost use Rattle.html_tokenizer.specs.Tokenizer.States.{Ordinary};
 
+use crate::attributes::declarations::declarations_read;
 use crate::attributes::encodings::{is_utf_8, names_no_other};
 use crate::elements::{Content, OpenElement, is_meta, with_element};
-use crate::states::{Kind, Move, Phase, Word, in_value, refuses};
+use crate::states::{Kind, Move, Phase, StylePart, Word, in_value, refuses};
 
 fn holds_language(name: &[u8]) -> bool
     ensures { result ≡ holds_language name.now }
 {
-    name.starts_with(b"on") || name == b"style".as_slice() || name == b"srcdoc".as_slice()
+    name.starts_with(b"on") || name == b"srcdoc".as_slice()
+}
+
+fn holds_declarations(name: &[u8]) -> bool
+    ensures { result ≡ holds_declarations name.now }
+{
+    name == b"style".as_slice()
 }
 
 fn holds_url(name: &[u8]) -> bool
@@ -77,6 +85,8 @@ fn attribute_of(name: &[u8]) -> Kind
         Kind::Forbidden
     } else if holds_url(name) {
         Kind::Url
+    } else if holds_declarations(name) {
+        Kind::Declarations(StylePart::BeforeName)
     } else {
         Kind::Ordinary
     }
@@ -316,6 +326,9 @@ pub(crate) fn value_byte_read(kind: Kind, word: &[u8], byte: u8) -> (Kind, Word)
             (kind, Word::Add(byte.to_ascii_lowercase()))
         }
         Kind::Raw if byte == b'<' => (Kind::Unread, Word::New),
+        Kind::Declarations(part) => {
+            (Kind::Declarations(declarations_read(part, byte)), Word::New)
+        }
         _ => (kind, Word::New),
     }
 }
@@ -329,6 +342,7 @@ pub(crate) fn reference_read(kind: Kind) -> Kind
         Kind::Ordinary | Kind::Link | Kind::Url | Kind::FixedUrl => kind,
         Kind::Encoding | Kind::Pragma | Kind::PageType | Kind::Unread => Kind::Unread,
         Kind::Raw => Kind::Raw,
+        Kind::Declarations(_) => Kind::Declarations(StylePart::Opaque),
         _ => Kind::Forbidden,
     }
 }
@@ -339,6 +353,7 @@ pub(crate) fn fixed(kind: Kind) -> Kind
 {
     match kind {
         Kind::Ordinary => Kind::Forbidden,
+        Kind::Declarations(_) => Kind::Declarations(StylePart::Opaque),
         Kind::Link | Kind::Url => Kind::FixedUrl,
         _ => kind,
     }

@@ -1,8 +1,9 @@
-//! The law of the tokenizer.
-ghost use Rattle.std.specs.Prelude.{◌≡◌};
+//! The laws of the tokenizer.
+ghost use Rattle.std.specs.Prelude.{◌≡◌, ℕ, List};
 ghost use Rattle.hesc_grammars.specs.declared.place.End.{End};
 ghost use Rattle.hesc_grammars.specs.declared.place.Place.TheVariants as place;
 ghost use Rattle.hesc_specs.specs.Text.Ascii.{carriage_return, double_quote, less_than, line_feed, single_quote};
+ghost use Rattle.html_tokenizer.specs.Styles.{HasSameDeclarations};
 ghost use Rattle.html_tokenizer.specs.Agreement.{AgreesInString, AgreesUnquoted, AgreesWith};
 ghost use Rattle.html_tokenizer.specs.Tokenizer.States.{BeforeValue, In, at};
 ghost use Rattle.html_tokenizer.specs.Tokenizer.Tokenization.{consume};
@@ -37,4 +38,18 @@ pub fn agreement_law(content: Content, bytes: &[u8])
         single_quote bytes.now }
     ensures style_double { AgreesInString slot.StyleDouble content place.StyleDouble
         double_quote bytes.now }
+{}
+
+/// Slots in declarations of a `style` attribute: with any texts that they take the attribute has the same
+/// declarations, so as many, of the same names in the same order, by CSS Syntax.
+///
+/// It is so of a value with this front and this markup behind each slot, where a slot stands behind the front at
+/// `Standing::InDeclaration`, and so one behind each markup but the last; and each markup goes on with the declaration
+/// of its slot, up to the `;`, by no other bytes than those of a style's value and `!`.
+///
+/// For instance `width: `, a slot, `%; color: ` and a slot have with `5` and `red` and with `0 auto` and an empty text the
+/// names `width` and `color`.
+#[tactic(auto, using(crate::proofs::Declarations::same_declarations))]
+pub fn style_law()
+    ensures { (front : List ℕ) (markups : List (List ℕ)) → HasSameDeclarations front markups }
 {}

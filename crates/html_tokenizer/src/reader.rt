@@ -4,7 +4,7 @@ pub(crate) mod same;
 pub(crate) mod stretches;
 
 ghost use Rattle.std.specs.Prelude.{◌≡◌, ◌≤◌, ◌↔◌, [], IfOk, OnOk, IsTrue, length};
-ghost use Rattle.html_tokenizer.specs.Standing.{AfterStanding, is_between_attributes, is_refused, may_end, standing};
+ghost use Rattle.html_tokenizer.specs.Standing.{AfterStanding, in_declaration, is_between_attributes, is_refused, may_end, standing};
 ghost use Rattle.html_tokenizer.specs.Tokenizer.Attributes.{reference_read};
 ghost use Rattle.html_tokenizer.specs.Tokenizer.Code.Strings.{script_escape_byte};
 ghost use Rattle.html_tokenizer.specs.Tokenizer.Phases.{HoldsLetters, IsBeforeName, IsNoScriptEscape, IsTextOrValue, ReadsOn, attribute_in, moved, tokenizer_of};
@@ -24,7 +24,7 @@ use crate::reader::names::{MOST_LETTERS, begun_name, read_letters};
 use crate::reader::same::{holds_word, is_same_content, is_same_kind, is_same_phase};
 use crate::reader::stretches::{script_words, stretch, text_stretch};
 use crate::slot_place::SlotPlace;
-use crate::states::{Code, Kind, Move, Phase, Word, goes, refuses, to};
+use crate::states::{Code, Kind, Move, Phase, StylePart, Word, goes, refuses, to};
 use std::alloc::{AllocError, Allocator};
 
 /// Where a slot stands.
@@ -36,6 +36,8 @@ pub enum Standing {
     InUrl(SlotPlace),
     /// The same in a URL that its element only shows or follows.
     InLink(SlotPlace),
+    /// In the value of a declaration of a `style` attribute, at this place of the page.
+    InDeclaration(SlotPlace),
     /// In the code of a script, where a string literal would be a token of its own.
     InScript,
     /// In a data block of JSON, behind white space alone.
@@ -53,6 +55,18 @@ pub struct Reader<A: Allocator> {
     content: Content,
     kind: Kind,
     word: Vec<u8, A>,
+}
+
+// A slot in a `style`, in quotes or not.
+fn in_declaration(part: StylePart, place: SlotPlace) -> Standing
+    ensures { result ≡ in_declaration part place }
+{
+    match (part, place) {
+        (StylePart::Value, SlotPlace::DoubleQuoted | SlotPlace::SingleQuoted) => {
+            Standing::InDeclaration(place)
+        }
+        _ => Standing::Barred,
+    }
 }
 
 // Whether it is the same state, of those that `read_markup` goes through.
@@ -428,6 +442,7 @@ impl<A: Allocator> Reader<A> {
         match self.kind {
             Kind::Link | Kind::Url | Kind::FixedUrl => true,
             Kind::Ordinary | Kind::Forbidden | Kind::Unread | Kind::Raw => false,
+            Kind::Declarations(_) => false,
             Kind::ScriptType | Kind::Encoding | Kind::Pragma => false,
             Kind::PageType | Kind::Relation => false,
         }
@@ -462,6 +477,7 @@ impl<A: Allocator> Reader<A> {
             (Phase::In(place), Kind::Ordinary) => Standing::Stands(place),
             (Phase::In(place), Kind::Url) => Standing::InUrl(place),
             (Phase::In(place), Kind::Link) => Standing::InLink(place),
+            (Phase::In(place), Kind::Declarations(part)) => in_declaration(part, place),
             (Phase::BeforeValue, Kind::Ordinary) => Standing::Stands(SlotPlace::Unquoted),
             (Phase::In(_) | Phase::BeforeValue, _) => Standing::Barred,
             (Phase::InCode(code), _) if is_opaque(code) => Standing::Barred,
@@ -485,7 +501,10 @@ impl<A: Allocator> Reader<A> {
     {
         let standing = self.standing();
         match standing {
-            Standing::Stands(place) | Standing::InUrl(place) | Standing::InLink(place) => {
+            Standing::Stands(place)
+            | Standing::InUrl(place)
+            | Standing::InLink(place)
+            | Standing::InDeclaration(place) => {
                 self.phase = Phase::In(place);
             }
             Standing::InJson => self.phase = Phase::InCode(Code::JsonRest),

@@ -140,11 +140,29 @@ pub(crate) enum Phase {
     Refused,
 }
 
+/// Where in a declaration the value of a `style` attribute is.
+#[derive(Clone, Copy, Debug, PartialEq, Eq)]
+pub enum StylePart {
+    /// Before a name, in white space and behind a `;`.
+    BeforeName,
+    /// In a name.
+    Name,
+    /// In the white space behind it.
+    AfterName,
+    /// Behind the `:`.
+    Value,
+    /// Behind a `!` of the value.
+    Important,
+    /// Where the rest takes no slot.
+    Opaque,
+}
+
 /// What an attribute's value means, without its word.
 #[derive(Clone, Copy, PartialEq, Eq)]
 pub(crate) enum Kind {
     Ordinary,
     Forbidden,
+    Declarations(StylePart),
     Link,
     Url,
     FixedUrl,

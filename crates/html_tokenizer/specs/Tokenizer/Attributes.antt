@@ -1,20 +1,27 @@
 -- What the names of attributes, and the values of some of them, mean to the tokenizer.
+
 pub mod Encodings
+pub mod StyleParts
 use Rattle.std.specs.Prelude.{ℕ, Bool, true, false, ◌||◌, not, List, [], ◌∷◌, ◌++◌, ◌+◌, ◌-◌, ◌==◌, Option, Some, None, if◌then◌else◌, bytes_eq, codes}
 use Rattle.std.specs.Char.{to_ascii_lowercase}
 use Rattle.hesc_specs.specs.Text.Ascii.{less_than}
 use Rattle.hesc_specs.specs.Text.Words.{begins}
 use Rattle.html_tokenizer.specs.declared.elements.Content.{Content}
+use Rattle.html_tokenizer.specs.declared.states.StylePart.TheVariants as style
 use Rattle.html_tokenizer.specs.declared.elements.OpenElement.{OpenElement}
 use Rattle.html_tokenizer.specs.declared.elements.OpenElement.TheVariants.{Normal, ResourceTag, Script, TypedScript, DataBlock, JsonBlock, Meta, MetaContent, MetaPragma, MetaType, LinkTag, EmbedTag, SvgEmbedTag, MathEmbedTag, SelectEmbedTag, NoScript, NoScriptStyle, NoScriptFrame}
+use Rattle.html_tokenizer.specs.Tokenizer.Attributes.StyleParts.{declarations_read}
 use Rattle.html_tokenizer.specs.Tokenizer.Attributes.Encodings.{is_utf_8, names_no_other}
-use Rattle.html_tokenizer.specs.Tokenizer.States.{Tokenizer, Attribute, Ordinary, Forbidden, Link, Url, FixedUrl, ScriptType, Encoding, Pragma, PageType, Relation, Unread, Raw, BeforeValue, at_value, refused}
+use Rattle.html_tokenizer.specs.Tokenizer.States.{Tokenizer, Attribute, Ordinary, Forbidden, Declarations, Link, Url, FixedUrl, ScriptType, Encoding, Pragma, PageType, Relation, Unread, Raw, BeforeValue, at_value, refused}
 use Rattle.html_tokenizer.specs.Tokenizer.Elements.{with_element}
 
--- event handlers, styles and pages
+-- event handlers and pages
 abbrev pub holds_language : List ℕ → Bool
-holds_language name =
-    begins (codes "on") name || bytes_eq name (codes "style") || bytes_eq name (codes "srcdoc")
+holds_language name = begins (codes "on") name || bytes_eq name (codes "srcdoc")
+
+-- CSS Style Attributes, 3 Syntax and Parsing: its value is a list of declarations
+abbrev pub holds_declarations : List ℕ → Bool
+holds_declarations name = bytes_eq name (codes "style")
 
 abbrev pub holds_url : List ℕ → Bool
 holds_url name =
@@ -45,7 +52,8 @@ abbrev pub attribute_of : List ℕ → Attribute
 attribute_of name =
     if holds_language name || is_switch name || holds_urls name then Forbidden
     else (if holds_url name then Url
-    else Ordinary)
+    else (if holds_declarations name then Declarations style.BeforeName
+    else Ordinary))
 
 -- the same where the element only shows or follows its URLs
 abbrev pub followed : Attribute → Attribute
@@ -199,6 +207,7 @@ content_after content other = Some content
 abbrev pub value_byte_read : Attribute → ℕ → Attribute
 value_byte_read Ordinary b = Ordinary
 value_byte_read Forbidden b = Forbidden
+value_byte_read (Declarations part) b = Declarations (declarations_read part b)
 value_byte_read Link b = Link
 value_byte_read Url b = Url
 value_byte_read FixedUrl b = FixedUrl
@@ -213,6 +222,7 @@ value_byte_read Raw b = if b == less_than then Unread else Raw
 -- in a reference or an escape, whose character the profile does not add to what it holds of the value
 abbrev pub reference_read : Attribute → Attribute
 reference_read Ordinary = Ordinary
+reference_read (Declarations part) = Declarations style.Opaque
 reference_read Link = Link
 reference_read Url = Url
 reference_read FixedUrl = FixedUrl
@@ -226,6 +236,7 @@ reference_read other = Forbidden
 -- the same where the value takes no slot any more
 abbrev pub fixed : Attribute → Attribute
 fixed Ordinary = Forbidden
+fixed (Declarations part) = Declarations style.Opaque
 fixed Link = FixedUrl
 fixed Url = FixedUrl
 fixed other = other

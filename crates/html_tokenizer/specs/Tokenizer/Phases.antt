@@ -59,6 +59,7 @@ state_of phase.Refused word = state.Refused
 abbrev pub attribute_in : Kind → List ℕ → Attribute
 attribute_in kind.Ordinary word = state.Ordinary
 attribute_in kind.Forbidden word = state.Forbidden
+attribute_in (kind.Declarations part) word = state.Declarations part
 attribute_in kind.Link word = state.Link
 attribute_in kind.Url word = state.Url
 attribute_in kind.FixedUrl word = state.FixedUrl

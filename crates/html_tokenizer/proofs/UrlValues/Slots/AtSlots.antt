@@ -6,8 +6,8 @@ use Rattle.hesc_specs.specs.Text.Ascii.{double_quote, greater_than, single_quote
 use Rattle.html_tokenizer.specs.declared.elements.Content.{Content}
 use Rattle.html_tokenizer.specs.declared.slot_place.SlotPlace.{SlotPlace}
 use Rattle.html_tokenizer.specs.declared.slot_place.SlotPlace.TheVariants.{DoubleQuoted, SingleQuoted, Unquoted}
-use Rattle.html_tokenizer.specs.Standing.{is_refused, before_value, in_content, is_same, standing, standing_in, takes_json, takes_literal, unless_forbidden}
-use Rattle.html_tokenizer.specs.Tokenizer.States.{Attribute, BeforeValue, In, Refused, State, Tokenizer, at_value, InCode, Link, Ordinary, Url, Within}
+use Rattle.html_tokenizer.specs.Standing.{is_refused, before_value, in_content, in_declaration, is_same, standing, standing_in, takes_json, takes_literal, unless_forbidden}
+use Rattle.html_tokenizer.specs.Tokenizer.States.{Attribute, BeforeValue, Declarations, In, Refused, State, Tokenizer, at_value, InCode, Link, Ordinary, Url, Within}
 use Rattle.html_tokenizer.specs.Tokenizer.Tags.{is_space}
 use Rattle.html_tokenizer.specs.Tokenizer.Tokenization.{consume, state_after}
 use Rattle.html_tokenizer.specs.Tokenizer.Transitions.{Transition}
@@ -24,6 +24,8 @@ use Rattle.html_tokenizer.proofs.UrlValues.Slots.Marks.{mark_starts, walks_back}
 use Rattle.html_tokenizer.specs.declared.elements.OpenElement.{OpenElement}
 use Rattle.html_tokenizer.specs.declared.elements.OpenElement.TheVariants.{NoScript}
 use Rattle.html_tokenizer.specs.declared.reader.Standing.{Standing}
+use Rattle.html_tokenizer.specs.declared.states.StylePart.{StylePart}
+use Rattle.html_tokenizer.specs.declared.states.StylePart.TheVariants.{Value}
 use Rattle.html_tokenizer.specs.declared.reader.Standing.TheVariants.{InUrl, InLink, InScript, InJson, Nowhere, Barred}
 use Rattle.html_tokenizer.specs.Tokenizer.Code.Escapes.{is_opaque}
 use Rattle.html_tokenizer.proofs.UrlValues.Following.{in_value, same_place}
@@ -156,9 +158,15 @@ record UrlAt (p q : SlotPlace) (attribute : Attribute) : Type 0 where
   url : is_url attribute ≡ true
   same : is_same p q ≡ true
 
+declaration_none : (p : SlotPlace) (part : StylePart) (q : SlotPlace) → in_url p (in_declaration part q) ≡ false
+declaration_none p Value DoubleQuoted = refl
+declaration_none p Value SingleQuoted = refl
+declaration_none p part q = refl
+
 forbids_none : (p q : SlotPlace) (attribute : Attribute) → in_url p (unless_forbidden attribute q) ≡ true → UrlAt p q attribute
 forbids_none p q Url is = record { url = refl; same = is }
 forbids_none p q Link is = record { url = refl; same = is }
+forbids_none p q (Declarations part) is = absurd (true≢false (sym is ∙ declaration_none p part q))
 forbids_none p q other is = absurd (false≢true is)
 
 within_content : (p : SlotPlace) (element : OpenElement) (s : Standing) → in_url p (in_content element s) ≡ true → in_url p s ≡ true
