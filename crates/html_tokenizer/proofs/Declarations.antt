@@ -7,7 +7,7 @@ use Rattle.std.proofs.lemmas.Bool.{and_parts, cases_Bool, eqb-true}
 use Rattle.hesc_specs.specs.Text.Ascii.{semicolon}
 use Rattle.html_tokenizer.specs.declared.states.StylePart.{StylePart}
 use Rattle.html_tokenizer.specs.declared.states.StylePart.TheVariants.{BeforeName, Name, AfterName, Value, Important, Opaque}
-use Rattle.html_tokenizer.specs.Declarations.{bang, before_colon, colon, declarations, declarations_from, is_blank, is_plain, is_style_byte, is_word_byte, name_before, names_of, stays_in_value, with_names}
+use Rattle.html_tokenizer.specs.Declarations.{bang, before_colon, colon, declarations, declarations_from, is_blank, is_plain, is_style_byte, is_word_byte, names_of, stays_in_value, with_names}
 use Rattle.html_tokenizer.specs.Styles.{HasSameDeclarations, StandInValues, filled_with}
 use Rattle.html_tokenizer.specs.Tokenizer.Attributes.StyleParts.{after_name_read, declaration_end, declarations_read, part_after}
 

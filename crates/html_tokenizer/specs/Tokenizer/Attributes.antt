@@ -1,5 +1,4 @@
 -- What the names of attributes, and the values of some of them, mean to the tokenizer.
-
 pub mod Encodings
 pub mod StyleParts
 use Rattle.std.specs.Prelude.{ℕ, Bool, true, false, ◌||◌, not, List, [], ◌∷◌, ◌++◌, ◌+◌, ◌-◌, ◌==◌, Option, Some, None, if◌then◌else◌, bytes_eq, codes}
