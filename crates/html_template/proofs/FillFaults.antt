@@ -2,6 +2,7 @@
 use Rattle.std.proofs.Common.{ℕ, ◌≡◌, ◌↔◌, ◌+◌, List, [], ◌∷◌, Option, None, Some, Ok, Err, Result, refl, sym, inl, inr, arith, length, ◌∙◌, false, true, Bool, if◌then◌else◌}
 use Rattle.std.proofs.lemmas.Bool.Decides.{nat_tests}
 use Rattle.std.proofs.lemmas.Bool.{cases_Bool}
+use Rattle.std.specs.List.{list_all}
 use Rattle.std.specs.Option.{option_or}
 use Rattle.std.specs.Prelude.{IsErrOf, OnOk, None, not}
 use Rattle.std.specs.Result.{result_err}
@@ -18,6 +19,7 @@ use Rattle.html_template.specs.declared.faults.WriteFault.{WriteFault}
 use Rattle.html_template.specs.declared.faults.WriteFault.TheVariants.{Texts}
 use Rattle.html_template.specs.Templates.{Chunk, Fill, Markup, MayFill, Slot}
 use Rattle.html_template.specs.Writing.{AnswersWriting}
+use Rattle.html_tokenizer.specs.Declarations.{is_style_byte}
 use Rattle.html_tokenizer.specs.declared.slot_place.SlotPlace.{SlotPlace}
 use Rattle.html_urls.specs.Bases.{is_base, is_own_base}
 
@@ -41,6 +43,10 @@ none_fits p (kind.OwnBase behind) text is = elim (cases_Bool (is_own_base behind
 ]
 none_fits p kind.Literal text is = tt
 none_fits p kind.Json text is = tt
+none_fits p kind.StyleValue text is = elim (cases_Bool (list_all is_style_byte text)) [
+  | inl all ↦ all
+  | inr not ↦ absurd (let clash = rw not at is in cc)
+]
 
 fits_none : (p : SlotPlace) (kind : SlotKind) (text : List ℕ) → MayFill p kind text → text_fault p kind text ≡ None
 fits_none p kind text may = grind (arith, nat_tests)

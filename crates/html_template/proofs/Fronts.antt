@@ -5,7 +5,7 @@ use Rattle.std.proofs.lemmas.Bool.{cases_Bool}
 use Rattle.std.specs.Char.{is_ascii_alphanumeric}
 use Rattle.std.specs.Option.{option_map}
 use Rattle.html_template.specs.declared.open_url.OpenUrl.{OpenUrl}
-use Rattle.html_template.specs.declared.open_url.OpenUrl.TheVariants.{Outside, Within, Whole, Front}
+use Rattle.html_template.specs.declared.open_url.OpenUrl.TheVariants.{Outside, Within, Whole, Front, Declaration}
 use Rattle.html_template.specs.declared.open_url.PlacedSlot.{PlacedSlot}
 use Rattle.html_template.specs.OpenUrls.{before, begun, behind_link, url_markup, value_length}
 use Rattle.html_tokenizer.specs.Tokenizer.Values.References.{goes_on}
@@ -90,6 +90,7 @@ begun_told : (found : PlacedSlot) (url : OpenUrl) (guess : Option BehindBase) (m
 begun_told found Outside guess markup opened is told = refl
 begun_told found (Within p part) guess markup opened is told = refl
 begun_told found (Front p behind) guess markup opened is told = refl
+begun_told found (Declaration p) guess markup opened is told = refl
 begun_told found (Whole p) guess markup opened is told = ap (begun found (Whole p)) (whole_told found p guess markup opened is told)
 
 pub guess_told : (guess markup : List ℕ) (found : PlacedSlot) (opened : OpenUrl) → url_markup (before guess found).url markup ≡ Ok opened →

@@ -30,6 +30,7 @@ MayFill-prop p (kind.Base behind) text = hlevel props
 MayFill-prop p (kind.OwnBase behind) text = hlevel props
 MayFill-prop p kind.Literal text = hlevel props
 MayFill-prop p kind.Json text = hlevel props
+MayFill-prop p kind.StyleValue text = hlevel props
 
 pub Fill-prop : (chunks : List Chunk) (texts : List (List ℕ)) → IsProp (Fill chunks texts)
 Fill-prop [] [] = hlevel props

@@ -1,7 +1,11 @@
 -- The law of templates: piece by piece.
 use Rattle.std.proofs.Common.{ℕ, ◌≡◌, Bool, true, false, List, [], ◌∷◌, IsUtf8, map, refl, sym, ap, ◌∙◌, arith, inl, inr}
 use Rattle.std.proofs.lemmas.Bool.Decides.{nat_tests}
-use Rattle.std.specs.List.{AllByRecursion}
+use Rattle.std.specs.List.{AllByRecursion, list_all}
+use Rattle.hesc_specs.specs.Html.{encoding}
+use Rattle.hesc_specs.specs.Text.Classes.{in_class}
+use Rattle.hesc_specs.specs.declared.classes.Class.{Class}
+use Rattle.hesc_specs.specs.declared.classes.Class.TheVariants as class
 use Rattle.std.proofs.lemmas.Bool.{and_parts, cases_Bool}
 use Rattle.html_escape.specs.Encoders.{encoded}
 use Rattle.hesc_places.specs.Places.ReadBack.{read_back}
@@ -10,18 +14,21 @@ use Rattle.html_tokenizer.specs.declared.slot_place.SlotPlace.TheVariants as pla
 use Rattle.html_tokenizer.specs.declared.states.Code.{Code}
 use Rattle.html_tokenizer.specs.declared.states.Code.TheVariants as code
 use Rattle.html_tokenizer.specs.declared.states.Code.TheVariants.{Plain}
+use Rattle.html_tokenizer.specs.declared.states.StylePart.{StylePart}
+use Rattle.html_tokenizer.specs.declared.states.StylePart.TheVariants.{Value}
+use Rattle.html_tokenizer.specs.Declarations.{is_style_byte}
 use Rattle.html_tokenizer.specs.declared.elements.Content.{Content}
 use Rattle.html_tokenizer.specs.declared.elements.OpenElement.{OpenElement}
 use Rattle.html_tokenizer.specs.Tokenizer.Actions.{read_byte}
 use Rattle.html_tokenizer.specs.Tokenizer.Code.{is_script}
 use Rattle.html_tokenizer.specs.Tokenizer.States as state
-use Rattle.html_tokenizer.specs.Tokenizer.States.{State, Attribute, Ordinary, Url, Tokenizer, In, BeforeValue, Refused, InCode, at, at_value, refused, data_state}
+use Rattle.html_tokenizer.specs.Tokenizer.States.{State, Attribute, Ordinary, Declarations, Url, Tokenizer, In, BeforeValue, Refused, InCode, at, at_value, refused, data_state}
 use Rattle.html_tokenizer.specs.declared.reader.Standing.{Standing}
-use Rattle.html_tokenizer.specs.declared.reader.Standing.TheVariants.{InLink, InUrl, Stands}
-use Rattle.html_tokenizer.specs.Standing.{in_code, in_content, is_same, unless_forbidden, standing_in, standing}
+use Rattle.html_tokenizer.specs.declared.reader.Standing.TheVariants.{Barred, InDeclaration, InLink, InUrl, Stands}
+use Rattle.html_tokenizer.specs.Standing.{in_code, in_content, in_declaration, is_same, unless_forbidden, standing_in, standing}
 use Rattle.html_tokenizer.specs.UrlValues.{is_url}
 use Rattle.html_template.specs.declared.parts.SlotKind.{SlotKind}
-use Rattle.html_template.specs.declared.parts.SlotKind.TheVariants.{Text, UrlPart, Link, OwnPath, Base, OwnBase, Literal, Json}
+use Rattle.html_template.specs.declared.parts.SlotKind.TheVariants.{Text, UrlPart, Link, OwnPath, Base, OwnBase, Literal, Json, StyleValue}
 use Rattle.html_template.specs.declared.parts.SlotKind.TheVariants as kind
 use Rattle.html_template.specs.Slots.{FitsPlace, base_kind, is_quoted, json_of, suits, whole_kind, past_slot, slot_actions}
 use Rattle.html_template.specs.Templates.{Chunk, Markup, Slot, after_slot, encoder_for, handed, state_after_all, page, actions_all, MayFill, Fill, written}
@@ -40,6 +47,7 @@ use Rattle.html_json.specs.Encoding.{json_encoding}
 use Rattle.html_json.proofs.Lengths.{all_apart}
 use Rattle.html_template.proofs.JsonTexts.{some_json}
 use Rattle.html_template.proofs.Walks.{base_stands, same_place}
+use Rattle.html_tokenizer.proofs.Slots.Declarations.{style_text_stays}
 use Rattle.html_tokenizer.proofs.Slots.Styles.{style_stays, style_single_reads, style_double_reads}
 
 no : false ≡ true → ⊥
@@ -58,6 +66,13 @@ no_code kind p code content attribute outside may = grind (arith, nat_tests)
 in_any : (kind : SlotKind) (p : SlotPlace) (element : OpenElement) (standing : Standing) →
     suits kind p (in_content element standing) ≡ true → suits kind p standing ≡ true
 in_any kind p element standing may = grind (arith, nat_tests)
+
+-- nor in a declaration
+not_declared : (kind : SlotKind) (p : SlotPlace) (part : StylePart) (q : SlotPlace) → suits kind p (InDeclaration place.DoubleQuoted) ≡ false →
+    suits kind p (InDeclaration place.SingleQuoted) ≡ false → suits kind p Barred ≡ false → suits kind p (in_declaration part q) ≡ true → ⊥
+not_declared kind p Value place.DoubleQuoted double single barred may = no (sym double ∙ may)
+not_declared kind p Value place.SingleQuoted double single barred may = no (sym single ∙ may)
+not_declared kind p part q double single barred may = no (sym barred ∙ may)
 
 -- ---- a slot for a text
 
@@ -110,6 +125,8 @@ part_in_url slot p (In q) content Url may =
     record { state_is = ap In (sym (same_place p q (in_any (UrlPart slot) p content.element (InUrl q) may))); attribute_is = refl }
 part_in_url slot p (In q) content state.Link may =
     record { state_is = ap In (sym (same_place p q (in_any (UrlPart slot) p content.element (InLink q) may))); attribute_is = refl }
+part_in_url slot p (In q) content (Declarations part) may =
+    absurd (not_declared (UrlPart slot) p part q refl refl refl (in_any (UrlPart slot) p content.element (in_declaration part q) may))
 part_in_url slot p (In q) content other may = absurd (no (in_any (UrlPart slot) p content.element (unless_forbidden other q) may))
 part_in_url slot p BeforeValue content Ordinary may = absurd (no may)
 part_in_url slot p BeforeValue content other may = absurd (no may)
@@ -127,6 +144,8 @@ link_in_url : (p : SlotPlace) (state : State) (content : Content) (attribute : A
 link_in_url p (In q) content state.Link may =
     let parts = and_parts (is_quoted p) (is_same p q) (in_any kind.Link p content.element (InLink q) may) in
     record { state_is = ap In (sym (same_place p q parts.1)); attribute_is = refl; quoted = parts.0 }
+link_in_url p (In q) content (Declarations part) may =
+    absurd (not_declared kind.Link p part q refl refl refl (in_any kind.Link p content.element (in_declaration part q) may))
 link_in_url p (In q) content other may = absurd (no (in_any kind.Link p content.element (unless_forbidden other q) may))
 link_in_url p BeforeValue content Ordinary may = absurd (no may)
 link_in_url p BeforeValue content other may = absurd (no may)
@@ -138,6 +157,8 @@ own_in_url : (p : SlotPlace) (state : State) (content : Content) (attribute : At
 own_in_url p (In q) content Url may =
     let parts = and_parts (is_quoted p) (is_same p q) (in_any OwnPath p content.element (InUrl q) may) in
     record { state_is = ap In (sym (same_place p q parts.1)); attribute_is = refl; quoted = parts.0 }
+own_in_url p (In q) content (Declarations part) may =
+    absurd (not_declared OwnPath p part q refl refl refl (in_any OwnPath p content.element (in_declaration part q) may))
 own_in_url p (In q) content other may = absurd (no (in_any OwnPath p content.element (unless_forbidden other q) may))
 own_in_url p BeforeValue content Ordinary may = absurd (no may)
 own_in_url p BeforeValue content other may = absurd (no may)
@@ -191,6 +212,52 @@ pub json_in_block : (p : SlotPlace) (state : State) (content : Content) (attribu
     suits Json p (standing_in state content attribute) ≡ true → IsInJson p state content attribute
 json_in_block p state content attribute may = grind (arith, nat_tests)
 
+-- ---- a slot in a declaration
+
+-- it stands in the value of one, between quote marks
+pub record IsInDeclaration (p : SlotPlace) (state : State) (attribute : Attribute) : Type 0 where
+  pub state_is : state ≡ In p
+  pub attribute_is : attribute ≡ Declarations Value
+  pub quoted : is_quoted p ≡ true
+
+found_in_declaration : (p : SlotPlace) (part : StylePart) (q : SlotPlace) → suits StyleValue p (in_declaration part q) ≡ true →
+    IsInDeclaration p (In q) (Declarations part)
+found_in_declaration p Value place.DoubleQuoted may = record { state_is = ap In (sym (same_place p place.DoubleQuoted may)); attribute_is = refl; quoted = rw (same_place p place.DoubleQuoted may) refl }
+found_in_declaration p Value place.SingleQuoted may = record { state_is = ap In (sym (same_place p place.SingleQuoted may)); attribute_is = refl; quoted = rw (same_place p place.SingleQuoted may) refl }
+found_in_declaration p part q may = absurd (no may)
+
+pub style_in_declaration : (p : SlotPlace) (state : State) (content : Content) (attribute : Attribute) →
+    suits StyleValue p (standing_in state content attribute) ≡ true → IsInDeclaration p state attribute
+style_in_declaration p (In q) content (Declarations part) may =
+    found_in_declaration p part q (in_any StyleValue p content.element (in_declaration part q) may)
+style_in_declaration p (In q) content other may = absurd (no (in_any StyleValue p content.element (unless_forbidden other q) may))
+style_in_declaration p BeforeValue content Ordinary may = absurd (no may)
+style_in_declaration p BeforeValue content other may = absurd (no may)
+style_in_declaration p (InCode code) content attribute may = absurd (no_code StyleValue p code content attribute refl may)
+style_in_declaration p elsewhere content attribute may = absurd (no may)
+
+-- what is written there is the text itself
+not_encoded : (class : Class) (text : List ℕ) → ((b : ℕ) → is_style_byte b ≡ true → in_class class b ≡ false) → list_all is_style_byte text ≡ true →
+    encoding class text ≡ text
+not_encoded class [] kept all = refl
+not_encoded class (b ∷ text) kept all =
+    let parts = and_parts (is_style_byte b) (list_all is_style_byte text) all in
+    rw (kept b parts.0) (ap (λ more. b ∷ more) (not_encoded class text kept parts.1))
+
+double_keeps : (b : ℕ) → is_style_byte b ≡ true → in_class class.DoubleQuotedAttribute b ≡ false
+double_keeps b is = grind (arith, nat_tests)
+
+single_keeps : (b : ℕ) → is_style_byte b ≡ true → in_class class.SingleQuotedAttribute b ≡ false
+single_keeps b is = grind (arith, nat_tests)
+
+style_passes : (p : SlotPlace) (content : Content) (text : List ℕ) → is_quoted p ≡ true → list_all is_style_byte text ≡ true →
+    Passes (at_value (In p) content (Declarations Value)) (encoded (encoder_for p) text) (map (read_byte p) (read_back (encoder_for p) text)) (at_value (In p) content (Declarations Value))
+style_passes place.DoubleQuoted content text quoted all =
+    rw (not_encoded class.DoubleQuotedAttribute text double_keeps all) (style_text_stays place.DoubleQuoted content text refl all)
+style_passes place.SingleQuoted content text quoted all =
+    rw (not_encoded class.SingleQuotedAttribute text single_keeps all) (style_text_stays place.SingleQuoted content text refl all)
+style_passes other content text quoted all = absurd (no quoted)
+
 -- ---- a slot of any kind
 
 pub slot_passes : (p : SlotPlace) (kind : SlotKind) (state : State) (content : Content) (attribute : Attribute) (text : List ℕ) →
@@ -222,6 +289,9 @@ slot_passes p Json state content attribute text may full utf8 =
     let here = json_in_block p state content attribute may in
     rw (here.place_is, here.state_is, here.attribute_is)
     (json_passes content (json_encoding (json_of text)) here.script (all_apart (json_of text)) (some_json text))
+slot_passes p StyleValue state content attribute text may full utf8 =
+    let here = style_in_declaration p state content attribute may in
+    rw (here.state_is, here.attribute_is) (style_passes p content text here.quoted full)
 
 all_refused : (chunks : List Chunk) → state_after_all refused chunks ≡ refused
 all_refused [] = refl
@@ -234,6 +304,7 @@ all_refused (Slot p (Base behind) ∷ chunks) = all_refused chunks
 all_refused (Slot p (OwnBase behind) ∷ chunks) = all_refused chunks
 all_refused (Slot p Literal ∷ chunks) = all_refused chunks
 all_refused (Slot p Json ∷ chunks) = all_refused chunks
+all_refused (Slot p StyleValue ∷ chunks) = all_refused chunks
 
 apart : refused ≡ data_state → ⊥
 apart is = let states : Refused ≡ In place.Text = ap (λ (t : Tokenizer). t.state) is in cc

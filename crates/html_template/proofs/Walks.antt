@@ -3,7 +3,7 @@ use Rattle.std.proofs.Common.{ℕ, ◌≡◌, ◌≤◌, ◌+◌, Bool, true, fa
 use Rattle.std.proofs.lemmas.Bool.Decides.{nat_tests}
 use Rattle.html_template.specs.declared.faults.PartFault.{PartFault}
 use Rattle.html_template.specs.declared.open_url.OpenUrl.{OpenUrl}
-use Rattle.html_template.specs.declared.open_url.OpenUrl.TheVariants.{Outside, Within, Whole, Front}
+use Rattle.html_template.specs.declared.open_url.OpenUrl.TheVariants.{Outside, Within, Whole, Front, Declaration}
 use Rattle.html_template.specs.declared.open_url.PlacedSlot.{PlacedSlot}
 use Rattle.html_template.specs.OpenUrls.{before, begun, behind_front, behind_text, first_slot, in_part, plain_text, url_slot, whole_slot}
 use Rattle.html_template.specs.Slots.{after_slot, base_kind, past_slot, suits}
@@ -11,7 +11,7 @@ use Rattle.html_template.specs.TemplateFaults.{Walk, next_markup, pieces_from, p
 use Rattle.html_template.specs.declared.parts.SlotKind.{SlotKind}
 use Rattle.html_template.specs.Templates.{Given, GivenSlot}
 use Rattle.html_tokenizer.specs.declared.reader.Standing.{Standing}
-use Rattle.html_tokenizer.specs.declared.reader.Standing.TheVariants.{Stands, InUrl, InLink, InScript, InJson, Nowhere, Barred}
+use Rattle.html_tokenizer.specs.declared.reader.Standing.TheVariants.{Stands, InUrl, InLink, InDeclaration, InScript, InJson, Nowhere, Barred}
 use Rattle.html_tokenizer.specs.declared.slot_place.SlotPlace.{SlotPlace}
 use Rattle.html_tokenizer.specs.Standing.{AfterStanding, is_same, standing, state_after_slot, stands}
 use Rattle.html_tokenizer.specs.Tokenizer.States.{In, Tokenizer, at_value}
@@ -72,6 +72,7 @@ url_suits is_followed p markup Outside slot told = front_suits is_followed p (af
 url_suits is_followed p markup (Within q part) slot told = open_suits is_followed p (Some part) slot told
 url_suits is_followed p markup (Whole q) slot told = absurd (cc)
 url_suits is_followed p markup (Front q behind) slot told = base_suits is_followed p behind slot told
+url_suits is_followed p markup (Declaration q) slot told = absurd (cc)
 
 abbrev pub in_script : Standing → Bool
 in_script InScript = true
@@ -95,6 +96,8 @@ slot_suits markup url (Stands p) slot told =
     subst (IsSuited (Stands p)) (ok_slot told) (record { suited = same_itself p; stood = λ outside. same_itself p })
 slot_suits markup url (InUrl p) slot told = in_url_suited p slot (url_suits false p markup url slot told)
 slot_suits markup url (InLink p) slot told = in_link_suited p slot (url_suits true p markup url slot told)
+slot_suits markup url (InDeclaration p) slot told =
+    subst (IsSuited (InDeclaration p)) (ok_slot told) (record { suited = same_itself p; stood = λ outside. same_itself p })
 slot_suits markup url InScript slot told =
     subst (IsSuited InScript) (ok_slot told) (record { suited = refl; stood = λ outside. absurd (cc) })
 slot_suits markup url InJson slot told =

@@ -1,16 +1,18 @@
 -- What keeps texts from filling a template.
 use Rattle.std.specs.Prelude.{◌≡◌, ℕ, ◌+◌, ◌==◌, Bool, true, false, if◌then◌else◌, List, [], ◌∷◌, Option, Some, None, Result, Ok, Err, length}
+use Rattle.std.specs.List.{list_all}
 use Rattle.std.specs.Option.{option_or}
 use Rattle.html_template.specs.FirstFault.{first_from}
 use Rattle.html_template.specs.declared.faults.FillFault.{FillFault}
 use Rattle.html_template.specs.declared.faults.FillFault.TheVariants as fill
 use Rattle.html_template.specs.declared.faults.FillFault.TheVariants.{WrongCount, Memory}
 use Rattle.html_template.specs.declared.faults.TextFault.{TextFault}
-use Rattle.html_template.specs.declared.faults.TextFault.TheVariants.{EmptyUnquoted, EmptySegment, DotSegment, NotALink, NotAnOwnPath, NotABase, NotAnOwnBase}
+use Rattle.html_template.specs.declared.faults.TextFault.TheVariants.{EmptyUnquoted, EmptySegment, DotSegment, NotALink, NotAnOwnPath, NotABase, NotAnOwnBase, NotAStyleValue}
 use Rattle.html_template.specs.declared.parts.SlotKind.{SlotKind}
-use Rattle.html_template.specs.declared.parts.SlotKind.TheVariants.{Text, UrlPart, Link, OwnPath, Base, OwnBase, Literal, Json}
+use Rattle.html_template.specs.declared.parts.SlotKind.TheVariants.{Text, UrlPart, Link, OwnPath, Base, OwnBase, Literal, Json, StyleValue}
 use Rattle.html_tokenizer.specs.declared.slot_place.SlotPlace.{SlotPlace}
 use Rattle.html_tokenizer.specs.declared.slot_place.SlotPlace.TheVariants.{Unquoted}
+use Rattle.html_tokenizer.specs.Declarations.{is_style_byte}
 use Rattle.html_template.specs.Templates.{Chunk, Markup, Slot}
 use Rattle.html_urls.specs.Bases.{is_base, is_own_base}
 use Rattle.html_urls.specs.Links.{is_link}
@@ -42,6 +44,7 @@ text_fault p (Base behind) text = if is_base behind text then None else Some Not
 text_fault p (OwnBase behind) text = if is_own_base behind text then None else Some NotAnOwnBase
 text_fault p Literal text = None
 text_fault p Json text = None
+text_fault p StyleValue text = if list_all is_style_byte text then None else Some NotAStyleValue
 
 -- ---- all of them
 

@@ -29,6 +29,7 @@ abbrev pub url_text : SlotKind → List ℕ → List (List ℕ)
 url_text kind.Text text = []
 url_text kind.Literal text = []
 url_text kind.Json text = []
+url_text kind.StyleValue text = []
 url_text other text = text ∷ []
 
 abbrev pub url_texts : List Chunk → List (List ℕ) → List (List ℕ)
@@ -120,6 +121,7 @@ abbrev pub open_at_slot : OpenValue → SlotKind → OpenValue
 open_at_slot held kind.Text = Value []
 open_at_slot held kind.Literal = Value []
 open_at_slot held kind.Json = Value []
+open_at_slot held kind.StyleValue = Value []
 open_at_slot (Value value) (kind.UrlPart slot) = Slotted Parts (part.Markup value ∷ part.Slot ∷ [])
 open_at_slot (Slotted url_by parts) (kind.UrlPart slot) = Slotted url_by (parts ++ part.Slot ∷ [])
 open_at_slot held (kind.Base behind) = Slotted (Based (kind.Base behind)) []

@@ -3,10 +3,12 @@
 -- what stands after the last of these bytes, and it ends before the next byte that ends it.
 pub mod PlainTexts
 pub mod UrlTexts
-use Rattle.std.specs.Prelude.{ℕ, Bool, false, not, ◌&&◌, List, [], ◌∷◌, Option, Some, None, Result, Ok, Err, bytes_eq, codes, if◌then◌else◌, length, nat_lt, take}
+use Rattle.std.specs.Prelude.{ℕ, Bool, false, not, ◌&&◌, ◌||◌, ◌==◌, List, [], ◌∷◌, Option, Some, None, Result, Ok, Err, bytes_eq, codes, if◌then◌else◌, length, nat_lt, take}
 use Rattle.std.specs.List.{position_or_len}
 use Rattle.std.specs.Option.{option_and_then}
+use Rattle.hesc_specs.specs.Text.Ascii.{semicolon}
 use Rattle.html_tokenizer.specs.declared.slot_place.SlotPlace.{SlotPlace}
+use Rattle.html_tokenizer.specs.Declarations.{bang, is_style_byte}
 use Rattle.html_tokenizer.specs.UrlValues.{after_last, begins_value, ends_value, url_text}
 use Rattle.html_urls.specs.Bases.{behind_base, goes_as, open_behind}
 use Rattle.html_urls.specs.OpenParts.{after_markup, after_text, ends_scheme, may_be_dots, open_of, slot_at}
@@ -17,9 +19,9 @@ use Rattle.html_urls.specs.declared.open_part.OpenPart.{OpenPart}
 use Rattle.html_urls.specs.declared.open_part.OpenPart.TheVariants.{NewSegment}
 use Rattle.html_urls.specs.declared.parts.UrlSlot.{UrlSlot}
 use Rattle.html_template.specs.declared.faults.PartFault.{PartFault}
-use Rattle.html_template.specs.declared.faults.PartFault.TheVariants.{NotPlain, NotFixed, DotSegment, AfterLink}
+use Rattle.html_template.specs.declared.faults.PartFault.TheVariants.{NotPlain, NotFixed, DotSegment, AfterLink, AfterStyleValue}
 use Rattle.html_template.specs.declared.open_url.OpenUrl.{OpenUrl}
-use Rattle.html_template.specs.declared.open_url.OpenUrl.TheVariants.{Outside, Within, Whole, Front}
+use Rattle.html_template.specs.declared.open_url.OpenUrl.TheVariants.{Outside, Within, Whole, Front, Declaration}
 use Rattle.html_template.specs.declared.open_url.PlacedSlot.{PlacedSlot}
 use Rattle.html_template.specs.declared.parts.SlotKind.TheVariants as kind
 use Rattle.html_template.specs.Slots.{base_kind, is_quoted, whole_kind}
@@ -77,6 +79,7 @@ url_slot p is_followed markup Outside = first_slot p is_followed (after_last (be
 url_slot p is_followed markup (Within q part) = in_part p (Some part)
 url_slot p is_followed markup (Whole q) = Err AfterLink
 url_slot p is_followed markup (Front q behind) = behind_front p behind
+url_slot p is_followed markup (Declaration q) = Err AfterStyleValue
 
 -- ---- markup behind a slot
 
@@ -114,6 +117,14 @@ abbrev pub after_base : SlotPlace → BehindBase → Bool → Option (List ℕ) 
 after_base p behind is_ended None = Err NotPlain
 after_base p behind is_ended (Some text) = if goes_as behind text then behind_base_text p behind is_ended text else Err AfterLink
 
+-- behind a slot in the value of a declaration: up to the `;` or the quote mark that ends it stand bytes of a style's value and `!`
+abbrev pub behind_value : SlotPlace → List ℕ → Result OpenUrl PartFault
+behind_value p [] = Ok (Declaration p)
+behind_value p (b ∷ markup) =
+    if b == semicolon || ends_value p b then Ok Outside
+    else (if is_style_byte b || b == bang then behind_value p markup
+    else Err AfterStyleValue)
+
 -- after markup
 abbrev pub url_markup : OpenUrl → List ℕ → Result OpenUrl PartFault
 url_markup Outside markup = Ok Outside
@@ -124,3 +135,4 @@ url_markup (Whole p) markup = behind_link p markup
 url_markup (Front p behind) markup =
     after_base p behind (nat_lt (value_length p markup) (length markup))
     (plain_text (nat_lt (value_length p markup) (length markup)) (take (value_length p markup) markup))
+url_markup (Declaration p) markup = behind_value p markup

@@ -35,6 +35,7 @@ abbrev pub first_text : SlotKind → List ℕ → List FirstText
 first_text kind.Text text = []
 first_text kind.Literal text = []
 first_text kind.Json text = []
+first_text kind.StyleValue text = []
 first_text (kind.UrlPart slot) text = []
 first_text begins text = (begins, text) ∷ []
 

@@ -5,10 +5,11 @@ use Rattle.hesc_specs.specs.Text.Ascii.{double_quote}
 use Rattle.html_escape.specs.Encoders.{encoded}
 use Rattle.hesc_places.specs.Places.ReadBack.{read_back}
 use Rattle.html_tokenizer.specs.declared.reader.Standing.{Standing}
-use Rattle.html_tokenizer.specs.declared.reader.Standing.TheVariants.{Stands, InUrl, InLink, InScript, InJson}
+use Rattle.html_tokenizer.specs.declared.reader.Standing.TheVariants.{Stands, InUrl, InLink, InDeclaration, InScript, InJson}
 use Rattle.html_tokenizer.specs.declared.slot_place.SlotPlace.{SlotPlace}
 use Rattle.html_tokenizer.specs.declared.slot_place.SlotPlace.TheVariants as place
 use Rattle.html_tokenizer.specs.declared.slot_place.SlotPlace.TheVariants.{DoubleQuoted, SingleQuoted, Unquoted, ScriptDouble}
+use Rattle.html_tokenizer.specs.Declarations.{is_style_byte}
 use Rattle.html_tokenizer.specs.Standing.{is_same, past_json, standing}
 use Rattle.html_tokenizer.specs.Tokenizer.Actions.{Action, StringEnd, StringStart}
 use Rattle.html_tokenizer.specs.Tokenizer.Code.Scripts.{is_json_space}
@@ -22,7 +23,7 @@ use Rattle.html_urls.specs.Slots as urls
 use Rattle.html_urls.specs.declared.base.BehindBase.{BehindBase}
 use Rattle.html_template.specs.Encoders.{encoder_for}
 use Rattle.html_template.specs.declared.parts.SlotKind.{SlotKind}
-use Rattle.html_template.specs.declared.parts.SlotKind.TheVariants.{Text, UrlPart, Link, OwnPath, Base, OwnBase, Literal, Json}
+use Rattle.html_template.specs.declared.parts.SlotKind.TheVariants.{Text, UrlPart, Link, OwnPath, Base, OwnBase, Literal, Json, StyleValue}
 
 -- between two `"`
 abbrev pub in_quotes : List ℕ → List ℕ
@@ -69,12 +70,13 @@ MayBegin (Base behind) text = is_base behind text ≡ true
 MayBegin (OwnBase behind) text = is_own_base behind text ≡ true
 MayBegin other text = ⊥
 
--- a text that begins a segment of a path is not empty, and neither `.` nor `..`
+-- a text that begins a segment of a path is not empty, and neither `.` nor `..`; one in a declaration is of bytes of a style's value
 abbrev pub MayFill : SlotPlace → SlotKind → List ℕ → Type 0
 MayFill p Text text = FitsPlace p text
 MayFill p (UrlPart slot) text = urls.may_fill slot text ≡ true
 MayFill p Literal text = ⊤
 MayFill p Json text = ⊤
+MayFill p StyleValue text = list_all is_style_byte text ≡ true
 MayFill p begins text = MayBegin begins text
 
 -- the value of an attribute in quotes
@@ -94,6 +96,7 @@ suits (Base behind) p (InLink q) = is_quoted p && is_same p q
 suits (OwnBase behind) p (InUrl q) = is_quoted p && is_same p q
 suits Literal p InScript = is_same p ScriptDouble
 suits Json p InJson = is_same p place.Text
+suits StyleValue p (InDeclaration q) = is_same p q
 suits kind p other = false
 
 -- behind a slot the tokenizer is in its place, behind a string literal where it was, and behind JSON where no slot follows

@@ -7,19 +7,19 @@ use Rattle.html_template.specs.declared.faults.PartFault.TheVariants.{Malformed,
 use Rattle.html_template.specs.declared.open_url.OpenUrl.{OpenUrl}
 use Rattle.html_template.specs.declared.walk.Walk.{Walk as Running}
 use Rattle.html_tokenizer.specs.Tokenizer.Phases.{tokenizer_of}
-use Rattle.html_template.specs.declared.open_url.OpenUrl.TheVariants.{Outside}
+use Rattle.html_template.specs.declared.open_url.OpenUrl.TheVariants.{Outside, Declaration}
 use Rattle.html_template.specs.declared.parts.SlotKind.TheVariants as kind
 use Rattle.html_template.specs.declared.open_url.PlacedSlot.{PlacedSlot}
 use Rattle.html_template.specs.OpenUrls.{before, url_markup, url_slot}
 use Rattle.html_template.specs.Templates.{Chunk, Markup, Slot, Given, GivenMarkup, GivenSlot, after_slot}
 use Rattle.html_tokenizer.specs.declared.reader.Standing.{Standing}
-use Rattle.html_tokenizer.specs.declared.reader.Standing.TheVariants.{Stands, InUrl, InLink, InScript, InJson, Nowhere, Barred}
+use Rattle.html_tokenizer.specs.declared.reader.Standing.TheVariants.{Stands, InUrl, InLink, InDeclaration, InScript, InJson, Nowhere, Barred}
 use Rattle.html_tokenizer.specs.declared.slot_place.SlotPlace.TheVariants.{ScriptDouble, Text}
 use Rattle.html_tokenizer.specs.Standing.{is_refused, may_end, standing}
 use Rattle.html_tokenizer.specs.Tokenizer.States.{Tokenizer, data_state}
 use Rattle.html_tokenizer.specs.Tokenizer.Tokenization.{state_after}
 
--- what was read of the parts: where the tokenizer is, the last part, if it is markup, and what is open of a URL with slots
+-- what was read of the parts: where the tokenizer is, the last part, if it is markup, and what is open of a URL or a declaration with slots
 pub record Walk : Type 0 where
   pub tokenizer : Tokenizer
   pub markup : List ℕ
@@ -33,6 +33,7 @@ abbrev pub slot_at : List ℕ → OpenUrl → Standing → Result PlacedSlot Par
 slot_at markup url (Stands p) = Ok (record { place = p; kind = kind.Text; url = Outside })
 slot_at markup url (InUrl p) = url_slot p false markup url
 slot_at markup url (InLink p) = url_slot p true markup url
+slot_at markup url (InDeclaration p) = Ok (record { place = p; kind = kind.StyleValue; url = Declaration p })
 slot_at markup url InScript = Ok (record { place = ScriptDouble; kind = kind.Literal; url = Outside })
 slot_at markup url InJson = Ok (record { place = Text; kind = kind.Json; url = Outside })
 slot_at markup url Barred = Err Forbidden

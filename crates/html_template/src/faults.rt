@@ -24,6 +24,9 @@ pub enum PartFault {
     /// The part goes on with a URL that a slot began, other than by markup whose first byte is a `?`, a `#`, an
     /// ASCII letter, a digit, `_`, or a `/` with no second one. Such a slot is the whole URL.
     AfterLink,
+    /// The part goes on with the value of a declaration that holds a slot, other than by ASCII letters, digits,
+    /// white space, `-`, `_`, `#`, `%`, `.`, `,`, `+` and `!`, up to the `;` or the quote mark that ends it.
+    AfterStyleValue,
 }
 
 /// Why parts are no template.
@@ -69,6 +72,9 @@ pub enum TextFault {
     /// It is for the beginning of a URL that the page runs, as of a script, and is no base of the page's own
     /// host: none that is empty or begins with one `/`.
     NotAnOwnBase,
+    /// It is for the value of a declaration, and has another byte than those of ASCII letters, digits, white
+    /// space, `-`, `_`, `#`, `%`, `.`, `,` and `+`.
+    NotAStyleValue,
 }
 
 /// Why texts do not fill a template.

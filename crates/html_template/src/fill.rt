@@ -10,7 +10,7 @@ use crate::faults::{FillFault, TextFault};
 use crate::parts::SlotKind;
 use crate::stored::{Stored, StoredSlot};
 use crate::texts::Texts;
-use html_tokenizer::SlotPlace;
+use html_tokenizer::{SlotPlace, is_style_value};
 use html_urls::{UrlSlot, is_base, is_link, is_own_base, is_own_path, may_fill};
 
 fn empty_fault(place: SlotPlace, text: &str) -> Option<TextFault>
@@ -50,6 +50,8 @@ pub fn text_fault(slot: &StoredSlot, text: &str) -> Option<TextFault>
         SlotKind::Base(_) => Some(TextFault::NotABase),
         SlotKind::OwnBase(behind) if is_own_base(behind, text) => None,
         SlotKind::OwnBase(_) => Some(TextFault::NotAnOwnBase),
+        SlotKind::StyleValue if is_style_value(text.as_bytes()) => None,
+        SlotKind::StyleValue => Some(TextFault::NotAStyleValue),
         SlotKind::Literal | SlotKind::Json => None,
     }
 }
@@ -63,6 +65,7 @@ fn is_checked(slot: &StoredSlot) -> bool
         SlotKind::UrlPart(url_slot) => url_slot.begins_segment,
         SlotKind::Literal | SlotKind::Json => false,
         SlotKind::Link | SlotKind::OwnPath | SlotKind::Base(_) | SlotKind::OwnBase(_) => true,
+        SlotKind::StyleValue => true,
     }
 }
 

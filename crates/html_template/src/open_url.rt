@@ -9,6 +9,7 @@ ghost use Rattle.html_template.specs.OpenUrls.{
   behind_front,
   behind_link,
   behind_part,
+  behind_value,
   first_slot,
   in_part,
   is_slash,
@@ -23,14 +24,14 @@ ghost use Rattle.html_template.specs.Slots.{base_kind, is_quoted, whole_kind};
 use crate::faults::PartFault;
 use crate::open_url::markup::{after_last, ends_value, plain_text, value_length};
 use crate::parts::SlotKind;
-use html_tokenizer::SlotPlace;
+use html_tokenizer::{SlotPlace, is_style_byte};
 use html_urls::{
     BehindBase, OpenPart, after_markup, after_text, behind_base, ends_scheme, goes_as, may_be_dots,
     open_behind, open_of, slot_at,
 };
 use std::alloc::{AllocError, Allocator};
 
-/// What is open of a URL that holds a slot.
+/// What is open of a URL or of a declaration that holds a slot.
 #[derive(Clone, Copy, Debug, PartialEq, Eq)]
 pub enum OpenUrl {
     /// Nothing: the last slot stands in no URL, or its URL has ended.
@@ -41,6 +42,8 @@ pub enum OpenUrl {
     Whole(SlotPlace),
     /// In a value at this place, a base with which the URL begins, and which goes on so.
     Front(SlotPlace, BehindBase),
+    /// In a value at this place no URL, but the value of a declaration of a `style`.
+    Declaration(SlotPlace),
 }
 
 /// A slot, and what is open behind it.
@@ -178,6 +181,7 @@ pub fn url_slot<A: Allocator>(
         OpenUrl::Within(_, open_part) => Ok(in_part(place, Some(open_part))),
         OpenUrl::Whole(_) => Ok(Err(PartFault::AfterLink)),
         OpenUrl::Front(_, behind) => Ok(behind_front(place, behind)),
+        OpenUrl::Declaration(_) => Ok(Err(PartFault::AfterStyleValue)),
     }
 }
 
@@ -275,6 +279,23 @@ fn front_markup<A: Allocator>(
     Ok(after_base(place, behind, is_ended, text.as_bytes()))
 }
 
+// Behind a slot in the value of a declaration.
+fn behind_value(place: SlotPlace, markup: &[u8]) -> Result<OpenUrl, PartFault>
+    ensures { result ≡ behind_value place markup.now }
+{
+    let mut rest = markup;
+    'bytes: while let [byte, others @ ..] = rest {
+        if *byte == b';' || ends_value(place, *byte) {
+            return Ok(OpenUrl::Outside);
+        }
+        if !is_style_byte(*byte) && *byte != b'!' {
+            return Err(PartFault::AfterStyleValue);
+        }
+        rest = others;
+    }
+    Ok(OpenUrl::Declaration(place))
+}
+
 /// What is open after markup.
 pub fn url_markup<A: Allocator>(
     alloc: A,
@@ -288,5 +309,6 @@ pub fn url_markup<A: Allocator>(
         OpenUrl::Within(place, open_part) => within_markup(alloc, place, open_part, markup),
         OpenUrl::Whole(place) => Ok(behind_link(place, markup)),
         OpenUrl::Front(place, behind) => front_markup(alloc, place, behind, markup),
+        OpenUrl::Declaration(place) => Ok(behind_value(place, markup)),
     }
 }

@@ -114,7 +114,8 @@ fn text_length(slot: &StoredSlot, text: &str) -> Option<usize>
         | SlotKind::Link
         | SlotKind::OwnPath
         | SlotKind::Base(_)
-        | SlotKind::OwnBase(_) => total(&Escape(slot.class), text),
+        | SlotKind::OwnBase(_)
+        | SlotKind::StyleValue => total(&Escape(slot.class), text),
     }
 }
 

@@ -32,4 +32,7 @@ pub enum SlotKind {
     Literal,
     /// JSON, with which the content of a script of the type `application/json` or `application/ld+json` begins.
     Json,
+    /// A piece of the value of a declaration in a `style`, of words, numbers, hashes and commas. It is encoded for
+    /// its place, which changes none of them.
+    StyleValue,
 }

@@ -17,7 +17,7 @@ use crate::parts::SlotKind;
 use html_tokenizer::{Reader, SlotPlace, Standing};
 use std::alloc::{AllocError, Allocator};
 
-/// The tokenizer, the last part, if it is markup, and what is open of a URL that holds a slot.
+/// The tokenizer, the last part, if it is markup, and what is open of a URL or of a declaration that holds a slot.
 #[derive(Drop)]
 pub(crate) struct Walk<'a, A: Allocator> {
     alloc: A,
@@ -43,6 +43,11 @@ pub fn placed<A: Allocator>(
         })),
         Standing::InUrl(place) => url_slot(alloc, place, false, markup, url),
         Standing::InLink(place) => url_slot(alloc, place, true, markup, url),
+        Standing::InDeclaration(place) => Ok(Ok(PlacedSlot {
+            place,
+            kind: SlotKind::StyleValue,
+            url: OpenUrl::Declaration(place),
+        })),
         Standing::InScript => Ok(Ok(PlacedSlot {
             place: SlotPlace::ScriptDouble,
             kind: SlotKind::Literal,

@@ -1,15 +1,17 @@
 -- Markup, and what is open behind it.
-use Rattle.std.proofs.Common.{ℕ, ◌≡◌, ◌+◌, Bool, true, false, List, [], ◌∷◌, ◌++◌, Ok, Err, Some, length, map, take, nat_lt, refl, sym, ap, ◌∙◌, subst, ⊎_elim, append-nil, append_assoc, arith, inl, inr}
+use Rattle.std.proofs.Common.{ℕ, ◌≡◌, ◌⊎◌, ◌+◌, ◌==◌, ◌||◌, if◌then◌else◌, Bool, true, false, List, [], ◌∷◌, ◌++◌, Ok, Err, Some, length, map, take, nat_lt, refl, sym, ap, ◌∙◌, subst, ⊎_elim, append-nil, append_assoc, arith, inl, inr}
 use Rattle.std.proofs.lemmas.Bool.{cases_Bool, true≢false}
 use Rattle.std.proofs.lemmas.Bool.Decides.{nat_tests}
-use Rattle.html_template.specs.declared.faults.PartFault.TheVariants.{AfterLink}
+use Rattle.html_template.specs.declared.faults.PartFault.TheVariants.{AfterLink, AfterStyleValue}
 use Rattle.html_template.specs.declared.open_url.OpenUrl.{OpenUrl}
-use Rattle.html_template.specs.declared.open_url.OpenUrl.TheVariants.{Outside, Within, Whole, Front}
+use Rattle.html_template.specs.declared.open_url.OpenUrl.TheVariants.{Outside, Within, Whole, Front, Declaration}
 use Rattle.html_tokenizer.specs.UrlValues.{url_text}
 use Rattle.html_template.specs.FilledUrls.{Fixed, url_texts}
-use Rattle.html_template.specs.OpenUrls.{url_markup, value_length}
+use Rattle.html_template.specs.OpenUrls.{behind_value, url_markup, value_length}
 use Rattle.html_template.specs.PageUrls.{first_texts}
 use Rattle.html_template.specs.Templates.{Chunk, Markup, page}
+use Rattle.hesc_specs.specs.Text.Ascii.{semicolon}
+use Rattle.html_tokenizer.specs.Declarations.{bang, is_style_byte}
 use Rattle.html_tokenizer.specs.declared.elements.Content.{Content}
 use Rattle.html_tokenizer.specs.declared.slot_place.SlotPlace.{SlotPlace}
 use Rattle.html_tokenizer.specs.Standing.{is_refused}
@@ -230,6 +232,29 @@ module _ (p : SlotPlace) (content : Content) (attribute : Attribute) (place : is
 
 -- ---- where anything is open
 
+-- behind a slot in a declaration, which ends in the markup or goes on
+value_open : (p : SlotPlace) (markup : List ℕ) (opened : OpenUrl) → behind_value p markup ≡ Ok opened → (Outside ≡ opened) ⊎ (Declaration p ≡ opened)
+value_open p [] opened told = inr (ok_url told)
+value_open p (b ∷ markup) opened told =
+    ⊎_elim
+    (λ (ends : (b == semicolon || ends_value p b) ≡ true). inl (ok_url (rw ends at told)))
+    (λ (on : (b == semicolon || ends_value p b) ≡ false).
+    let later : (if is_style_byte b || b == bang then behind_value p markup else Err AfterStyleValue) ≡ Ok opened = rw on at told in
+    ⊎_elim
+    (λ (plain : (is_style_byte b || b == bang) ≡ true). value_open p markup opened (rw plain at later))
+    (λ (other : (is_style_byte b || b == bang) ≡ false). let clash : Err AfterStyleValue ≡ as_told opened = rw other at later in absurd (cc))
+    (cases_Bool (is_style_byte b || b == bang)))
+    (cases_Bool (b == semicolon || ends_value p b))
+
+-- so the same is proved from there on
+value_goes : (p : SlotPlace) (t : Tokenizer) (markup bytes : List ℕ) (opened : OpenUrl) (chunks : List Chunk) → behind_value p bytes ≡ Ok opened →
+    Goes opened t markup chunks → Goes Outside t markup chunks
+value_goes p t markup bytes opened chunks told goes =
+    ⊎_elim
+    (λ (is : Outside ≡ opened). goes_told Outside t markup chunks is goes)
+    (λ (is : Declaration p ≡ opened). goes_told (Declaration p) t markup chunks is goes)
+    (value_open p bytes opened told)
+
 pub markup_goes : (before : OpenUrl) (t : Tokenizer) (markup bytes : List ℕ) (opened : OpenUrl) (chunks : List Chunk) → IsTame t →
     is_refused (state_after t bytes).state ≡ false → url_markup before bytes ≡ Ok opened → Goes opened (state_after t bytes) bytes chunks →
     Goes before t markup (Markup bytes ∷ chunks)
@@ -249,3 +274,5 @@ markup_goes (Front p behind) t markup bytes opened chunks tame unrefused told go
     (base_goes p t.content t.attribute (value_place p t tame stands) stands.attribute_is behind bytes opened chunks
     (subst (λ s. is_refused (state_after (at_value s t.content t.attribute) bytes).state ≡ false) stands.state_is unrefused) told
     (subst (λ s. Goes opened (state_after (at_value s t.content t.attribute) bytes) bytes chunks) stands.state_is goes))
+markup_goes (Declaration p) t markup bytes opened chunks tame unrefused told goes =
+    outside_goes t markup bytes chunks tame (value_goes p (state_after t bytes) bytes bytes opened chunks told goes)

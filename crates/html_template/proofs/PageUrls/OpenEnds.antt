@@ -1,13 +1,13 @@
 -- Where a URL with a slot is open no template ends, no text that is none of a URL stands, and no slot stands behind a whole one.
 use Rattle.std.proofs.Common.{◌≡◌, refl, sym, ◌∙◌}
 use Rattle.std.proofs.lemmas.Bool.{true≢false}
-use Rattle.html_tokenizer.specs.declared.reader.Standing.TheVariants.{Stands, InScript, InJson}
+use Rattle.html_tokenizer.specs.declared.reader.Standing.TheVariants.{Stands, InDeclaration, InScript, InJson}
 use Rattle.html_tokenizer.specs.declared.slot_place.SlotPlace.{SlotPlace}
 use Rattle.html_tokenizer.specs.declared.slot_place.SlotPlace.TheVariants as place
 use Rattle.html_tokenizer.specs.Standing.{standing}
 use Rattle.html_tokenizer.specs.Tokenizer.States.{Tokenizer}
 use Rattle.html_template.proofs.PageUrls.Opening.{StandsAt}
-use Rattle.html_template.proofs.PageUrls.TextSlots.{json_stands_apart, literal_stands_apart, text_stands_apart}
+use Rattle.html_template.proofs.PageUrls.TextSlots.{json_stands_apart, literal_stands_apart, style_stands_apart, text_stands_apart}
 use Rattle.html_template.proofs.Walks.{same_itself}
 
 -- no text
@@ -19,3 +19,6 @@ no_literal_stands p t is stands = true≢false (sym stands.attribute_is ∙ (lit
 
 pub no_json_stands : (p : SlotPlace) (t : Tokenizer) → standing t ≡ InJson → StandsAt p t → ⊥
 no_json_stands p t is stands = true≢false (sym stands.attribute_is ∙ (json_stands_apart place.Text t (rw is refl)).no_url)
+
+pub no_style_stands : (p q : SlotPlace) (t : Tokenizer) → standing t ≡ InDeclaration q → StandsAt p t → ⊥
+no_style_stands p q t is stands = true≢false (sym stands.attribute_is ∙ (style_stands_apart q t (rw is (same_itself q))).no_url)

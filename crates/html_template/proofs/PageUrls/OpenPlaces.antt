@@ -1,40 +1,58 @@
 -- Where a URL with slots is open, the tokenizer is in its value.
-use Rattle.std.proofs.Common.{ℕ, ◌≡◌, Bool, true, false, List, Ok, Option, length, take, nat_lt, refl, sym, subst, arith, inl, inr}
+use Rattle.std.proofs.Common.{ℕ, ◌≡◌, ◌||◌, ◌==◌, if◌then◌else◌, Bool, true, false, List, [], ◌∷◌, Ok, Err, Option, ⊎_elim, length, take, nat_lt, refl, ◌∙◌, sym, subst, arith, inl, inr}
 use Rattle.std.specs.Prelude.{⊤}
-use Rattle.std.proofs.lemmas.Bool.{true≢false}
+use Rattle.std.proofs.lemmas.Bool.{cases_Bool, true≢false}
 use Rattle.std.proofs.lemmas.Bool.Decides.{nat_tests}
+use Rattle.hesc_specs.specs.Text.Ascii.{semicolon}
+use Rattle.html_template.specs.declared.faults.PartFault.TheVariants.{AfterStyleValue}
 use Rattle.html_template.specs.declared.open_url.OpenUrl.{OpenUrl}
-use Rattle.html_template.specs.declared.open_url.OpenUrl.TheVariants.{Outside, Within, Whole, Front}
+use Rattle.html_template.specs.declared.open_url.OpenUrl.TheVariants.{Outside, Within, Whole, Front, Declaration}
 use Rattle.html_template.specs.declared.open_url.PlacedSlot.{PlacedSlot}
 use Rattle.html_template.specs.declared.parts.SlotKind.{SlotKind}
 use Rattle.html_template.specs.declared.parts.SlotKind.TheVariants as kind
-use Rattle.html_template.specs.OpenUrls.{before, begun, behind_front, url_markup, url_slot, value_length}
-use Rattle.html_template.specs.Slots.{past_slot, suits}
+use Rattle.html_template.specs.OpenUrls.{before, begun, behind_front, behind_value, url_markup, url_slot, value_length}
+use Rattle.html_template.specs.Slots.{is_quoted, past_slot, suits}
 use Rattle.html_template.specs.TemplateFaults.{slot_at}
 use Rattle.html_tokenizer.specs.declared.elements.Content.{Content}
 use Rattle.html_tokenizer.specs.declared.reader.Standing.{Standing}
+use Rattle.html_tokenizer.specs.declared.reader.Standing.TheVariants.{InDeclaration}
+use Rattle.html_tokenizer.specs.declared.states.StylePart.{StylePart}
+use Rattle.html_tokenizer.specs.declared.states.StylePart.TheVariants.{Value}
+use Rattle.html_tokenizer.specs.Declarations.{bang, is_style_byte}
+use Rattle.html_tokenizer.specs.Tokenizer.Attributes.StyleParts.{declarations_read}
 use Rattle.html_tokenizer.specs.declared.slot_place.SlotPlace.{SlotPlace}
+use Rattle.html_tokenizer.specs.declared.slot_place.SlotPlace.TheVariants.{DoubleQuoted, SingleQuoted}
 use Rattle.html_tokenizer.specs.Standing.{is_refused, may_end, standing}
-use Rattle.html_tokenizer.specs.Tokenizer.States.{Attribute, In, Tokenizer, at_value}
+use Rattle.html_tokenizer.specs.Tokenizer.States.{Attribute, Declarations, In, Tokenizer, at_value}
 use Rattle.html_tokenizer.specs.Tokenizer.Tokenization.{state_after}
 use Rattle.html_tokenizer.specs.UrlValues.{ends_value, is_url}
+use Rattle.html_tokenizer.proofs.Slots.Declarations.{is_in_quotes, style_byte_read}
 use Rattle.html_tokenizer.proofs.UrlValues.Places.{is_value_place}
 use Rattle.html_tokenizer.proofs.UrlValues.Reading.{reads_on}
 use Rattle.html_tokenizer.proofs.UrlValues.Slots.Tame.{IsTame}
 use Rattle.html_urls.specs.Bases.{behind_base}
 use Rattle.html_urls.specs.declared.base.BehindBase.{BehindBase}
 use Rattle.html_urls.specs.declared.open_part.OpenPart.{OpenPart}
-use Rattle.html_template.proofs.PageUrls.LaterMarkup.{base_told, behind_told, goes_on, is_ended, ok_url}
+use Rattle.html_template.proofs.PageUrls.LaterMarkup.{as_told, base_told, behind_told, goes_on, is_ended, ok_url}
 use Rattle.html_template.proofs.PageUrls.Opening.{StandsAt, value_place}
 use Rattle.html_template.proofs.PageUrls.Placed.{InPart, IsFirst, first_told, part_told}
-use Rattle.html_template.proofs.Walks.{in_script, ok_slot, slot_suits}
+use Rattle.html_template.proofs.Walks.{in_script, ok_slot, same_itself, slot_suits}
+use Rattle.html_template.proofs.TemplateLaw.{style_in_declaration}
 use Rattle.html_template.proofs.PageUrls.Splitting.{whole_or_cut}
+
+-- behind a slot in a declaration the tokenizer is in the value of a `style`
+pub record InStyle (p : SlotPlace) (t : Tokenizer) : Type 0 where
+  pub part : StylePart
+  pub state_is : t.state ≡ In p
+  pub attribute_is : t.attribute ≡ Declarations part
+  pub quoted : is_in_quotes p ≡ true
 
 abbrev pub OpenStands : OpenUrl → Tokenizer → Type 0
 OpenStands Outside t = ⊤
 OpenStands (Within p part) t = StandsAt p t
 OpenStands (Whole p) t = StandsAt p t
 OpenStands (Front p behind) t = StandsAt p t
+OpenStands (Declaration p) t = InStyle p t
 
 -- so none is open where a template may end
 pub none_open : (url : OpenUrl) (t : Tokenizer) → IsTame t → may_end t ≡ true → OpenStands url t → url ≡ Outside
@@ -82,6 +100,27 @@ module _ (p : SlotPlace) (content : Content) (attribute : Attribute) (place : is
   whole_stands : (bytes : List ℕ) (opened : OpenUrl) → url_markup (Whole p) bytes ≡ Ok opened → OpenStands opened (state_after here bytes)
   whole_stands bytes opened told = grind (arith, nat_tests)
 
+-- a declaration is open still, or no more
+value_stands : (p : SlotPlace) (content : Content) (part : StylePart) (bytes : List ℕ) (opened : OpenUrl) → is_in_quotes p ≡ true →
+    behind_value p bytes ≡ Ok opened → OpenStands opened (state_after (at_value (In p) content (Declarations part)) bytes)
+value_stands p content part [] opened quoted told =
+    subst (λ (x : OpenUrl). OpenStands x (at_value (In p) content (Declarations part))) (ok_url told)
+    (record { part = part; state_is = refl; attribute_is = refl; quoted = quoted })
+value_stands p content part (b ∷ bytes) opened quoted told =
+    let here : Tokenizer = at_value (In p) content (Declarations part) in
+    ⊎_elim
+    (λ (ends : (b == semicolon || ends_value p b) ≡ true).
+    subst (λ (x : OpenUrl). OpenStands x (state_after here (b ∷ bytes))) (ok_url (rw ends at told)) tt)
+    (λ (on : (b == semicolon || ends_value p b) ≡ false).
+    let later : (if is_style_byte b || b == bang then behind_value p bytes else Err AfterStyleValue) ≡ Ok opened = rw on at told in
+    ⊎_elim
+    (λ (plain : (is_style_byte b || b == bang) ≡ true).
+    subst (λ (x : Tokenizer). OpenStands opened (state_after x bytes)) (sym (style_byte_read p content part b quoted plain))
+    (value_stands p content (declarations_read part b) bytes opened quoted (rw plain at later)))
+    (λ (other : (is_style_byte b || b == bang) ≡ false). let clash : Err AfterStyleValue ≡ as_told opened = rw other at later in absurd (cc))
+    (cases_Bool (is_style_byte b || b == bang)))
+    (cases_Bool (b == semicolon || ends_value p b))
+
 pub markup_stands : (before : OpenUrl) (t : Tokenizer) (bytes : List ℕ) (opened : OpenUrl) → IsTame t →
     is_refused (state_after t bytes).state ≡ false → url_markup before bytes ≡ Ok opened → OpenStands before t → OpenStands opened (state_after t bytes)
 markup_stands Outside t bytes opened tame unrefused told stands =
@@ -97,6 +136,11 @@ markup_stands (Front p behind) t bytes opened tame unrefused told stands =
     subst (λ s. OpenStands opened (state_after (at_value s t.content t.attribute) bytes)) (sym stands.state_is)
     (base_stands p t.content t.attribute (value_place p t tame stands) stands.attribute_is behind bytes opened
     (subst (λ s. is_refused (state_after (at_value s t.content t.attribute) bytes).state ≡ false) stands.state_is unrefused) told)
+
+markup_stands (Declaration p) t bytes opened tame unrefused told stands =
+    subst (λ s. OpenStands opened (state_after (at_value s t.content t.attribute) bytes)) (sym stands.state_is)
+    (subst (λ a. OpenStands opened (state_after (at_value (In p) t.content a) bytes)) (sym stands.attribute_is)
+    (value_stands p t.content stands.part bytes opened stands.quoted told))
 
 -- ---- behind a slot
 
@@ -119,13 +163,27 @@ url_opens p is_followed markup Outside slot told = first_opens p markup slot (fi
 url_opens p is_followed markup (Within q part) slot told = part_opens p part slot (part_told p part slot told)
 url_opens p is_followed markup (Whole q) slot told = absurd (cc)
 url_opens p is_followed markup (Front q behind) slot told = base_opens p behind slot told
+url_opens p is_followed markup (Declaration q) slot told = absurd (cc)
 
 holds_url : (found : SlotKind) (p : SlotPlace) (t : Tokenizer) → suits found p (standing t) ≡ true → suits kind.Text p (standing t) ≡ false →
-    in_script (standing t) ≡ false → is_url t.attribute ≡ true
-holds_url found p t suited no_text no_script = grind (arith, nat_tests)
+    suits kind.StyleValue p (standing t) ≡ false → in_script (standing t) ≡ false → is_url t.attribute ≡ true
+holds_url found p t suited no_text no_style no_script = grind (arith, nat_tests)
+
+-- one in a declaration leaves that open
+same_quotes : (p : SlotPlace) → is_in_quotes p ≡ is_quoted p
+same_quotes DoubleQuoted = refl
+same_quotes SingleQuoted = refl
+same_quotes other = refl
+
+style_opens : (p : SlotPlace) (t : Tokenizer) → standing t ≡ InDeclaration p → OpenStands (Declaration p) (past_slot p kind.StyleValue t)
+style_opens p t is =
+    let here = style_in_declaration p t.state t.content t.attribute (rw is (same_itself p)) in
+    record { part = Value; state_is = refl; attribute_is = here.attribute_is; quoted = same_quotes p ∙ here.quoted }
 
 placed_stands : (markup : List ℕ) (url : OpenUrl) (t : Tokenizer) (s : Standing) (slot : PlacedSlot) → standing t ≡ s →
     slot_at markup url s ≡ Ok slot → OpenStands slot.url (past_slot slot.place slot.kind t)
+placed_stands markup url t (InDeclaration p) slot is told =
+    subst (λ (x : PlacedSlot). OpenStands x.url (past_slot x.place x.kind t)) (ok_slot told) (style_opens p t is)
 placed_stands markup url t s slot is told = grind (arith, nat_tests, ok_slot, url_opens, holds_url, slot_suits)
 
 -- also where it is a base

@@ -2,7 +2,7 @@
 use Rattle.std.proofs.Common.{ℕ, ◌≡◌, List, [], ◌++◌, sym, subst, true, false, arith}
 use Rattle.std.proofs.lemmas.Bool.Decides.{nat_tests}
 use Rattle.html_template.specs.declared.open_url.OpenUrl.{OpenUrl}
-use Rattle.html_template.specs.declared.open_url.OpenUrl.TheVariants.{Outside, Within, Whole, Front}
+use Rattle.html_template.specs.declared.open_url.OpenUrl.TheVariants.{Outside, Within, Whole, Front, Declaration}
 use Rattle.html_template.specs.Templates.{Chunk}
 use Rattle.html_tokenizer.specs.declared.slot_place.SlotPlace.{SlotPlace}
 use Rattle.html_tokenizer.specs.Tokenizer.States.{Tokenizer}
@@ -34,6 +34,7 @@ Goes Outside t markup chunks = (value : List ℕ) → FromMarkup t markup value 
 Goes (Within p part) t markup chunks = StandsAt p t → GoesOn part t chunks
 Goes (Whole p) t markup chunks = StandsAt p t → EndsBehind t [] chunks
 Goes (Front p behind) t markup chunks = StandsAt p t → GoesBehind behind t chunks
+Goes (Declaration p) t markup chunks = (value : List ℕ) → FromMarkup t markup value → HasLater t value chunks
 
 -- what is open was told
 pub goes_told : (url : OpenUrl) {told : OpenUrl} (t : Tokenizer) (markup : List ℕ) (chunks : List Chunk) → url ≡ told → Goes told t markup chunks →

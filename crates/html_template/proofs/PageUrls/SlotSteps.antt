@@ -2,7 +2,7 @@
 use Rattle.std.proofs.Common.{ℕ, ◌≡◌, Bool, true, false, List, [], ◌∷◌, Ok, Option, Some, None, refl, ◌∙◌, subst, arith}
 use Rattle.std.proofs.lemmas.Bool.Decides.{nat_tests}
 use Rattle.html_template.specs.declared.open_url.OpenUrl.{OpenUrl}
-use Rattle.html_template.specs.declared.open_url.OpenUrl.TheVariants.{Outside, Within, Whole, Front}
+use Rattle.html_template.specs.declared.open_url.OpenUrl.TheVariants.{Outside, Within, Whole, Front, Declaration}
 use Rattle.html_template.specs.declared.open_url.PlacedSlot.{PlacedSlot}
 use Rattle.html_template.specs.declared.parts.SlotKind.{SlotKind}
 use Rattle.html_template.specs.OpenUrls.{before, begun, behind_front, url_slot}
@@ -10,7 +10,7 @@ use Rattle.html_template.specs.Slots.{past_slot, suits}
 use Rattle.html_template.specs.TemplateFaults.{slot_at}
 use Rattle.html_template.specs.Templates.{Chunk, Slot}
 use Rattle.html_tokenizer.specs.declared.reader.Standing.{Standing}
-use Rattle.html_tokenizer.specs.declared.reader.Standing.TheVariants.{Stands, InUrl, InLink, InScript, InJson, Nowhere, Barred}
+use Rattle.html_tokenizer.specs.declared.reader.Standing.TheVariants.{Stands, InUrl, InLink, InDeclaration, InScript, InJson, Nowhere, Barred}
 use Rattle.html_tokenizer.specs.declared.slot_place.SlotPlace.{SlotPlace}
 use Rattle.html_tokenizer.specs.declared.slot_place.SlotPlace.TheVariants as place
 use Rattle.html_tokenizer.specs.Standing.{standing}
@@ -21,10 +21,10 @@ use Rattle.html_urls.specs.Bases.{behind_base}
 use Rattle.html_urls.specs.declared.base.BehindBase.{BehindBase}
 use Rattle.html_urls.specs.declared.open_part.OpenPart.{OpenPart}
 use Rattle.html_template.proofs.PageUrls.Filled.{GoesBehind, GoesOn, HasLater}
-use Rattle.html_template.proofs.PageUrls.OpenEnds.{no_json_stands, no_literal_stands, no_text_stands}
+use Rattle.html_template.proofs.PageUrls.OpenEnds.{no_json_stands, no_literal_stands, no_style_stands, no_text_stands}
 use Rattle.html_template.proofs.PageUrls.Opening.{FromMarkup, Goes, StandsAt}
 use Rattle.html_template.proofs.PageUrls.Placed.{IsFirst, first_told, part_told, past_markup, quoted_slot, whole}
-use Rattle.html_template.proofs.PageUrls.TextSlots.{json_goes, literal_goes, text_goes}
+use Rattle.html_template.proofs.PageUrls.TextSlots.{json_goes, literal_goes, style_goes, text_goes}
 use Rattle.html_template.proofs.PageUrls.UrlSlots.{base_goes, first_goes, later_goes, slot_behind, whole_goes}
 use Rattle.html_template.proofs.TemplateLaw.{base_in_url, part_in_url, whole_in_url}
 use Rattle.html_template.proofs.Walks.{before_suits, ok_slot, same_itself}
@@ -89,6 +89,8 @@ module _ (t : Tokenizer) (chunks : List Chunk) (tame : IsTame t) where
       subst (FromBegun (HasLater t value) following) (ok_slot told) (λ suited goes. text_goes p t value chunks suited goes)
   from_markup following markup value slot (InUrl p) is from told = url_from_markup following p false markup value slot (rw is (same_itself p)) from told
   from_markup following markup value slot (InLink p) is from told = url_from_markup following p true markup value slot (rw is (same_itself p)) from told
+  from_markup following markup value slot (InDeclaration p) is from told =
+      subst (FromBegun (HasLater t value) following) (ok_slot told) (λ suited goes. style_goes p t value chunks suited goes)
   from_markup following markup value slot InScript is from told =
       subst (FromBegun (HasLater t value) following) (ok_slot told) (λ suited goes. literal_goes place.ScriptDouble t value chunks suited goes)
   from_markup following markup value slot InJson is from told =
@@ -105,6 +107,7 @@ module _ (t : Tokenizer) (chunks : List Chunk) (tame : IsTame t) where
   within following q open_part markup slot (Stands p) is stands told = absurd (no_text_stands q p t is stands)
   within following q open_part markup slot (InUrl p) is stands told = url_within following p q false open_part markup slot told
   within following q open_part markup slot (InLink p) is stands told = url_within following p q true open_part markup slot told
+  within following q open_part markup slot (InDeclaration p) is stands told = absurd (no_style_stands q p t is stands)
   within following q open_part markup slot InScript is stands told = absurd (no_literal_stands q t is stands)
   within following q open_part markup slot InJson is stands told = absurd (no_json_stands q t is stands)
   within following q open_part markup slot Nowhere is stands told = absurd (cc)
@@ -120,10 +123,23 @@ module _ (t : Tokenizer) (chunks : List Chunk) (tame : IsTame t) where
   behind_a_base following q behind markup slot (Stands p) is stands told = absurd (no_text_stands q p t is stands)
   behind_a_base following q behind markup slot (InUrl p) is stands told = url_behind following p behind slot told
   behind_a_base following q behind markup slot (InLink p) is stands told = url_behind following p behind slot told
+  behind_a_base following q behind markup slot (InDeclaration p) is stands told = absurd (no_style_stands q p t is stands)
   behind_a_base following q behind markup slot InScript is stands told = absurd (no_literal_stands q t is stands)
   behind_a_base following q behind markup slot InJson is stands told = absurd (no_json_stands q t is stands)
   behind_a_base following q behind markup slot Nowhere is stands told = absurd (cc)
   behind_a_base following q behind markup slot Barred is stands told = absurd (cc)
+
+  -- behind a slot in a declaration, as where nothing is open
+  in_style : (following : Option BehindBase) (q : SlotPlace) (markup value : List ℕ) (slot : PlacedSlot) (s : Standing) → standing t ≡ s → FromMarkup t markup value →
+      slot_at markup (Declaration q) s ≡ Ok slot → FromBegun (HasLater t value) following slot
+  in_style following q markup value slot (InUrl p) is from told = absurd (cc)
+  in_style following q markup value slot (InLink p) is from told = absurd (cc)
+  in_style following q markup value slot (Stands p) is from told = from_markup following markup value slot (Stands p) is from told
+  in_style following q markup value slot (InDeclaration p) is from told = from_markup following markup value slot (InDeclaration p) is from told
+  in_style following q markup value slot InScript is from told = from_markup following markup value slot InScript is from told
+  in_style following q markup value slot InJson is from told = from_markup following markup value slot InJson is from told
+  in_style following q markup value slot Nowhere is from told = absurd (cc)
+  in_style following q markup value slot Barred is from told = absurd (cc)
 
 -- ---- where anything is open
 
@@ -135,3 +151,5 @@ slot_goes next markup Outside t slot chunks tame told goes = λ value from.
 slot_goes next markup (Within p open_part) t slot chunks tame told goes = grind (arith, nat_tests, within, before_suits)
 slot_goes next markup (Whole p) t slot chunks tame told goes = grind (arith, nat_tests)
 slot_goes next markup (Front p behind) t slot chunks tame told goes = grind (arith, nat_tests, behind_a_base, before_suits)
+slot_goes next markup (Declaration p) t slot chunks tame told goes = λ value from.
+    in_style t chunks tame (behind_base next) p markup value slot (standing t) refl from told (before_suits next markup (Declaration p) (standing t) slot told).suited goes

@@ -1,5 +1,5 @@
--- A slot for a text, a string literal or JSON, which stands in no URL.
-use Rattle.std.proofs.Common.{ℕ, ◌≡◌, true, false, List, [], ◌∷◌, refl, arith}
+-- A slot for a text, a string literal, JSON or a piece of a declaration, which stands in no URL.
+use Rattle.std.proofs.Common.{ℕ, ◌≡◌, true, false, List, [], ◌∷◌, refl, ap, arith}
 use Rattle.std.proofs.lemmas.Bool.Decides.{nat_tests}
 use Rattle.std.specs.List.{AllByRecursion}
 use Rattle.std.specs.Str.{IsUtf8}
@@ -18,10 +18,11 @@ use Rattle.html_tokenizer.specs.UrlValues.{is_url, urls_from}
 use Rattle.html_tokenizer.proofs.UrlValues.Appending.{urls_from-anew}
 use Rattle.html_tokenizer.proofs.UrlValues.Apart.Bytes.{StaysApart}
 use Rattle.html_tokenizer.proofs.UrlValues.Apart.OneByte.{IsApart}
+use Rattle.html_tokenizer.proofs.UrlValues.Names.{is_named}
 use Rattle.html_tokenizer.proofs.UrlValues.Apart.Texts.{literal_apart, text_apart}
 use Rattle.html_template.proofs.PageUrls.Filled.{HasLater, IsFilled}
 use Rattle.html_template.proofs.PageUrls.Opening.{Goes, behind_bytes, no_url_open}
-use Rattle.html_template.proofs.TemplateLaw.{slot_passes}
+use Rattle.html_template.proofs.TemplateLaw.{slot_passes, style_in_declaration}
 
 pub text_stands_apart : (p : SlotPlace) (t : Tokenizer) → suits kind.Text p (standing t) ≡ true → IsApart t
 text_stands_apart p t suited = grind (arith, nat_tests)
@@ -31,6 +32,11 @@ literal_stands_apart p t suited = grind (arith, nat_tests)
 
 pub json_stands_apart : (p : SlotPlace) (t : Tokenizer) → suits kind.Json p (standing t) ≡ true → IsApart t
 json_stands_apart p t suited = grind (arith, nat_tests)
+
+pub style_stands_apart : (p : SlotPlace) (t : Tokenizer) → suits kind.StyleValue p (standing t) ≡ true → IsApart t
+style_stands_apart p t suited =
+    let here = style_in_declaration p t.state t.content t.attribute suited in
+    record { no_url = ap is_url here.attribute_is; unnamed = ap is_named here.state_is }
 
 -- the text of such a slot is in no URL
 record IsApartKind (found : SlotKind) : Type 0 where
@@ -46,6 +52,9 @@ literal_kind = record { first = λ text. refl; none = λ text. refl; opens = λ 
 
 json_kind : IsApartKind kind.Json
 json_kind = record { first = λ text. refl; none = λ text. refl; opens = λ held. refl }
+
+style_kind : IsApartKind kind.StyleValue
+style_kind = record { first = λ text. refl; none = λ text. refl; opens = λ held. refl }
 
 module _ {found : SlotKind} (apart_kind : IsApartKind found) (p : SlotPlace) (t next : Tokenizer) (value : List ℕ) (chunks : List Chunk)
     (suited : suits found p (standing t) ≡ true) (goes_to : past_slot p found t ≡ next) (no_url : is_url next.attribute ≡ false)
@@ -87,3 +96,13 @@ json_goes p t value chunks suited =
     (λ text full utf8.
     let passes = slot_passes p kind.Json t.state t.content t.attribute text suited full utf8 in
     (text_apart p t next (written p kind.Json text) (handed p kind.Json text) apart passes, passes.after))
+
+pub style_goes : (p : SlotPlace) (t : Tokenizer) (value : List ℕ) (chunks : List Chunk) → suits kind.StyleValue p (standing t) ≡ true →
+    Goes Outside (past_slot p kind.StyleValue t) [] chunks → HasLater t value (Slot p kind.StyleValue ∷ chunks)
+style_goes p t value chunks suited =
+    let next : Tokenizer = past_slot p kind.StyleValue t in
+    let apart = style_stands_apart p t suited in
+    goes_apart style_kind p t next value chunks suited refl apart.no_url
+    (λ text full utf8.
+    let passes = slot_passes p kind.StyleValue t.state t.content t.attribute text suited full utf8 in
+    (text_apart p t next (written p kind.StyleValue text) (handed p kind.StyleValue text) apart passes, passes.after))
