@@ -2,7 +2,7 @@
 use Rattle.std.specs.Prelude.{ℕ, List, [], ◌∷◌, ◌++◌, ◌==◌, Bool, true, false, Option, Some, None, codes, length}
 use Rattle.std.specs.List.{concat, flat_map}
 use Rattle.html_template.specs.declared.parts.SlotKind.{SlotKind}
-use Rattle.html_template.specs.declared.parts.SlotKind.TheVariants.{Text, UrlPart, Link, OwnPath, Base, OwnBase, Literal, Json}
+use Rattle.html_template.specs.declared.parts.SlotKind.TheVariants.{Text, UrlPart, Link, OwnPath, Base, OwnBase, Literal, Json, StyleValue}
 use Rattle.html_tokenizer.specs.declared.slot_place.SlotPlace.{SlotPlace}
 use Rattle.html_tokenizer.specs.declared.slot_place.SlotPlace.TheVariants as at
 use Rattle.html_urls.specs.declared.place.UrlPlace.{UrlPlace}
@@ -35,7 +35,7 @@ url_word Path = codes " path"
 url_word Query = codes " query"
 url_word Fragment = codes " fragment"
 
--- the word for a part of a URL, a whole one or its beginning, for a string literal and for JSON, behind a blank
+-- the word for a part of a URL, a whole one or its beginning, for a string literal, for JSON and in a declaration, behind a blank
 abbrev pub kind_word : SlotKind → List ℕ
 kind_word Text = []
 kind_word Link = codes " link"
@@ -44,6 +44,7 @@ kind_word (Base behind) = codes " base"
 kind_word (OwnBase behind) = codes " own-base"
 kind_word Literal = codes " literal"
 kind_word Json = codes " json"
+kind_word StyleValue = codes " style-value"
 kind_word (UrlPart slot) = url_word slot.place
 
 abbrev pub slot_line : {A : Type 0} → Placed A → List ℕ

@@ -48,6 +48,7 @@ wrong_part part.NotPlain = codes "this URL has a slot; percent-encode white spac
 wrong_part part.NotFixed = codes "the host of this URL is open; begin it with / or https://host/"
 wrong_part part.DotSegment = codes "a segment of this URL may be . or ..; write other bytes beside the dots"
 wrong_part part.AfterLink = codes "a slot begins this URL; it may go on with one /, ?, #, a letter, a digit or _"
+wrong_part part.AfterStyleValue = codes "a slot stands in this declaration; up to its ; it may go on with letters, digits, spaces and - _ # % . , + !"
 
 abbrev pub wrong_value : ValueFault → List ℕ
 wrong_value value.Missing = codes "no value has this name"
@@ -62,6 +63,7 @@ wrong_value (value.Unfit text.NotALink) = codes "the text is no link; its scheme
 wrong_value (value.Unfit text.NotAnOwnPath) = codes "the text is no own path; begin it with one /, and leave out white space, \\ and dot segments"
 wrong_value (value.Unfit text.NotABase) = codes "the text is no base; begin it with one /, http:// or https://, leave out ?, # and dot segments, and end it in / before a name alone"
 wrong_value (value.Unfit text.NotAnOwnBase) = codes "the text is no base of the page's own host; begin it with one /"
+wrong_value (value.Unfit text.NotAStyleValue) = codes "the text is no piece of a declaration's value; it may have letters, digits, spaces and - _ # % . , +"
 
 abbrev pub wrong_here : Refusal → List ℕ
 wrong_here (Tag why) = wrong_tag why

@@ -156,7 +156,7 @@ fn place_word(place: SlotPlace) -> &'static str
     }
 }
 
-// The word for a part of a URL, a whole one or its beginning, for a string literal and for JSON, behind a blank.
+// The word for a part of a URL, a whole one or its beginning, for a string literal, for JSON and in a declaration, behind a blank.
 fn kind_word(kind: SlotKind) -> &'static str
     ensures { result.now ≡ kind_word kind }
 {
@@ -168,6 +168,7 @@ fn kind_word(kind: SlotKind) -> &'static str
         SlotKind::OwnBase(_) => " own-base",
         SlotKind::Literal => " literal",
         SlotKind::Json => " json",
+        SlotKind::StyleValue => " style-value",
         SlotKind::UrlPart(slot) => match slot.place {
             UrlPlace::Path => " path",
             UrlPlace::Query => " query",

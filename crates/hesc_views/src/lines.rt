@@ -207,6 +207,9 @@ fn wrong_part(fault: PartFault) -> &'static str
             "a segment of this URL may be . or ..; write other bytes beside the dots",
         PartFault::AfterLink =>
             "a slot begins this URL; it may go on with one /, ?, #, a letter, a digit or _",
+        PartFault::AfterStyleValue => {
+            "a slot stands in this declaration; up to its ; it may go on with letters, digits, spaces and - _ # % . , + !"
+        }
     }
 }
 
@@ -241,6 +244,9 @@ fn wrong_value(fault: ValueFault) -> &'static str
         }
         ValueFault::Unfit(TextFault::NotAnOwnBase) => {
             "the text is no base of the page's own host; begin it with one /"
+        }
+        ValueFault::Unfit(TextFault::NotAStyleValue) => {
+            "the text is no piece of a declaration's value; it may have letters, digits, spaces and - _ # % . , +"
         }
     }
 }

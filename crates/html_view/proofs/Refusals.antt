@@ -11,7 +11,7 @@ use Rattle.html_template.specs.declared.faults.PartFault.TheVariants as fault
 use Rattle.html_template.specs.declared.faults.TemplateFault.{TemplateFault}
 use Rattle.html_template.specs.declared.faults.TemplateFault.TheVariants as template
 use Rattle.html_template.specs.declared.open_url.OpenUrl.{OpenUrl}
-use Rattle.html_template.specs.declared.open_url.OpenUrl.TheVariants.{Outside, Within, Whole, Front}
+use Rattle.html_template.specs.declared.open_url.OpenUrl.TheVariants.{Outside, Within, Whole, Front, Declaration}
 use Rattle.html_template.specs.declared.open_url.PlacedSlot.{PlacedSlot}
 use Rattle.html_template.specs.declared.parts.SlotKind.{SlotKind}
 use Rattle.html_template.proofs.Walks.{base_stands, past_base}
@@ -20,7 +20,7 @@ use Rattle.html_tokenizer.specs.Tokenizer.States.{Tokenizer, refused}
 use Rattle.html_tokenizer.specs.Tokenizer.Tokenization.{state_after}
 use Rattle.html_tokenizer.specs.UrlValues.{after_last, begins_value, is_url}
 use Rattle.html_tokenizer.specs.declared.reader.Standing.{Standing}
-use Rattle.html_tokenizer.specs.declared.reader.Standing.TheVariants.{Stands, InUrl, InLink, InScript, InJson, Nowhere, Barred}
+use Rattle.html_tokenizer.specs.declared.reader.Standing.TheVariants.{Stands, InUrl, InLink, InDeclaration, InScript, InJson, Nowhere, Barred}
 use Rattle.html_tokenizer.specs.declared.slot_place.SlotPlace.{SlotPlace}
 use Rattle.html_tokenizer.proofs.Passing.{state_after-append}
 use Rattle.html_tokenizer.proofs.UrlValues.Following.{same_place}
@@ -66,12 +66,14 @@ url_none Outside = refl
 url_none (Within p part) = refl
 url_none (Whole p) = refl
 url_none (Front p behind) = refl
+url_none (Declaration p) = refl
 
 begun_none : (found : PlacedSlot) (url : OpenUrl) → begun found url None ≡ found
 begun_none found Outside = refl
 begun_none found (Within p part) = refl
 begun_none found (Whole p) = refl
 begun_none found (Front p behind) = refl
+begun_none found (Declaration p) = refl
 
 pub before_nothing : (found : PlacedSlot) → before [] found ≡ found
 before_nothing found = begun_none found found.url
@@ -93,6 +95,7 @@ none_ends Outside told = refl
 none_ends (Within p part) told = absurd (still_open p part (plain_text false []) told)
 none_ends (Whole p) told = absurd (cc)
 none_ends (Front p behind) told = absurd (base_open p behind (plain_text false []) told)
+none_ends (Declaration p) told = absurd (cc)
 
 no_front : (front markup : List ℕ) → [] ≡ front ++ markup → front ≡ []
 no_front [] markup whole = refl
@@ -171,6 +174,8 @@ begun_turned walk found Outside following is =
 begun_turned walk found (Within p part) following is =
     ap (λ u. record { tokenizer = after_slot found.place found.kind walk.tokenizer; markup = []; url = u }) (is ∙ sym (ap (λ u. url_as u following) is))
 begun_turned walk found (Front p behind) following is =
+    ap (λ u. record { tokenizer = after_slot found.place found.kind walk.tokenizer; markup = []; url = u }) (is ∙ sym (ap (λ u. url_as u following) is))
+begun_turned walk found (Declaration p) following is =
     ap (λ u. record { tokenizer = after_slot found.place found.kind walk.tokenizer; markup = []; url = u }) (is ∙ sym (ap (λ u. url_as u following) is))
 
 pub reads_past : (way : Way) (found : PlacedSlot) (parts : List Given) (markup : List ℕ) → ReadsParts way parts markup → way_slot way ≡ Ok found →
@@ -310,6 +315,7 @@ slot_same way t url markup (InLink p) state gone is =
     ∙ ap (first_slot p true)
     (last_same (begins_value p) gone.front way.markup (is_marked p way t url markup state gone (ap (in_url p) is ∙ same_place p)))
 slot_same way t url markup (Stands p) state gone is = refl
+slot_same way t url markup (InDeclaration p) state gone is = refl
 slot_same way t url markup InScript state gone is = refl
 slot_same way t url markup InJson state gone is = refl
 slot_same way t url markup Barred state gone is = refl

@@ -9,7 +9,7 @@ use Rattle.html_template.specs.Templates.{Chunk, Fill, Given, Markup, Slot, afte
 use Rattle.html_template.specs.declared.faults.PartFault.{PartFault}
 use Rattle.html_template.specs.declared.faults.PartFault.TheVariants as fault
 use Rattle.html_template.specs.declared.open_url.OpenUrl.{OpenUrl}
-use Rattle.html_template.specs.declared.open_url.OpenUrl.TheVariants.{Outside, Within, Whole, Front}
+use Rattle.html_template.specs.declared.open_url.OpenUrl.TheVariants.{Outside, Within, Whole, Front, Declaration}
 use Rattle.html_template.specs.declared.open_url.PlacedSlot.{PlacedSlot}
 use Rattle.html_tokenizer.specs.Standing.{is_refused, may_end, standing}
 use Rattle.html_tokenizer.specs.Tokenizer.States.{Tokenizer}
@@ -89,6 +89,9 @@ reads_let_go way next t url markup reads free (Ok (Whole q)) is told =
     let here : way ≡ next = cc in
     subst (λ w. Reads w t url markup) here reads
 reads_let_go way next t url markup reads free (Ok (Front q behind)) is told =
+    let here : way ≡ next = cc in
+    subst (λ w. Reads w t url markup) here reads
+reads_let_go way next t url markup reads free (Ok (Declaration q)) is told =
     let here : way ≡ next = cc in
     subst (λ w. Reads w t url markup) here reads
 

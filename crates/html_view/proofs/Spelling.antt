@@ -6,12 +6,12 @@ use Rattle.html_template.specs.TemplateFaults.{slot_at}
 use Rattle.html_template.specs.declared.faults.PartFault.{PartFault}
 use Rattle.html_template.specs.declared.faults.PartFault.TheVariants as fault
 use Rattle.html_template.specs.declared.open_url.OpenUrl.{OpenUrl}
-use Rattle.html_template.specs.declared.open_url.OpenUrl.TheVariants.{Outside, Within, Whole, Front}
+use Rattle.html_template.specs.declared.open_url.OpenUrl.TheVariants.{Outside, Within, Whole, Front, Declaration}
 use Rattle.html_template.specs.declared.open_url.PlacedSlot.{PlacedSlot}
 use Rattle.html_template.proofs.Walks.{same_after_slot}
 use Rattle.html_tokenizer.specs.declared.elements.Content.{Content}
 use Rattle.html_tokenizer.specs.declared.reader.Standing.{Standing}
-use Rattle.html_tokenizer.specs.declared.reader.Standing.TheVariants.{Barred, InJson, InLink, InScript, InUrl, Nowhere, Stands}
+use Rattle.html_tokenizer.specs.declared.reader.Standing.TheVariants.{Barred, InDeclaration, InJson, InLink, InScript, InUrl, Nowhere, Stands}
 use Rattle.html_tokenizer.specs.Standing.{AfterStanding, is_between_attributes, is_refused, standing, standing_in}
 use Rattle.html_tokenizer.specs.Tokenizer.States as state
 use Rattle.html_tokenizer.specs.Tokenizer.States.{Attribute, State, Tokenizer}
@@ -173,6 +173,7 @@ same_settled way next (Ok Outside) told = let here : let_go way Outside ≡ next
 same_settled way next (Ok (Within p open_part)) told = let here : way ≡ next = cc in ap (λ (w : Way). w.tokenizer) (sym here)
 same_settled way next (Ok (Whole p)) told = let here : way ≡ next = cc in ap (λ (w : Way). w.tokenizer) (sym here)
 same_settled way next (Ok (Front p behind)) told = let here : way ≡ next = cc in ap (λ (w : Way). w.tokenizer) (sym here)
+same_settled way next (Ok (Declaration p)) told = let here : way ≡ next = cc in ap (λ (w : Way). w.tokenizer) (sym here)
 
 settled_state : (way next : Way) → settled way ≡ Ok next → next.tokenizer ≡ way.tokenizer
 settled_state way next told =
@@ -195,6 +196,7 @@ after_standing : (s : Standing) (t : Tokenizer) → AfterStanding s t (past_stan
 after_standing (Stands p) t = refl
 after_standing (InUrl p) t = refl
 after_standing (InLink p) t = refl
+after_standing (InDeclaration p) t = refl
 after_standing InScript t = refl
 after_standing InJson t = refl
 after_standing Barred t = refl

@@ -1,8 +1,10 @@
 -- Markup that was let go is not looked at.
-use Rattle.std.proofs.Common.{ℕ, ◌≡◌, ◌+◌, ◌<◌, ◌≤◌, ◌||◌, Bool, true, false, List, [], ◌∷◌, ◌++◌, Option, Some, None, Result, Ok, Err, if◌then◌else◌, length, take, nat_lt, arith, refl, ap, ⊎_elim, length-append, ltb-true, lt-ltb}
+use Rattle.std.proofs.Common.{ℕ, ◌≡◌, ◌+◌, ◌<◌, ◌≤◌, ◌||◌, ◌==◌, Bool, true, false, List, [], ◌∷◌, ◌++◌, Option, Some, None, Result, Ok, Err, if◌then◌else◌, length, take, nat_lt, arith, refl, ap, ⊎_elim, length-append, ltb-true, lt-ltb}
 use Rattle.std.specs.List.{list_any, position_or_len}
 use Rattle.std.proofs.lemmas.Bool.{cases_Bool}
 use Rattle.std.proofs.lemmas.List.{take-append-le}
+use Rattle.hesc_specs.specs.Text.Ascii.{semicolon}
+use Rattle.html_tokenizer.specs.Declarations.{bang, is_style_byte}
 use Rattle.html_urls.specs.Bases.{goes_as, open_behind}
 use Rattle.html_urls.specs.OpenParts.{after_markup, ends_scheme}
 use Rattle.html_urls.specs.declared.base.BehindBase.{BehindBase}
@@ -12,12 +14,12 @@ use Rattle.html_template.specs.OpenUrls.{url_markup, url_slot, value_length, beh
 use Rattle.html_template.specs.OpenUrls as urls
 use Rattle.html_template.specs.TemplateFaults.{slot_at}
 use Rattle.html_template.specs.declared.faults.PartFault.{PartFault}
-use Rattle.html_template.specs.declared.faults.PartFault.TheVariants.{AfterLink, NotFixed}
+use Rattle.html_template.specs.declared.faults.PartFault.TheVariants.{AfterLink, AfterStyleValue, NotFixed}
 use Rattle.html_template.specs.declared.open_url.OpenUrl.{OpenUrl}
-use Rattle.html_template.specs.declared.open_url.OpenUrl.TheVariants.{Outside, Within, Whole, Front}
+use Rattle.html_template.specs.declared.open_url.OpenUrl.TheVariants.{Outside, Within, Whole, Front, Declaration}
 use Rattle.html_template.specs.declared.open_url.PlacedSlot.{PlacedSlot}
 use Rattle.html_tokenizer.specs.declared.reader.Standing.{Standing}
-use Rattle.html_tokenizer.specs.declared.reader.Standing.TheVariants.{Stands, InUrl, InLink, InScript, InJson, Nowhere, Barred}
+use Rattle.html_tokenizer.specs.declared.reader.Standing.TheVariants.{Stands, InUrl, InLink, InDeclaration, InScript, InJson, Nowhere, Barred}
 use Rattle.html_tokenizer.specs.declared.slot_place.SlotPlace.{SlotPlace}
 use Rattle.html_tokenizer.specs.UrlValues.{after_last, begins_value, ends_value}
 
@@ -99,11 +101,26 @@ ended_whole : (p : SlotPlace) (front more : List ℕ) → urls.behind_link p fro
 ended_whole p [] more told = absurd (cc)
 ended_whole p (b ∷ front) more told = told
 
+-- so a declaration
+ended_declaration : (p : SlotPlace) (front more : List ℕ) → urls.behind_value p front ≡ Ok Outside → urls.behind_value p (front ++ more) ≡ Ok Outside
+ended_declaration p [] more told = absurd (cc)
+ended_declaration p (b ∷ front) more told =
+    ⊎_elim
+    (λ (ends : (b == semicolon || ends_value p b) ≡ true). rw ends refl)
+    (λ (on : (b == semicolon || ends_value p b) ≡ false).
+    let later : (if is_style_byte b || b == bang then urls.behind_value p front else Err AfterStyleValue) ≡ Ok Outside = rw on at told in
+    ⊎_elim
+    (λ (plain : (is_style_byte b || b == bang) ≡ true). rw (on, plain) (ended_declaration p front more (rw plain at later)))
+    (λ (other : (is_style_byte b || b == bang) ≡ false). let clash : refusal AfterStyleValue ≡ Ok Outside = rw other at later in absurd (cc))
+    (cases_Bool (is_style_byte b || b == bang)))
+    (cases_Bool (b == semicolon || ends_value p b))
+
 pub ended_more : (url : OpenUrl) (front more : List ℕ) → url_markup url front ≡ Ok Outside → url_markup url (front ++ more) ≡ Ok Outside
 ended_more Outside front more told = refl
 ended_more (Within p open_part) front more told = ended_in_value p (urls.behind_slot p open_part) (still_open p open_part) front more told
 ended_more (Whole p) front more told = ended_whole p front more told
 ended_more (Front p behind) front more told = ended_in_value p (urls.after_base p behind) (base_open p behind) front more told
+ended_more (Declaration p) front more told = ended_declaration p front more told
 
 -- a slot that finds where the value of its URL begins finds it behind more markup, too
 has_mark : (test : ℕ → Bool) (markup text : List ℕ) → after_last test markup ≡ Some text → list_any test markup ≡ true
@@ -150,6 +167,7 @@ pub slot_more : (standing : Standing) (slot : PlacedSlot) (front markup : List �
 slot_more (Stands p) slot front markup told = told
 slot_more (InUrl p) slot front markup told = url_more p false slot front markup told
 slot_more (InLink p) slot front markup told = url_more p true slot front markup told
+slot_more (InDeclaration p) slot front markup told = told
 slot_more InScript slot front markup told = told
 slot_more InJson slot front markup told = told
 slot_more Barred slot front markup told = absurd (cc)

@@ -1,6 +1,6 @@
 -- What data makes of nodes is an unrolling, whose slots its texts fill.
 use Rattle.std.proofs.Common.{ℕ, ◌≡◌, ◌⊎◌, true, false, List, [], ◌∷◌, ◌++◌, map, IsUtf8, Option, Some, None, Result, Ok, Err, length, refl, ap, subst, inl, inr, ⊎_elim, arith, ◌==◌}
-use Rattle.std.specs.List.{AllByRecursion}
+use Rattle.std.specs.List.{AllByRecursion, list_all}
 use Rattle.std.proofs.lemmas.Bool.{cases_Bool}
 use Rattle.html_template.specs.FillFaults.{empty_fault, segment_fault, text_fault}
 use Rattle.html_template.specs.Slots.{FitsPlace, MayFill}
@@ -10,6 +10,7 @@ use Rattle.html_template.specs.declared.faults.TextFault.{TextFault}
 use Rattle.html_template.specs.declared.faults.TextFault.TheVariants as fault
 use Rattle.html_template.specs.declared.parts.SlotKind.{SlotKind}
 use Rattle.html_template.specs.declared.parts.SlotKind.TheVariants as kind
+use Rattle.html_tokenizer.specs.Declarations.{is_style_byte}
 use Rattle.html_tokenizer.specs.declared.slot_place.SlotPlace.{SlotPlace}
 use Rattle.html_tokenizer.specs.declared.slot_place.SlotPlace.TheVariants.{Unquoted}
 use Rattle.html_urls.specs.Bases.{is_base, is_own_base}
@@ -73,6 +74,11 @@ text_fits p (kind.OwnBase behind) text is =
     (cases_Bool (is_own_base behind text))
 text_fits p kind.Literal text is = tt
 text_fits p kind.Json text is = tt
+text_fits p kind.StyleValue text is =
+    ⊎_elim
+    (λ (all : list_all is_style_byte text ≡ true). all)
+    (λ (none : list_all is_style_byte text ≡ false). let here : Some fault.NotAStyleValue ≡ None = rw none at is in absurd (cc))
+    (cases_Bool (list_all is_style_byte text))
 
 fitting_fits : (slot : Placed) (text found : List ℕ) (first : Option TextFault) → text_fault slot.place slot.kind text ≡ first →
     fitting slot text first ≡ Ok found → MayFill slot.place slot.kind found

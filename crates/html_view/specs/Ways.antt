@@ -15,7 +15,7 @@ use Rattle.html_tokenizer.specs.UrlValues.{is_url}
 use Rattle.html_urls.specs.Bases.{behind_base}
 use Rattle.html_urls.specs.declared.base.BehindBase.{BehindBase}
 
--- the tokenizer, the markup since the last slot, and what was open of a URL with slots at that slot.
+-- the tokenizer, the markup since the last slot, and what was open of a URL or a declaration with slots at that slot.
 -- Outside of URLs the markup so far is let go
 pub record Way : Type 0 where
   pub tokenizer : Tokenizer

@@ -10,7 +10,7 @@ use html_tokenizer::Reader;
 use html_urls::behind_base;
 use std::alloc::{AllocError, Allocator};
 
-/// The tokenizer, in a URL the markup since the last slot, and what was open of a URL at that slot.
+/// The tokenizer, in a URL the markup since the last slot, and what was open of a URL or a declaration at that slot.
 #[derive(Drop)]
 pub(crate) struct Way<A: Allocator> {
     alloc: A,
@@ -32,6 +32,7 @@ fn is_same_url(first: OpenUrl, second: OpenUrl) -> bool
             place == other && part == another
         }
         (OpenUrl::Whole(place), OpenUrl::Whole(other)) => place == other,
+        (OpenUrl::Declaration(place), OpenUrl::Declaration(other)) => place == other,
         (OpenUrl::Front(place, behind), OpenUrl::Front(other, another)) => {
             place == other && behind == another
         }

@@ -356,7 +356,8 @@ fn is_same_kind(first: SlotKind, second: SlotKind) -> bool
     match (first, second) {
         (SlotKind::Text, SlotKind::Text)
         | (SlotKind::Literal, SlotKind::Literal)
-        | (SlotKind::Json, SlotKind::Json) => true,
+        | (SlotKind::Json, SlotKind::Json)
+        | (SlotKind::StyleValue, SlotKind::StyleValue) => true,
         (SlotKind::UrlPart(slot), SlotKind::UrlPart(other)) => {
             slot.place == other.place && slot.begins_segment == other.begins_segment
         }
