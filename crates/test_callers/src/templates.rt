@@ -4,6 +4,7 @@ use html_template::{FillFault, TextFault};
 use std::test::Fail;
 use test_support::{Trouble, WeakWriter, Weakness};
 use uses::asset_page::{AssetTemplate, Assets};
+use uses::bar::{Bar, BarTemplate};
 use uses::breadcrumbs::{Breadcrumbs, Crumb};
 use uses::form_page::{Draft, FormTemplate};
 use uses::home_page::{Stranger, StrangerTemplates};
@@ -213,6 +214,38 @@ fn a_crumb_is_appended_byte_by_byte(rt: HostRuntime) -> Result<(), Fail> {
     };
     assert!(rt; crumbs.append(&mut page, dots) == Err(FillFault::Text(0, TextFault::DotSegment)));
     assert!(rt; page.as_str() == "<nav><a href=\"/a%2F..%2Fb\">a &gt; b</a> / ");
+    Ok(())
+}
+
+#[test]
+fn a_bar_has_its_two_declarations(rt: HostRuntime) -> Result<(), Fail> {
+    let Ok(template) = BarTemplate::new(rt.alloc()) else {
+        assert!(rt; false);
+        return Ok(());
+    };
+    let bar = Bar {
+        width: "33.3",
+        color: "#0af",
+    };
+    let page = template.page(rt.alloc(), bar);
+    let expected = "<div style=\"width: 33.3%; background: #0af\"></div>";
+    assert!(rt; page.is_ok_and(|page| page.as_str() == expected));
+    let url = template.page(
+        rt.alloc(),
+        Bar {
+            color: "url(//b.example)",
+            ..bar
+        },
+    );
+    assert!(rt; url.is_err_and(|fault| fault == FillFault::Text(1, TextFault::NotAStyleValue)));
+    let two = template.page(
+        rt.alloc(),
+        Bar {
+            width: "1; top: 0",
+            ..bar
+        },
+    );
+    assert!(rt; two.is_err_and(|fault| fault == FillFault::Text(0, TextFault::NotAStyleValue)));
     Ok(())
 }
 

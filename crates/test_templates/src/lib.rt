@@ -24,6 +24,8 @@ mod pairs;
 #[cfg(test)]
 mod sources;
 #[cfg(test)]
+mod styles;
+#[cfg(test)]
 mod tables;
 #[cfg(test)]
 mod templates;

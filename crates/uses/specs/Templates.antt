@@ -1,5 +1,6 @@
 -- What callers of templates make.
 pub mod AssetPages
+pub mod Bars
 pub mod Breadcrumbs
 pub mod FormPages
 pub mod HomePages

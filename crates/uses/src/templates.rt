@@ -1,6 +1,7 @@
 //! Callers that make pages by templates.
 
 pub mod asset_page;
+pub mod bar;
 pub mod breadcrumbs;
 pub mod form_page;
 pub mod home_page;

@@ -136,7 +136,6 @@ markup_stands (Front p behind) t bytes opened tame unrefused told stands =
     subst (λ s. OpenStands opened (state_after (at_value s t.content t.attribute) bytes)) (sym stands.state_is)
     (base_stands p t.content t.attribute (value_place p t tame stands) stands.attribute_is behind bytes opened
     (subst (λ s. is_refused (state_after (at_value s t.content t.attribute) bytes).state ≡ false) stands.state_is unrefused) told)
-
 markup_stands (Declaration p) t bytes opened tame unrefused told stands =
     subst (λ s. OpenStands opened (state_after (at_value s t.content t.attribute) bytes)) (sym stands.state_is)
     (subst (λ a. OpenStands opened (state_after (at_value (In p) t.content a) bytes)) (sym stands.attribute_is)

@@ -150,7 +150,7 @@ pub static REFUSALS: [Refusal; 17] = [
 ];
 
 /// Of places and of ways.
-static OF_VIEWS: [Refusal; 14] = [
+static OF_VIEWS: [Refusal; 15] = [
     // Places.
     (
         &["check", "v"],
@@ -200,6 +200,13 @@ static OF_VIEWS: [Refusal; 14] = [
         b"",
         1,
         "hesc: v:1:15: a slot begins this URL; it may go on with one /, ?, #, a letter, a digit or _\n",
+    ),
+    (
+        &["check", "v"],
+        &[("v", b"<p style=\"top: {{a}}(b)\">")],
+        b"",
+        1,
+        "hesc: v:1:21: a slot stands in this declaration; up to its ; it may go on with letters, digits, spaces and - _ # % . , + !\n",
     ),
     // Ways.
     (
@@ -263,7 +270,7 @@ static OF_VIEWS: [Refusal; 14] = [
 ];
 
 /// Of the input and of values.
-static OF_DATA: [Refusal; 21] = [
+static OF_DATA: [Refusal; 22] = [
     // The input.
     (
         &["render", "v"],
@@ -406,6 +413,13 @@ static OF_DATA: [Refusal; 21] = [
         b"{\"a\": \"http://c\"}",
         1,
         "hesc: v:1:13: the text is no base of the page's own host; begin it with one /\n",
+    ),
+    (
+        &["render", "v"],
+        &[("v", b"<p style='top: {{a}}'>")],
+        b"{\"a\": \"1;\"}",
+        1,
+        "hesc: v:1:16: the text is no piece of a declaration's value; it may have letters, digits, spaces and - _ # % . , +\n",
     ),
     (
         &["render", "v", "a/p.html"],

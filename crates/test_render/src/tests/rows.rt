@@ -177,7 +177,7 @@ pub static CHECKS: [Success; 8] = [
             <a href='/{{d}}?{{e}}#{{f}}' title=t></a><a href='{{g}}'></a><link href='{{m}}'>\
             <a href='{{n}}/'></a><script src='{{o}}/p'></script>\
             <style>p { content: '{{h}}' \"{{i}}\" }</style><script>x('{{j}}', \"{{k.l}}\", {{q}})</script>{{{r}}}\
-            <script type='application/json'>{{s}}</script>",
+            <script type='application/json'>{{s}}</script><p style='top: {{t}}px; left: {{u}}'>",
         )],
         b"not read",
         b"a unquoted\n\
@@ -196,7 +196,9 @@ pub static CHECKS: [Success; 8] = [
         k.l script-double\n\
         q script-double literal\n\
         r fragment\n\
-        s text json\n",
+        s text json\n\
+        t single-quoted style-value\n\
+        u single-quoted style-value\n",
     ),
     // A section of white space alone has no line, nor has a body that never stands.
     (
