@@ -1,6 +1,7 @@
 -- Following nodes, one behind another, and through a section.
 use Rattle.std.proofs.Common.{Bor, Vec, rules, ℕ, zero, suc, ◌≡◌, ◌≢◌, ◌<◌, ◌≤◌, List, [], ◌∷◌, ◌++◌, get_or, length, take, refl, sym, ap, ◌∙◌, subst, arith}
-use Rattle.html_view.specs.Following.{Follows, FollowsBody}
+use Rattle.std.specs.Prelude.{Result, Ok, Err, OnOk}
+use Rattle.html_view.specs.Following.{Adds, Follows, FollowsBody}
 use Rattle.html_view.specs.Kept.{Before, asked_node, asked_nodes, asked_of, behind, named_of, opened_of, opening_of, placed_node, placed_nodes, slot_of}
 use Rattle.html_view.specs.Names.{words_of}
 use Rattle.html_view.specs.Nodes as node
@@ -20,6 +21,11 @@ use Rattle.html_view.specs.declared.placed.PlacedNode as placed
 use Rattle.html_view.specs.declared.placed.PlacedNode.{PlacedNode}
 use Rattle.html_view.specs.declared.node.Times.{Times}
 use Rattle.html_view.specs.declared.node.Times.TheVariants.{Attributes, Each, Given, If, Once, Whether}
+
+-- what follows from a clause of a success
+pub when_ok : {T E P Q : Type 0} (result : Result T E) → (P → Q) → OnOk result P → OnOk result Q
+when_ok (Ok done) then met = then met
+when_ok (Err fault) then met = tt
 
 -- nothing is followed yet
 pub followed_none : (ways here : List Way) → here ≡ ways → Follows (λ rest. rest) (λ rest. rest) ways here
@@ -61,24 +67,33 @@ followed_start {A} [] placed ways here none same =
 followed_start {A} (first ∷ nodes) placed ways here none same =
     subst (λ p. Follows (asked_nodes {A = A} []) (placed_nodes p) ways here) (sym none) (followed_none ways here same)
 
-pub followed_more : {A : Type 0} (nodes all : List (Node A)) (i j : ℕ) (one : Node A) (old new : List (PlacedNode A)) (made : PlacedNode A)
-    (ways here next : List Way) → nodes ≡ all → j ≡ suc i → i < length nodes → one ≡ get_or nodes i one → new ≡ old ++ made ∷ [] →
-    Follows (asked_nodes (take i all)) (placed_nodes old) ways here → Follows (asked_node one) (placed_node made) here next →
-    Follows (asked_nodes (take j all)) (placed_nodes new) ways next
-followed_more nodes all i j one old new made ways here next whole more below is pushed before after =
+-- a node that is placed behind others
+pub added : {A : Type 0} (old new : List (PlacedNode A)) (made : PlacedNode A) → new ≡ old ++ made ∷ [] → (asked : Before node.Asked) (ways next : List Way) →
+    Follows asked (placed_node made) ways next → Adds asked (placed_nodes old) (placed_nodes new) ways next
+added old new made pushed asked ways next after front first before =
+    subst (λ n. Follows (λ rest. front (asked rest)) (placed_nodes n) first next) (sym pushed)
+    (record {
+      same = λ rest. ap written (placed_more old made rest) ∙ before.same (placed_node made rest) ∙ ap front (after.same rest);
+      takes = λ rest others takes.
+          subst (λ n. Takes first n others) (sym (placed_more old made rest)) (before.takes (placed_node made rest) others (after.takes rest others takes));
+    })
+
+-- the same, of a node that is told the same
+pub added_same : (asked told : Before node.Asked) (old new : Before node.Placed) (ways next : List Way) →
+    ((rest : Nodes node.Asked) → told rest ≡ asked rest) → Adds asked old new ways next → Adds told old new ways next
+added_same asked told old new ways next same adds front first before =
+    followed_same (λ rest. front (asked rest)) (λ rest. front (told rest)) new new first next (λ rest. ap front (same rest)) (λ rest. refl)
+    (adds front first before)
+
+pub followed_more : {A : Type 0} (nodes all : List (Node A)) (i j : ℕ) (one : Node A) (old new : List (PlacedNode A)) (ways here next : List Way) →
+    nodes ≡ all → j ≡ suc i → i < length nodes → one ≡ get_or nodes i one → Adds (asked_node one) (placed_nodes old) (placed_nodes new) here next →
+    Follows (asked_nodes (take i all)) (placed_nodes old) ways here → Follows (asked_nodes (take j all)) (placed_nodes new) ways next
+followed_more nodes all i j one old new ways here next whole more below is adds before =
     subst (λ k. Follows (asked_nodes (take k all)) (placed_nodes new) ways next) (sym more)
     (subst (λ n. Follows (asked_nodes (take (suc i) n)) (placed_nodes new) ways next) whole
-    (subst (λ n. Follows (asked_nodes (take (suc i) nodes)) (placed_nodes n) ways next) (sym pushed)
-    (record {
-      same = λ rest.
-          ap written (placed_more old made rest)
-          ∙ subst (λ n. written (placed_nodes old (placed_node made rest)) ≡ asked_nodes (take i n) (written (placed_node made rest))) (sym whole) (before.same (placed_node made rest))
-          ∙ ap (asked_nodes (take i nodes)) (after.same rest)
-          ∙ sym (asked_more nodes i one (written rest) below is);
-      takes = λ rest others takes.
-          subst (λ n. Takes ways n others) (sym (placed_more old made rest))
-          (before.takes (placed_node made rest) others (after.takes rest others takes));
-    })))
+    (followed_same (λ rest. asked_nodes (take i nodes) (asked_node one rest)) (asked_nodes (take (suc i) nodes)) (placed_nodes new) (placed_nodes new) ways next
+    (λ rest. asked_more nodes i one rest below is) (λ rest. refl)
+    (adds (asked_nodes (take i nodes)) ways (subst (λ n. Follows (asked_nodes (take i n)) (placed_nodes old) ways here) (sym whole) before))))
 
 pub take_whole : {A : Type 0} (nodes : List (Node A)) (i : ℕ) → length nodes ≤ i → take i nodes ≡ nodes
 take_whole [] zero long = refl
@@ -115,26 +130,26 @@ pub placed_fragment : {A : Type 0} (slot : Named A) (rest : Nodes node.Placed) �
     placed_node (placed.Fragment slot) rest ≡ node.Fragment (named_of slot) rest
 placed_fragment slot rest = search (rules, placed.the_lemmas)
 
-pub markup_followed : (A : Type 0) (text : Bor (List ℕ)) (p : Position) (markup : StoredMarkup) (ways next : List Way) → markup.text.now ≡ text.now →
-    ((way : Way) → Among way ways → GoesOn way text.now next) →
-    Follows (asked_node {A = A} (asked.Markup text p)) (placed_node {A = A} (placed.Markup markup)) ways next
-markup_followed A text p markup ways next is goes =
-    followed_same (node.Markup text.now) _ (node.Markup text.now) _ ways next (asked_markup A text p)
+pub markup_followed : (A : Type 0) (text : Bor (List ℕ)) (markup : StoredMarkup) (ways next : List Way) → markup.text.now ≡ text.now →
+    ((way : Way) → Among way ways → GoesOn way text.now next) → Follows (node.Markup text.now) (placed_node {A = A} (placed.Markup markup)) ways next
+markup_followed A text markup ways next is goes =
+    followed_same (node.Markup text.now) (node.Markup text.now) (node.Markup text.now) _ ways next (λ rest. refl)
     (λ rest. placed_markup A markup rest ∙ ap (λ bytes. node.Markup bytes rest) is)
     (record { same = λ rest. refl; takes = λ rest others takes. (next, goes, takes) })
 
 pub slot_followed : {A : Type 0} (slot : Asked) (made : Placed A) (ways next : List Way) → named_of made.asked ≡ asked_of slot →
     ((way : Way) → Among way ways → GoesPast way (slot_of made) next) →
-    Follows (asked_node {A = A} (asked.Slot slot)) (placed_node (placed.Slot made)) ways next
-slot_followed {A} slot made ways next is goes =
-    followed_same (node.Slot (asked_of slot)) _ (node.Slot (slot_of made)) _ ways next (asked_slot A slot) (placed_slot made)
+    Follows (node.Slot (asked_of slot)) (placed_node (placed.Slot made)) ways next
+slot_followed slot made ways next is goes =
+    followed_same (node.Slot (asked_of slot)) (node.Slot (asked_of slot)) (node.Slot (slot_of made)) _ ways next (λ rest. refl) (placed_slot made)
     (record { same = λ rest. ap (λ a. node.Slot a (written rest)) is; takes = λ rest others takes. (next, goes, takes) })
 
 pub fragment_followed : {A : Type 0} (slot : Asked) (made : Named A) (ways : List Way) → named_of made ≡ asked_of slot →
     ((way : Way) → Among way ways → way ≡ first_way) →
-    Follows (asked_node {A = A} (asked.Fragment slot)) (placed_node (placed.Fragment made)) ways ways
-fragment_followed {A} slot made ways is first =
-    followed_same (node.Fragment (asked_of slot)) _ (node.Fragment (named_of made)) _ ways ways (asked_fragment A slot) (placed_fragment made)
+    Follows (node.Fragment (asked_of slot)) (placed_node (placed.Fragment made)) ways ways
+fragment_followed slot made ways is first =
+    followed_same (node.Fragment (asked_of slot)) (node.Fragment (asked_of slot)) (node.Fragment (named_of made)) _ ways ways (λ rest. refl)
+    (placed_fragment made)
     (record {
       same = λ rest. ap (λ a. node.Fragment a (written rest)) is;
       takes = λ rest others takes. (ways, λ way among. (first way among, among), takes);
@@ -190,14 +205,15 @@ times_written opening made tag times =
     ap (λ (t : node.Asked). record { name = t.name; position = t.position; times = written_times made.times }) tag
     ∙ ap (λ t. record { name = words_of opening.name.now; position = opening.position; times = t }) times
 
-pub section_followed : {A : Type 0} (opening : Opening) (made : Opened A) (body otherwise : Vec (Node A) A) (inner other : Vec (PlacedNode A) A)
+pub section_followed : {A : Type 0} (opening : Opening) (made : Opened A) (body otherwise : Before node.Asked) (inner other : Vec (PlacedNode A) A)
     (ways out away next : List Way) → named_of made.tag ≡ record { name = words_of opening.name.now; position = opening.position } →
-    written_times made.times ≡ written_times opening.times → FollowsBody (asked_nodes body.items) (placed_nodes inner.items) made.times ways out →
-    Follows (asked_nodes otherwise.items) (placed_nodes other.items) ways away → AreAmong out next → AreAmong away next →
-    Follows (asked_node (asked.Section opening body otherwise)) (placed_node (placed.Section made inner other)) ways next
+    written_times made.times ≡ written_times opening.times → FollowsBody body (placed_nodes inner.items) made.times ways out →
+    Follows otherwise (placed_nodes other.items) ways away → AreAmong out next → AreAmong away next →
+    Follows (λ rest. node.Section (written_opening (opening_of opening)) (body node.End) (otherwise node.End) rest)
+    (placed_node (placed.Section made inner other)) ways next
 section_followed opening made body otherwise inner other ways out away next tag times passes follows out_next away_next =
-    followed_same _ _ _ _ ways next (asked_section opening body otherwise) (placed_section made inner other)
-    (followed_section (opening_of opening) (opened_of made) (asked_nodes body.items) (asked_nodes otherwise.items) (placed_nodes inner.items)
+    followed_same _ _ _ _ ways next (λ rest. refl) (placed_section made inner other)
+    (followed_section (opening_of opening) (opened_of made) body otherwise (placed_nodes inner.items)
     (placed_nodes other.items) ways out away next (times_written opening made tag times) passes follows out_next away_next)
 
 -- ---- bodies

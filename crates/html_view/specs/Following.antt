@@ -40,6 +40,11 @@ pub record Follows (asked : Before Asked) (placed : Before Placed) (ways next : 
   pub same : (rest : Nodes Placed) → written (placed rest) ≡ asked (written rest)
   pub takes : (rest : Nodes Placed) (others : List spec.Way) → Takes next rest others → Takes ways (placed rest) others
 
+-- behind nodes that are followed to these ways, a node that was placed is followed from them
+abbrev pub Adds : Before Asked → Before Placed → Before Placed → List spec.Way → List spec.Way → Type 0
+Adds asked old new ways next =
+    (front : Before Asked) (first : List spec.Way) → Follows front old first ways → Follows (λ rest. front (asked rest)) new first next
+
 -- the same of a body that may stand so often, from these ways on or more
 pub record FollowsBody (asked : Before Asked) (placed : Before Placed) (times : Times) (ways out : List spec.Way) : Type 0 where
   pub head : List spec.Way

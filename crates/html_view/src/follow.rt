@@ -1,15 +1,25 @@
 //! Following all ways through nodes, which tells where each slot stands.
-ghost use Rattle.std.specs.Prelude.{◌≡◌, ◌≢◌, IfOk, IfSome};
-ghost use Rattle.html_view.specs.Following.{Follows, FollowsBody, ways_of};
-ghost use Rattle.html_view.specs.Kept.{asked_node, asked_nodes, placed_node, placed_nodes};
-ghost use Rattle.html_view.specs.Nodes.{written_times};
+ghost use Rattle.std.specs.Prelude.{◌≡◌, ◌≢◌, List, IfOk, IfSome, OnOk};
+ghost use Rattle.html_view.specs.Following.{Adds, Follows, FollowsBody, ways_of};
+ghost use Rattle.html_view.specs.Kept.{
+  Before,
+  asked_node,
+  asked_nodes,
+  asked_of,
+  opening_of,
+  placed_node,
+  placed_nodes,
+};
+ghost use Rattle.html_view.specs.Nodes as spec;
+ghost use Rattle.html_view.specs.Nodes.{written_opening, written_times};
+ghost use Rattle.html_view.specs.Ways.{Way};
 ghost use Rattle.html_view.specs.declared.node.Times.TheVariants.{Each};
 
 use crate::checked::CheckedSlot;
 use crate::faults::{Position, ViewFault};
 use crate::heads::{Heads, Known};
-use crate::history::Entry;
-use crate::node::{Node, Opening, Times};
+use crate::history::{Entry, History};
+use crate::node::{Asked, Node, Opening, Times};
 use crate::placed::{Named, Opened, Placed, PlacedNode};
 use crate::ways::{MOST_WAYS, Ways};
 use html_template::StoredMarkup;
@@ -42,13 +52,32 @@ pub(crate) fn follow<'a, A: Allocator + Copy>(
     let mut rest = nodes.as_slice();
     for node in nodes {
         rest = behind_first(rest);
-        let followed = follow_node(alloc, node, first_markup(rest, next), ways, heads)?;
-        match placed.push(followed) {
-            Ok(()) => {}
-            Err(_) => return Err(ViewFault::Memory),
-        }
+        follow_node(
+            alloc,
+            node,
+            first_markup(rest, next),
+            ways,
+            heads,
+            &mut placed,
+        )?;
     }
     Ok(placed)
+}
+
+// Adds a node.
+#[inline(always)]
+fn add<'a, A: Allocator>(
+    placed: &mut Vec<PlacedNode<'a, A>, A>,
+    node: PlacedNode<'a, A>,
+) -> Result<(), ViewFault>
+    ensures { OnOk result ((asked : Before spec.Asked) (ways next : List Way)
+        → Follows asked (placed_node node.entry) ways next
+        → Adds asked (placed_nodes placed.old.items) (placed_nodes placed.new.items) ways next) }
+{
+    let Ok(()) = placed.push(node) else {
+        return Err(ViewFault::Memory);
+    };
+    Ok(())
 }
 
 fn behind_first<'m, 'a, A: Allocator>(nodes: &'m [Node<'a, A>]) -> &'m [Node<'a, A>] {
@@ -87,52 +116,103 @@ fn own_markup<'m, 'a, A: Allocator>(node: &'m Node<'a, A>, next: &'m [u8]) -> &'
     }
 }
 
-// Follows ways through a node, behind which this markup is guessed to stand.
+// Follows ways through a node, behind which this markup is guessed to stand, and adds it. It is put where it stays
+// as soon as it is made, and what is not markup is called: most nodes are larger than markup is, and none is moved.
 #[cycle(follow)]
+#[inline(always)]
 fn follow_node<'a, A: Allocator + Copy>(
     alloc: A,
     node: &Node<'a, A>,
     next: &[u8],
     ways: &mut Ways<A>,
     heads: &mut Heads<A>,
-) -> Result<PlacedNode<'a, A>, ViewFault>
-    ensures { IfOk result (λ placed. Follows (asked_node node.now) (placed_node placed)
-        (ways_of ways.old) (ways_of ways.new)) }
+    placed: &mut Vec<PlacedNode<'a, A>, A>,
+) -> Result<(), ViewFault>
+    ensures { OnOk result (Adds (asked_node node.now) (placed_nodes placed.old.items)
+        (placed_nodes placed.new.items) (ways_of ways.old) (ways_of ways.new)) }
 {
     match node {
         Node::Markup(text, position) => {
             ways.take_markup(text.as_bytes(), *position, &mut heads.history)?;
-            Ok(PlacedNode::Markup(StoredMarkup::new(*text)))
+            add(placed, PlacedNode::Markup(StoredMarkup::new(*text)))
         }
-        Node::Slot(slot) => {
-            let found = ways.take_slot(next, slot.position, &mut heads.history)?;
-            let asked = Named::of(alloc, slot.name, slot.position)?;
-            Ok(PlacedNode::Slot(Placed {
-                asked,
-                checked: CheckedSlot::new(found.place, found.kind),
-            }))
-        }
-        Node::Fragment(slot) => {
-            if !ways.are_first() {
-                return Err(ViewFault::NotInText(slot.position));
-            }
-            let named = Named::of(alloc, slot.name, slot.position)?;
-            Ok(PlacedNode::Fragment(named))
-        }
+        Node::Slot(slot) => follow_slot(alloc, *slot, next, ways, &mut heads.history, placed),
+        Node::Fragment(slot) => follow_fragment(alloc, *slot, ways, placed),
         Node::Section(opening, body, otherwise) => {
             let number = heads.open()?;
             let passes = follow_body(alloc, number, *opening, body, next, ways, heads)?;
             let other = follow(alloc, Entry::Other(number), otherwise, next, ways, heads)?;
-            // Of two ways that are one, that with fewer sections standing is kept.
-            ways.add_all(&passes.ways, opening.position)?;
-            let tag = Named::of(alloc, opening.name, opening.position)?;
-            let opened = Opened {
-                tag,
-                times: passes.times,
-            };
-            Ok(PlacedNode::Section(opened, passes.nodes, other))
+            add_section(alloc, *opening, passes, other, ways, placed)
         }
     }
+}
+
+// Follows ways through a slot.
+#[inline(never)]
+fn follow_slot<'a, A: Allocator + Copy>(
+    alloc: A,
+    slot: Asked<'a>,
+    next: &[u8],
+    ways: &mut Ways<A>,
+    history: &mut History<A>,
+    placed: &mut Vec<PlacedNode<'a, A>, A>,
+) -> Result<(), ViewFault>
+    ensures { OnOk result (Adds (λ rest. spec.Slot (asked_of slot.entry) rest)
+        (placed_nodes placed.old.items) (placed_nodes placed.new.items) (ways_of ways.old)
+        (ways_of ways.new)) }
+{
+    let found = ways.take_slot(next, slot.position, history)?;
+    let asked = Named::of(alloc, slot.name, slot.position)?;
+    let checked = CheckedSlot::new(found.place, found.kind);
+    add(placed, PlacedNode::Slot(Placed { asked, checked }))
+}
+
+// Follows ways through a slot for a fragment.
+#[inline(never)]
+fn follow_fragment<'a, A: Allocator + Copy>(
+    alloc: A,
+    slot: Asked<'a>,
+    ways: &Ways<A>,
+    placed: &mut Vec<PlacedNode<'a, A>, A>,
+) -> Result<(), ViewFault>
+    ensures { OnOk result (Adds (λ rest. spec.Fragment (asked_of slot.entry) rest)
+        (placed_nodes placed.old.items) (placed_nodes placed.new.items) (ways_of ways.now)
+        (ways_of ways.now)) }
+{
+    if !ways.are_first() {
+        return Err(ViewFault::NotInText(slot.position));
+    }
+    let named = Named::of(alloc, slot.name, slot.position)?;
+    add(placed, PlacedNode::Fragment(named))
+}
+
+// Adds a section with this body, and with what stands where it does not, behind which these ways are.
+#[inline(never)]
+fn add_section<'a, A: Allocator + Copy>(
+    alloc: A,
+    opening: Opening<'a>,
+    passes: FollowedBody<'a, A>,
+    other: Vec<PlacedNode<'a, A>, A>,
+    ways: &mut Ways<A>,
+    placed: &mut Vec<PlacedNode<'a, A>, A>,
+) -> Result<(), ViewFault>
+    ensures { OnOk result ((body otherwise : Before spec.Asked) (before : List Way)
+        → written_times passes.entry.times ≡ written_times opening.entry.times
+        → FollowsBody body (placed_nodes passes.entry.nodes.items) passes.entry.times before
+        (ways_of passes.entry.ways)
+        → Follows otherwise (placed_nodes other.entry.items) before (ways_of ways.old)
+        → Adds (λ rest. spec.Section (written_opening (opening_of opening.entry)) (body spec.End)
+        (otherwise spec.End) rest) (placed_nodes placed.old.items) (placed_nodes placed.new.items)
+        before (ways_of ways.new)) }
+{
+    // Of two ways that are one, that with fewer sections standing is kept.
+    ways.add_all(&passes.ways, opening.position)?;
+    let tag = Named::of(alloc, opening.name, opening.position)?;
+    let opened = Opened {
+        tag,
+        times: passes.times,
+    };
+    add(placed, PlacedNode::Section(opened, passes.nodes, other))
 }
 
 // Follows ways through the body of a section.

@@ -1,13 +1,11 @@
-use Rattle.std.proofs.Common.{rules, ◌≤◌, ◌+◌, ◌∙◌, List, length, subst, sym, arith}
-use Rattle.html_view.specs.Following.{Follows, ways_of}
-use Rattle.html_view.specs.Kept.{asked_node, asked_nodes, placed_node, placed_nodes}
+use Rattle.std.proofs.Common.{◌≤◌, ◌+◌, ◌∙◌, List, length, subst, sym, arith}
+use Rattle.html_view.specs.Following.{Adds, ways_of}
+use Rattle.html_view.specs.Kept.{asked_node, asked_nodes, asked_of, placed_nodes}
+use Rattle.html_view.specs.Nodes as node
 use Rattle.html_view.specs.Takes.{AreAmong, GoesOn}
 use Rattle.html_view.specs.declared.node.Node.{Node}
-use Rattle.html_view.specs.declared.placed.Opened.{Opened}
-use Rattle.html_view.specs.declared.placed.Placed.{Placed}
-use Rattle.html_view.specs.declared.placed.PlacedNode.{Fragment, Markup, Section, Slot}
 use Rattle.html_view.specs.declared.node.Times.TheVariants.{Each}
-use Rattle.html_view.proofs.Followed.{all_among, body_back, body_once, body_wider, followed_all, followed_more, followed_start, fragment_followed, markup_followed, section_followed, slot_followed}
+use Rattle.html_view.proofs.Followed.{added_same, all_among, asked_fragment, asked_markup, asked_section, asked_slot, body_back, body_once, body_wider, followed_all, followed_more, followed_start, markup_followed, when_ok}
 use Rattle.html_view.proofs.follow.+follow.Goals as goal
 use Rattle.html_view.proofs.follow.+follow.Goals.{follow_again-in-Some, follow_again-in-None}
 
@@ -19,9 +17,9 @@ follow-loop-node-init g t c =
 pub follow-loop-node-preserved : goal.follow-loop-node-preserved
 follow-loop-node-preserved g t c =
     followed_more c.deref-node-items.result.now c.args.nodes.now.items c.loop-node.node-index (c.loop-node.node-index + 1) c.node-item.result
-    c.loop-node.placed.items c.push.new.self.items c.in_ok-followed.followed (ways_of c.args.ways.now) (ways_of c.loop-node.ways)
-    (ways_of c.follow_node.new.ways) c.deref-node-items.ensures.value (omega arith) (omega arith) c.node-item.is (search rules)
-    c.loop-node.invariant c.in_ok-followed.ensures
+    c.loop-node.placed.items c.follow_node.new.placed.items (ways_of c.args.ways.now) (ways_of c.loop-node.ways)
+    (ways_of c.follow_node.new.ways) c.deref-node-items.ensures.value (omega arith) (omega arith) c.node-item.is c.in_ok-follow_node.ensures
+    c.loop-node.invariant
 
 pub follow-returns : goal.follow-returns
 follow-returns g t c =
@@ -60,34 +58,46 @@ follow_new-returns-in-Some-clause-body g t c =
 
 pub follow_node-returns-in_ok-take_markup-in-Markup : goal.follow_node-returns-in_ok-take_markup-in-Markup
 follow_node-returns-in_ok-take_markup-in-Markup g t c =
-    subst (λ (n : Node _). Follows (asked_node n) (placed_node (Markup c.new.result)) (ways_of c.args.ways.now) (ways_of c.take_markup.new.self))
+    when_ok c.add.result
+    (λ adds. subst
+    (λ (n : Node _). Adds (asked_node n) (placed_nodes c.args.placed.now.items) (placed_nodes c.add.new.placed.items) (ways_of c.args.ways.now)
+    (ways_of c.take_markup.new.self))
     (sym c.in-Markup.is)
-    (markup_followed _ c.in-Markup.text c.in-Markup.position c.new.result (ways_of c.args.ways.now) (ways_of c.take_markup.new.self) c.new.ensures
-    (λ way among. subst (λ b. GoesOn way b (ways_of c.take_markup.new.self)) c.as_bytes.ensures.value (c.in_ok-take_markup-in-Markup.ensures way among)))
+    (added_same (node.Markup c.in-Markup.text.now) _ _ _ _ _ (asked_markup _ c.in-Markup.text c.in-Markup.position)
+    (adds (node.Markup c.in-Markup.text.now) (ways_of c.args.ways.now) (ways_of c.take_markup.new.self)
+    (markup_followed _ c.in-Markup.text c.new.result (ways_of c.args.ways.now) (ways_of c.take_markup.new.self) c.new.ensures
+    (λ way among. subst (λ b. GoesOn way b (ways_of c.take_markup.new.self)) c.as_bytes.ensures.value (c.in_ok-take_markup-in-Markup.ensures way among))))))
+    c.add.ensures
 
-pub follow_node-returns-in_ok-asked-in-Slot : goal.follow_node-returns-in_ok-asked-in-Slot
-follow_node-returns-in_ok-asked-in-Slot g t c =
-    let made : Placed _ = record { asked = c.in_ok-asked-in-Slot.asked; checked = c.new-in-Slot.result } in
-    subst (λ (n : Node _). Follows (asked_node n) (placed_node (Slot made)) (ways_of c.args.ways.now) (ways_of c.take_slot.new.self)) (sym c.in-Slot.is)
-    (slot_followed c.in-Slot.slot made (ways_of c.args.ways.now) (ways_of c.take_slot.new.self) c.in_ok-asked-in-Slot.ensures
-    (c.in_ok-found-in-Slot.ensures _ (sym c.new-in-Slot.ensures.place) (sym c.new-in-Slot.ensures.kind)))
+pub follow_node-returns-in-Slot : goal.follow_node-returns-in-Slot
+follow_node-returns-in-Slot g t c =
+    when_ok c.follow_slot.result
+    (λ adds. subst
+    (λ (n : Node _). Adds (asked_node n) (placed_nodes c.args.placed.now.items) (placed_nodes c.follow_slot.new.placed.items) (ways_of c.args.ways.now)
+    (ways_of c.follow_slot.new.ways))
+    (sym c.in-Slot.is) (added_same (node.Slot (asked_of c.in-Slot.slot)) _ _ _ _ _ (asked_slot _ c.in-Slot.slot) adds))
+    c.follow_slot.ensures
 
-pub follow_node-returns-in_ok-named-in-Fragment : goal.follow_node-returns-in_ok-named-in-Fragment
-follow_node-returns-in_ok-named-in-Fragment g t c =
-    subst (λ (n : Node _). Follows (asked_node n) (placed_node (Fragment c.in_ok-named-in-Fragment.named)) (ways_of c.args.ways.now) (ways_of c.args.ways.now))
-    (sym c.in-Fragment.is)
-    (fragment_followed c.in-Fragment.slot c.in_ok-named-in-Fragment.named (ways_of c.args.ways.now) c.in_ok-named-in-Fragment.ensures (c.are_first.ensures c.if-not-are_first.false))
+pub follow_node-returns-in-Fragment : goal.follow_node-returns-in-Fragment
+follow_node-returns-in-Fragment g t c =
+    when_ok c.follow_fragment.result
+    (λ adds. subst
+    (λ (n : Node _). Adds (asked_node n) (placed_nodes c.args.placed.now.items) (placed_nodes c.follow_fragment.new.placed.items) (ways_of c.args.ways.now)
+    (ways_of c.args.ways.now))
+    (sym c.in-Fragment.is) (added_same (node.Fragment (asked_of c.in-Fragment.slot)) _ _ _ _ _ (asked_fragment _ c.in-Fragment.slot) adds))
+    c.follow_fragment.ensures
 
-pub follow_node-returns-in_ok-tag-in-Section : goal.follow_node-returns-in_ok-tag-in-Section
-follow_node-returns-in_ok-tag-in-Section g t c =
-    let made : Opened _ = record { tag = c.in_ok-tag-in-Section.tag; times = c.in_ok-passes-in-Section.passes.times } in
-    subst (λ (n : Node _). Follows (asked_node n)
-    (placed_node (Section made c.in_ok-passes-in-Section.passes.nodes c.in_ok-other-in-Section.other)) (ways_of c.args.ways.now) (ways_of c.add_all.new.self))
+pub follow_node-returns-in_ok-other-in-Section : goal.follow_node-returns-in_ok-other-in-Section
+follow_node-returns-in_ok-other-in-Section g t c =
+    when_ok c.add_section.result
+    (λ adds. subst
+    (λ (n : Node _). Adds (asked_node n) (placed_nodes c.args.placed.now.items) (placed_nodes c.add_section.new.placed.items) (ways_of c.args.ways.now)
+    (ways_of c.add_section.new.ways))
     (sym c.in-Section.is)
-    (section_followed c.in-Section.opening made c.in-Section.body c.in-Section.otherwise c.in_ok-passes-in-Section.passes.nodes
-    c.in_ok-other-in-Section.other (ways_of c.args.ways.now) (ways_of c.in_ok-passes-in-Section.passes.ways) (ways_of c.follow.new.ways)
-    (ways_of c.add_all.new.self) c.in_ok-tag-in-Section.ensures c.in_ok-passes-in-Section.ensures.times c.in_ok-passes-in-Section.ensures.body
-    c.in_ok-other-in-Section.ensures c.in_ok-add_all-in-Section.ensures.added c.in_ok-add_all-in-Section.ensures.kept)
+    (added_same _ _ _ _ _ _ (asked_section c.in-Section.opening c.in-Section.body c.in-Section.otherwise)
+    (adds (asked_nodes c.in-Section.body.items) (asked_nodes c.in-Section.otherwise.items) (ways_of c.args.ways.now)
+    c.in_ok-passes-in-Section.ensures.times c.in_ok-passes-in-Section.ensures.body c.in_ok-other-in-Section.ensures)))
+    c.add_section.ensures
 
 pub follow_rounds-returns-then-has_all-clause-body : goal.follow_rounds-returns-then-has_all-clause-body
 follow_rounds-returns-then-has_all-clause-body g t c =
