@@ -6,7 +6,8 @@ ghost use Rattle.std.specs.Prelude.{◌≡◌, ℕ, IsTrue, List, [], true};
 ghost use Rattle.html_tokenizer.specs.Tokenizer.Attributes.{attribute_of, content_after, content_after_pragma, fixed, followed, holds_declarations, holds_language, holds_url, holds_urls, is_cache_header, is_javascript, is_json, is_script_tag, is_shown_relation, is_switch, names_script_type, raw_value, reference_read, resource_value, value_but_of, value_byte_read, value_of, without_value};
 ghost use Rattle.html_tokenizer.specs.Tokenizer.Elements.{is_meta};
 ghost use Rattle.html_tokenizer.specs.Tokenizer.Phases.{attribute_in, moved, word_after};
-ghost use Rattle.html_tokenizer.specs.Tokenizer.States.{Ordinary};
+ghost use Rattle.html_tokenizer.specs.Tokenizer.Attributes.StyleParts.{declarations_read};
+ghost use Rattle.html_tokenizer.specs.Tokenizer.States.{Declarations, Ordinary};
 
 use crate::attributes::declarations::declarations_read;
 use crate::attributes::encodings::{is_utf_8, names_no_other};
@@ -86,7 +87,7 @@ fn attribute_of(name: &[u8]) -> Kind
     } else if holds_url(name) {
         Kind::Url
     } else if holds_declarations(name) {
-        Kind::Declarations(StylePart::BeforeName)
+        Kind::BeforeDeclaration
     } else {
         Kind::Ordinary
     }
@@ -316,6 +317,20 @@ fn content_after_word(content: Content, kind: Kind, word: &[u8]) -> Option<Conte
     }
 }
 
+// A `style` after one byte more, where its value was in this part of a declaration.
+fn style_read(part: StylePart, byte: u8) -> Kind
+    ensures { (word : List ℕ) → attribute_in result word ≡ Declarations (declarations_read part byte) }
+{
+    match declarations_read(part, byte) {
+        StylePart::BeforeName => Kind::BeforeDeclaration,
+        StylePart::Name => Kind::DeclarationName,
+        StylePart::AfterName => Kind::AfterDeclarationName,
+        StylePart::Value => Kind::DeclarationValue,
+        StylePart::Important => Kind::Important,
+        StylePart::Opaque => Kind::OpaqueStyle,
+    }
+}
+
 /// After one byte more of an attribute's value, and what becomes of the word.
 pub(crate) fn value_byte_read(kind: Kind, word: &[u8], byte: u8) -> (Kind, Word)
     ensures { attribute_in result.0 (word_after result.1 word.now)
@@ -326,9 +341,11 @@ pub(crate) fn value_byte_read(kind: Kind, word: &[u8], byte: u8) -> (Kind, Word)
             (kind, Word::Add(byte.to_ascii_lowercase()))
         }
         Kind::Raw if byte == b'<' => (Kind::Unread, Word::New),
-        Kind::Declarations(part) => {
-            (Kind::Declarations(declarations_read(part, byte)), Word::New)
-        }
+        Kind::BeforeDeclaration => (style_read(StylePart::BeforeName, byte), Word::New),
+        Kind::DeclarationName => (style_read(StylePart::Name, byte), Word::New),
+        Kind::AfterDeclarationName => (style_read(StylePart::AfterName, byte), Word::New),
+        Kind::DeclarationValue => (style_read(StylePart::Value, byte), Word::New),
+        Kind::Important => (style_read(StylePart::Important, byte), Word::New),
         _ => (kind, Word::New),
     }
 }
@@ -342,7 +359,12 @@ pub(crate) fn reference_read(kind: Kind) -> Kind
         Kind::Ordinary | Kind::Link | Kind::Url | Kind::FixedUrl => kind,
         Kind::Encoding | Kind::Pragma | Kind::PageType | Kind::Unread => Kind::Unread,
         Kind::Raw => Kind::Raw,
-        Kind::Declarations(_) => Kind::Declarations(StylePart::Opaque),
+        Kind::BeforeDeclaration
+        | Kind::DeclarationName
+        | Kind::AfterDeclarationName
+        | Kind::DeclarationValue
+        | Kind::Important
+        | Kind::OpaqueStyle => Kind::OpaqueStyle,
         _ => Kind::Forbidden,
     }
 }
@@ -353,7 +375,12 @@ pub(crate) fn fixed(kind: Kind) -> Kind
 {
     match kind {
         Kind::Ordinary => Kind::Forbidden,
-        Kind::Declarations(_) => Kind::Declarations(StylePart::Opaque),
+        Kind::BeforeDeclaration
+        | Kind::DeclarationName
+        | Kind::AfterDeclarationName
+        | Kind::DeclarationValue
+        | Kind::Important
+        | Kind::OpaqueStyle => Kind::OpaqueStyle,
         Kind::Link | Kind::Url => Kind::FixedUrl,
         _ => kind,
     }

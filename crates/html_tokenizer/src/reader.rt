@@ -6,6 +6,7 @@ pub(crate) mod stretches;
 ghost use Rattle.std.specs.Prelude.{◌≡◌, ◌≤◌, ◌↔◌, [], IfOk, OnOk, IsTrue, length};
 ghost use Rattle.html_tokenizer.specs.Standing.{AfterStanding, in_declaration, is_between_attributes, is_refused, may_end, standing};
 ghost use Rattle.html_tokenizer.specs.Tokenizer.Attributes.{reference_read};
+ghost use Rattle.html_tokenizer.specs.declared.states.StylePart.TheVariants.{Value};
 ghost use Rattle.html_tokenizer.specs.Tokenizer.Code.Strings.{script_escape_byte};
 ghost use Rattle.html_tokenizer.specs.Tokenizer.Phases.{HoldsLetters, IsBeforeName, IsNoScriptEscape, IsTextOrValue, ReadsOn, attribute_in, moved, tokenizer_of};
 ghost use Rattle.html_tokenizer.specs.Tokenizer.States.{at, data_state};
@@ -24,7 +25,7 @@ use crate::reader::names::{MOST_LETTERS, begun_name, read_letters};
 use crate::reader::same::{holds_word, is_same_content, is_same_kind, is_same_phase};
 use crate::reader::stretches::{script_words, stretch, text_stretch};
 use crate::slot_place::SlotPlace;
-use crate::states::{Code, Kind, Move, Phase, StylePart, Word, goes, refuses, to};
+use crate::states::{Code, Kind, Move, Phase, Word, goes, refuses, to};
 use std::alloc::{AllocError, Allocator};
 
 /// Where a slot stands.
@@ -57,14 +58,12 @@ pub struct Reader<A: Allocator> {
     word: Vec<u8, A>,
 }
 
-// A slot in a `style`, in quotes or not.
-fn in_declaration(part: StylePart, place: SlotPlace) -> Standing
-    ensures { result ≡ in_declaration part place }
+// A slot in the value of a declaration, in quotes or not.
+fn in_declaration(place: SlotPlace) -> Standing
+    ensures { result ≡ in_declaration Value place }
 {
-    match (part, place) {
-        (StylePart::Value, SlotPlace::DoubleQuoted | SlotPlace::SingleQuoted) => {
-            Standing::InDeclaration(place)
-        }
+    match place {
+        SlotPlace::DoubleQuoted | SlotPlace::SingleQuoted => Standing::InDeclaration(place),
         _ => Standing::Barred,
     }
 }
@@ -442,7 +441,8 @@ impl<A: Allocator> Reader<A> {
         match self.kind {
             Kind::Link | Kind::Url | Kind::FixedUrl => true,
             Kind::Ordinary | Kind::Forbidden | Kind::Unread | Kind::Raw => false,
-            Kind::Declarations(_) => false,
+            Kind::BeforeDeclaration | Kind::DeclarationName | Kind::AfterDeclarationName => false,
+            Kind::DeclarationValue | Kind::Important | Kind::OpaqueStyle => false,
             Kind::ScriptType | Kind::Encoding | Kind::Pragma => false,
             Kind::PageType | Kind::Relation => false,
         }
@@ -477,7 +477,7 @@ impl<A: Allocator> Reader<A> {
             (Phase::In(place), Kind::Ordinary) => Standing::Stands(place),
             (Phase::In(place), Kind::Url) => Standing::InUrl(place),
             (Phase::In(place), Kind::Link) => Standing::InLink(place),
-            (Phase::In(place), Kind::Declarations(part)) => in_declaration(part, place),
+            (Phase::In(place), Kind::DeclarationValue) => in_declaration(place),
             (Phase::BeforeValue, Kind::Ordinary) => Standing::Stands(SlotPlace::Unquoted),
             (Phase::In(_) | Phase::BeforeValue, _) => Standing::Barred,
             (Phase::InCode(code), _) if is_opaque(code) => Standing::Barred,

@@ -162,7 +162,13 @@ pub enum StylePart {
 pub(crate) enum Kind {
     Ordinary,
     Forbidden,
-    Declarations(StylePart),
+    // A `style`, by where in a declaration its value is. They hold nothing, as a field makes every move larger.
+    BeforeDeclaration,
+    DeclarationName,
+    AfterDeclarationName,
+    DeclarationValue,
+    Important,
+    OpaqueStyle,
     Link,
     Url,
     FixedUrl,

@@ -2,6 +2,7 @@
 use Rattle.std.specs.Prelude.{⊤, ℕ, ◌≡◌, ◌≤◌, false, true, List, [], ◌∷◌, ◌++◌, length, take}
 use Rattle.html_tokenizer.specs.declared.slot_place.SlotPlace.TheVariants as place
 use Rattle.html_tokenizer.specs.declared.reader.Reader.{Reader}
+use Rattle.html_tokenizer.specs.declared.states.StylePart.TheVariants as style
 use Rattle.html_tokenizer.specs.declared.states.Kind.{Kind}
 use Rattle.html_tokenizer.specs.declared.states.Kind.TheVariants as kind
 use Rattle.html_tokenizer.specs.declared.states.Move.{Move}
@@ -59,7 +60,12 @@ state_of phase.Refused word = state.Refused
 abbrev pub attribute_in : Kind → List ℕ → Attribute
 attribute_in kind.Ordinary word = state.Ordinary
 attribute_in kind.Forbidden word = state.Forbidden
-attribute_in (kind.Declarations part) word = state.Declarations part
+attribute_in kind.BeforeDeclaration word = state.Declarations style.BeforeName
+attribute_in kind.DeclarationName word = state.Declarations style.Name
+attribute_in kind.AfterDeclarationName word = state.Declarations style.AfterName
+attribute_in kind.DeclarationValue word = state.Declarations style.Value
+attribute_in kind.Important word = state.Declarations style.Important
+attribute_in kind.OpaqueStyle word = state.Declarations style.Opaque
 attribute_in kind.Link word = state.Link
 attribute_in kind.Url word = state.Url
 attribute_in kind.FixedUrl word = state.FixedUrl
