@@ -1,3 +1,4 @@
+pub mod Addresses
 pub mod Bases
 pub mod Bytes
 pub mod Components

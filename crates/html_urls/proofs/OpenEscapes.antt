@@ -52,7 +52,7 @@ abbrev pub closes_escapes : List Given → Bool
 closes_escapes [] = true
 closes_escapes (Markup bytes ∷ []) = true
 closes_escapes (Markup bytes ∷ part ∷ parts) = not (ends_in_escape bytes) && closes_escapes (part ∷ parts)
-closes_escapes (Slot ∷ parts) = closes_escapes parts
+closes_escapes (Slot at ∷ parts) = closes_escapes parts
 
 abbrev pub ClosesEscapes : List Given → Type 0
 ClosesEscapes parts = closes_escapes parts ≡ true

@@ -1,3 +1,4 @@
 pub mod FixedHosts
+pub mod OpaqueFronts
 pub mod PlaceIs
 pub mod UrlLaw

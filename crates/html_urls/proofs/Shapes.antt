@@ -4,6 +4,7 @@ pub mod Closing
 pub mod Decoding
 pub mod Filling
 pub mod Fills
+pub mod FormSlots
 pub mod Fronts
 pub mod Pairs
 pub mod PathShapes

@@ -9,9 +9,10 @@ use Rattle.std.proofs.lemmas.List.Sums.{suffix_len-le-length}
 use Rattle.form_urlencoded.specs.Form.{onto_first, split}
 use Rattle.url.specs.Input.{trim_start, trim_end, is_c0_control_or_space, is_tab_or_new_line, trim_c0_control_and_space, strip_tabs_and_new_lines, split_once}
 use Rattle.url.proofs.InputLemmas.{IsNot, filter_all, split_around}
-use Rattle.html_urls.specs.Components.{component}
+use Rattle.html_urls.specs.Components.{component, component_at}
+use Rattle.html_urls.specs.declared.place.UrlPlace.{UrlPlace}
 use Rattle.html_urls.specs.Inputs.{IsVisible, EndsVisibly, kept, kept_rest}
-use Rattle.html_urls.proofs.Components.{component_visible}
+use Rattle.html_urls.proofs.Components.{component_visible, written_visible}
 
 -- ---- what the parser keeps
 
@@ -99,6 +100,11 @@ kept_visible (x ∷ front) rest visible =
 pub kept_around : (front text rest : List ℕ) → EndsVisibly front → kept (front ++ component text ++ rest) ≡ kept front ++ (component text ++ kept_rest rest)
 kept_around front text rest ends =
     ap kept (append_assoc front (component text) rest) ∙ kept_joined front (component text ++ rest) ends ∙ ap (λ l. kept front ++ l) (kept_visible (component text) rest (component_visible text))
+
+pub kept_around_at : (at : UrlPlace) (front text rest : List ℕ) → EndsVisibly front → kept (front ++ component_at at text ++ rest) ≡ kept front ++ (component_at at text ++ kept_rest rest)
+kept_around_at at front text rest ends =
+    ap kept (append_assoc front (component_at at text) rest) ∙ kept_joined front (component_at at text ++ rest) ends
+    ∙ ap (λ l. kept front ++ l) (kept_visible (component_at at text) rest (written_visible at text))
 
 -- ---- splitting
 

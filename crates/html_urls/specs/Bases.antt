@@ -1,5 +1,5 @@
 -- Texts with which a URL begins that goes on in its markup (URL Standard, 4.4 URL parsing: scheme start state, scheme state, no scheme state, relative state, relative slash state, authority state, path state; 4.1 URL representation: single-dot and double-dot URL path segment).
-use Rattle.std.specs.Prelude.{◌≡◌, ℕ, ◌+◌, Bool, true, false, not, ◌&&◌, ◌||◌, ◌==◌, List, [], ◌∷◌, drop, length, take, slice_index, codes, Option, Some, None, IfSome, Err, IsOkAnd, if◌then◌else◌}
+use Rattle.std.specs.Prelude.{◌≡◌, ℕ, ◌+◌, Bool, true, false, not, ◌&&◌, ◌||◌, ◌==◌, List, [], ◌∷◌, drop, length, map, take, slice_index, codes, Option, Some, None, IfSome, Err, IsOkAnd, if◌then◌else◌}
 use Rattle.std.specs.Char.{is_ascii_alphanumeric}
 use Rattle.url.specs.declared.scheme.SchemeType.TheVariants.{SpecialNotFile}
 use Rattle.url.specs.Ascii.{colon, number_sign, question_mark, slash}
@@ -7,13 +7,14 @@ use Rattle.url.specs.Parts.{Parts, cannot_be_a_base, kind_of}
 use Rattle.html_urls.specs.declared.base.BehindBase.{BehindBase}
 use Rattle.html_urls.specs.declared.base.BehindBase.TheVariants.{Slash, Tail, Segment}
 use Rattle.html_urls.specs.declared.open_part.OpenPart.{OpenPart}
-use Rattle.html_urls.specs.declared.open_part.OpenPart.TheVariants.{NewSegment, DotSegment, NamedSegment, FirstSegment, Query, Fragment}
+use Rattle.html_urls.specs.declared.open_part.OpenPart.TheVariants.{NewSegment, DotSegment, NamedSegment, FirstSegment, OpaquePath, Query, Fragment}
 use Rattle.html_urls.specs.declared.parts.UrlFault.TheVariants as fault
 use Rattle.html_urls.specs.Hosts.{is_web_scheme}
 use Rattle.html_urls.specs.Links.{mark_at}
 use Rattle.html_urls.specs.OpenParts.{after_markup, begins, is_rooted}
 use Rattle.html_urls.specs.Shapes.{front_of}
-use Rattle.html_urls.specs.Slots.{FillSlots, Given, Told, is_plain, later_slots}
+use Rattle.html_urls.specs.Slots.{FillParts, Given, Told, bare, is_plain, later_slots, placed, told_slots}
+use Rattle.html_urls.specs.declared.parts.UrlPart.{UrlPart}
 
 -- ---- the text
 
@@ -51,6 +52,7 @@ ends_as behind is_empty (Some NamedSegment) = ends_named behind
 ends_as behind is_empty (Some NewSegment) = ends_new behind is_empty
 ends_as behind is_empty (Some DotSegment) = false
 ends_as behind is_empty (Some FirstSegment) = false
+ends_as behind is_empty (Some OpaquePath) = false
 ends_as behind is_empty (Some Query) = false
 ends_as behind is_empty (Some Fragment) = false
 ends_as behind is_empty None = false
@@ -109,7 +111,11 @@ slots_behind behind parts = if goes_on_so behind (front_of parts) then later_slo
 
 -- the texts fill them
 abbrev pub FillBehind : BehindBase → List Given → List (List ℕ) → Type 0
-FillBehind behind parts texts = IsOkAnd (slots_behind behind parts) (λ slots. FillSlots slots texts)
+FillBehind behind parts texts = IsOkAnd (slots_behind behind parts) (FillParts parts texts)
+
+-- parts as they are given behind a base
+abbrev pub given_behind : BehindBase → List UrlPart → List Given
+given_behind behind parts = placed (told_slots (slots_behind behind (map bare parts))) (map bare parts)
 
 -- a page of the web: its URL, where there is one, is special and no file, and its path is not opaque
 abbrev pub IsWebPage : Option Parts → Type 0

@@ -13,8 +13,8 @@ abbrev pub decoded_behind : (List ℕ → List ℕ) → List ℕ → List Given 
 decoded_behind decoding done [] texts = done
 decoded_behind decoding done (Markup [] ∷ parts) texts = decoded_behind decoding done parts texts
 decoded_behind decoding done (Markup (b ∷ bytes) ∷ parts) texts = decoded_behind decoding (done ++ decoding (b ∷ bytes)) parts texts
-decoded_behind decoding done (Slot ∷ parts) [] = decoded_behind decoding done parts []
-decoded_behind decoding done (Slot ∷ parts) (text ∷ texts) = decoded_behind decoding (done ++ text) parts texts
+decoded_behind decoding done (Slot at ∷ parts) [] = decoded_behind decoding done parts []
+decoded_behind decoding done (Slot at ∷ parts) (text ∷ texts) = decoded_behind decoding (done ++ text) parts texts
 
 abbrev pub decoded_by : (List ℕ → List ℕ) → List Given → List (List ℕ) → List ℕ
 decoded_by decoding parts texts = decoded_behind decoding [] parts texts

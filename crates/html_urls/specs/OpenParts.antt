@@ -1,9 +1,10 @@
--- What is open at the end of a URL's beginning (URL Standard, 4.4 URL parsing: path state, query state, fragment state).
-use Rattle.std.specs.Prelude.{ℕ, Bool, true, false, not, ◌&&◌, ◌||◌, ◌==◌, eqb, List, [], ◌∷◌, ◌+◌, drop, take, slice_index, codes, Option, Some, None, if◌then◌else◌}
-use Rattle.std.specs.List.{list_any, starts_with}
+-- What is open at the end of a URL's beginning (URL Standard, 4.4 URL parsing: path state, opaque path state, query state, fragment state).
+use Rattle.std.specs.Prelude.{ℕ, Bool, true, false, not, ◌&&◌, ◌||◌, ◌==◌, eqb, List, [], ◌∷◌, ◌+◌, bytes_eq, drop, take, slice_index, codes, Option, Some, None, if◌then◌else◌}
+use Rattle.std.specs.List.{list_any, position_or_len, starts_with}
 use Rattle.url.specs.Ascii.{colon, dot, number_sign, percent_sign, question_mark, slash}
+use Rattle.url.specs.Input.{lowercase}
 use Rattle.html_urls.specs.declared.open_part.OpenPart.{OpenPart}
-use Rattle.html_urls.specs.declared.open_part.OpenPart.TheVariants.{NewSegment, DotSegment, NamedSegment, FirstSegment, Query, Fragment}
+use Rattle.html_urls.specs.declared.open_part.OpenPart.TheVariants.{NewSegment, DotSegment, NamedSegment, FirstSegment, OpaquePath, Query, Fragment}
 use Rattle.html_urls.specs.declared.parts.UrlSlot.{UrlSlot}
 use Rattle.html_urls.specs.declared.place.UrlPlace.TheVariants as place
 use Rattle.html_urls.specs.Hosts.{has_first_segment, is_first_segment, is_web_scheme}
@@ -22,12 +23,13 @@ begins_dots b = b == dot || b == percent_sign
 abbrev pub after_segment_byte : OpenPart → ℕ → OpenPart
 after_segment_byte NamedSegment b = NamedSegment
 after_segment_byte FirstSegment b = FirstSegment
+after_segment_byte OpaquePath b = if is_dot_byte b then DotSegment else NamedSegment
 after_segment_byte NewSegment b = if begins_dots b then DotSegment else NamedSegment
 after_segment_byte DotSegment b = if is_dot_byte b then DotSegment else NamedSegment
 after_segment_byte Query b = if is_dot_byte b then DotSegment else NamedSegment
 after_segment_byte Fragment b = if is_dot_byte b then DotSegment else NamedSegment
 
--- after a byte of a path, and of a query
+-- after a byte of a path, in which a `/` begins a segment unless it is opaque, and of a query
 abbrev pub after_path_byte : OpenPart → ℕ → OpenPart
 after_path_byte part b =
     if b == slash then NewSegment
@@ -38,12 +40,19 @@ after_path_byte part b =
 abbrev pub after_query_byte : ℕ → OpenPart
 after_query_byte b = if b == number_sign then Fragment else Query
 
+abbrev pub after_opaque_byte : ℕ → OpenPart
+after_opaque_byte b =
+    if b == question_mark then Query
+    else (if b == number_sign then Fragment
+    else OpaquePath)
+
 -- after a byte of markup
 abbrev pub after_byte : OpenPart → ℕ → OpenPart
 after_byte NewSegment b = after_path_byte NewSegment b
 after_byte DotSegment b = after_path_byte DotSegment b
 after_byte NamedSegment b = after_path_byte NamedSegment b
 after_byte FirstSegment b = after_path_byte FirstSegment b
+after_byte OpaquePath b = after_opaque_byte b
 after_byte Query b = after_query_byte b
 after_byte Fragment b = Fragment
 
@@ -58,6 +67,7 @@ may_be_dots DotSegment = true
 may_be_dots NewSegment = false
 may_be_dots NamedSegment = false
 may_be_dots FirstSegment = false
+may_be_dots OpaquePath = false
 may_be_dots Query = false
 may_be_dots Fragment = false
 
@@ -73,6 +83,7 @@ is_first NewSegment = false
 is_first DotSegment = false
 is_first NamedSegment = false
 is_first FirstSegment = true
+is_first OpaquePath = false
 is_first Query = false
 is_first Fragment = false
 
@@ -80,11 +91,30 @@ is_first Fragment = false
 abbrev pub ends_scheme : OpenPart → List ℕ → Bool
 ends_scheme part markup = is_first part && has_scheme markup
 
+-- the opaque path of a URL, in which a `/` begins another path where nothing stands before it
+abbrev pub is_opaque : OpenPart → Bool
+is_opaque NewSegment = false
+is_opaque DotSegment = false
+is_opaque NamedSegment = false
+is_opaque FirstSegment = false
+is_opaque OpaquePath = true
+is_opaque Query = false
+is_opaque Fragment = false
+
+-- a `/` stands in markup before any `?` and `#`
+abbrev pub has_slash : List ℕ → Bool
+has_slash markup = slice_index markup (position_or_len is_end markup) == slash
+
+-- markup behind a slot with which, and with some text, the URL has another scheme or another kind of path
+abbrev pub is_unfixed : OpenPart → List ℕ → Bool
+is_unfixed part markup = ends_scheme part markup || (is_opaque part && has_slash markup)
+
 -- the slot that stands here, and what is open after its text: one that a segment may begin with names it
 abbrev pub slot_at : OpenPart → Option UrlSlot
 slot_at NewSegment = Some (record { place = place.Path; begins_segment = true })
 slot_at NamedSegment = Some (record { place = place.Path; begins_segment = false })
 slot_at FirstSegment = Some (record { place = place.Path; begins_segment = false })
+slot_at OpaquePath = Some (record { place = place.OpaquePath; begins_segment = false })
 slot_at DotSegment = None
 slot_at Query = Some (record { place = place.Query; begins_segment = false })
 slot_at Fragment = Some (record { place = place.Fragment; begins_segment = false })
@@ -94,6 +124,7 @@ after_text NewSegment = NamedSegment
 after_text DotSegment = DotSegment
 after_text NamedSegment = NamedSegment
 after_text FirstSegment = FirstSegment
+after_text OpaquePath = OpaquePath
 after_text Query = Query
 after_text Fragment = Fragment
 
@@ -131,6 +162,7 @@ as_first NewSegment = NewSegment
 as_first DotSegment = DotSegment
 as_first NamedSegment = FirstSegment
 as_first FirstSegment = FirstSegment
+as_first OpaquePath = OpaquePath
 as_first Query = Query
 as_first Fragment = Fragment
 
@@ -143,6 +175,22 @@ open_of_link front =
     else (if is_first_segment front then Some (as_first (after_front NewSegment front))
     else None)))
 
+-- `mailto` or `tel`, in any case
+abbrev pub is_address_scheme : List ℕ → Bool
+is_address_scheme scheme = bytes_eq (lowercase scheme) (codes "mailto") || bytes_eq (lowercase scheme) (codes "tel")
+
+-- such a scheme and `:`
+abbrev pub has_address_scheme : List ℕ → Bool
+has_address_scheme front = has_scheme front && is_address_scheme (take (mark_at front) front)
+
+-- and no `/` behind it, `?` or `#`
+abbrev pub ends_in_opaque_path : List ℕ → Bool
+ends_in_opaque_path front =
+    has_address_scheme front && not (begins (drop (mark_at front + 1) front) (codes "/")) && not (has_byte question_mark front) && not (has_byte number_sign front)
+
 -- the same, if a text may stand there: not behind a scheme whose URL a browser decodes, and runs or shows
 abbrev pub open_of : List ℕ → Option OpenPart
-open_of front = if is_link front then open_of_link front else None
+open_of front =
+    if ends_in_opaque_path front then Some OpaquePath
+    else (if is_link front || has_address_scheme front then open_of_link front
+    else None)

@@ -1,4 +1,5 @@
 pub mod Fragments
+pub mod OpaquePaths
 pub mod Pairs
 pub mod Paths
 pub mod Queries

@@ -24,7 +24,7 @@ markup_pieces separator (b ∷ bytes) later =
 abbrev pub pieces : ℕ → List Given → List (List Given)
 pieces separator [] = [] ∷ []
 pieces separator (Markup bytes ∷ parts) = markup_pieces separator bytes (pieces separator parts)
-pieces separator (Slot ∷ parts) = onto_piece Slot (pieces separator parts)
+pieces separator (Slot at ∷ parts) = onto_piece (Slot at) (pieces separator parts)
 
 -- each piece with its texts
 abbrev pub filled_pieces : List (List Given) → List (List ℕ) → List (List ℕ)
@@ -36,7 +36,7 @@ abbrev pub has_markup : List Given → Bool
 has_markup [] = false
 has_markup (Markup [] ∷ parts) = has_markup parts
 has_markup (Markup (b ∷ bytes) ∷ parts) = true
-has_markup (Slot ∷ parts) = has_markup parts
+has_markup (Slot at ∷ parts) = has_markup parts
 
 abbrev pub HasMarkup : List Given → Type 0
 HasMarkup piece = has_markup piece ≡ true

@@ -1,5 +1,5 @@
 -- The slots of a URL's parts, the texts that fill them, and the URL of the texts.
-use Rattle.std.specs.Prelude.{◌≡◌, ⊤, ℕ, ◌+◌, ◌-◌, Bool, true, false, not, ◌&&◌, ◌||◌, ◌==◌, nat_lt, List, [], ◌∷◌, ◌++◌, length, map, Option, Some, None, Result, Ok, Err, IsOkAnd, if◌then◌else◌}
+use Rattle.std.specs.Prelude.{◌≡◌, ⊤, ℕ, suc, ◌+◌, ◌-◌, Bool, true, false, not, ◌&&◌, ◌||◌, ◌==◌, nat_lt, List, [], ◌∷◌, ◌++◌, length, map, Option, Some, None, Result, Ok, Err, IsOkAnd, if◌then◌else◌}
 use Rattle.std.specs.Borrow.{Bor}
 use Rattle.std.specs.Char.{is_digit}
 use Rattle.std.specs.List.{list_all}
@@ -12,29 +12,29 @@ use Rattle.html_urls.specs.declared.parts.UrlPart.{UrlPart}
 use Rattle.html_urls.specs.declared.parts.UrlPart.TheVariants as part
 use Rattle.html_urls.specs.declared.parts.UrlSlot.{UrlSlot}
 use Rattle.html_urls.specs.declared.place.UrlPlace.{UrlPlace}
-use Rattle.html_urls.specs.declared.place.UrlPlace.TheVariants.{Path, Query, Fragment}
-use Rattle.html_urls.specs.Components.{component}
-use Rattle.html_urls.specs.OpenParts.{after_markup, after_text, ends_scheme, may_be_dots, open_of, slot_at}
+use Rattle.html_urls.specs.declared.place.UrlPlace.TheVariants.{Path, OpaquePath, Query, Fragment}
+use Rattle.html_urls.specs.Components.{component, component_at}
+use Rattle.html_urls.specs.OpenParts.{after_markup, after_text, is_unfixed, may_be_dots, open_of, slot_at}
 
--- a part as the definitions take it
+-- a part as the definitions take it: a slot with the place that it stands in
 pub data Given : Type 0 where
   Markup : List ℕ → Given
-  Slot : Given
+  Slot : UrlPlace → Given
 
-abbrev pub given : UrlPart → Given
-given (part.Markup text) = Markup text.now
-given part.Slot = Slot
+abbrev pub bare : UrlPart → Given
+bare (part.Markup text) = Markup text.now
+bare part.Slot = Slot Path
 
 -- the texts as they are handed in
 abbrev pub texts_of : List (Bor (List ℕ)) → List (List ℕ)
 texts_of texts = map (λ text. text.now) texts
 
--- the URL of the texts: each as a component in its slot
+-- the URL of the texts: each in its slot, as it is written there
 abbrev pub url_of : List Given → List (List ℕ) → List ℕ
 url_of [] texts = []
 url_of (Markup bytes ∷ parts) texts = bytes ++ url_of parts texts
-url_of (Slot ∷ parts) [] = url_of parts []
-url_of (Slot ∷ parts) (text ∷ texts) = component text ++ url_of parts texts
+url_of (Slot at ∷ parts) [] = url_of parts []
+url_of (Slot at ∷ parts) (text ∷ texts) = component_at at text ++ url_of parts texts
 
 -- ---- which texts fill the slots
 
@@ -92,9 +92,9 @@ abbrev pub later_slots : ℕ → OpenPart → List Given → Told
 later_slots number open_part [] = if may_be_dots open_part then Err (DotSegment (number - 1)) else Ok []
 later_slots number open_part (Markup bytes ∷ parts) =
     if is_plain bytes (no_parts parts)
-    then (if ends_scheme open_part bytes then Err (NotFixed number) else told_of (after_markup open_part bytes) (DotSegment number) (λ after. later_slots (number + 1) after parts))
+    then (if is_unfixed open_part bytes then Err (NotFixed number) else told_of (after_markup open_part bytes) (DotSegment number) (λ after. later_slots (number + 1) after parts))
     else Err (NotPlain number)
-later_slots number open_part (Slot ∷ parts) =
+later_slots number open_part (Slot at ∷ parts) =
     told_of (slot_at open_part) (DotSegment number) (λ slot. after_slots (slot ∷ []) (later_slots (number + 1) (after_text open_part) parts))
 
 -- before it, where this is the markup so far
@@ -102,8 +102,8 @@ abbrev pub first_slots : ℕ → List ℕ → List Given → Told
 first_slots number front [] = Ok []
 first_slots number front (Markup bytes ∷ parts) =
     if is_plain bytes (no_parts parts) then first_slots (number + 1) (front ++ bytes) parts else Err (NotPlain number)
-first_slots number front (Slot ∷ parts) =
-    told_of (open_of front) (NotFixed number) (λ open_part. later_slots number open_part (Slot ∷ parts))
+first_slots number front (Slot at ∷ parts) =
+    told_of (open_of front) (NotFixed number) (λ open_part. later_slots number open_part (Slot at ∷ parts))
 
 -- in the one case or the other
 abbrev pub slots_from : ℕ → List ℕ → Option OpenPart → List Given → Told
@@ -117,6 +117,7 @@ slots_of parts = first_slots 0 [] parts
 -- the first slot stands in the path
 abbrev pub is_path : UrlPlace → Bool
 is_path Path = true
+is_path OpaquePath = false
 is_path Query = false
 is_path Fragment = false
 
@@ -125,6 +126,43 @@ begins_in_path (Ok (slot ∷ slots)) = is_path slot.place
 begins_in_path (Ok []) = false
 begins_in_path (Err fault) = false
 
+-- the parts, where these are their slots: each stands in its place
+abbrev pub placed : List UrlSlot → List Given → List Given
+placed [] parts = parts
+placed (slot ∷ slots) [] = []
+placed (slot ∷ slots) (Markup bytes ∷ parts) = Markup bytes ∷ placed (slot ∷ slots) parts
+placed (slot ∷ slots) (Slot at ∷ parts) = Slot slot.place ∷ placed slots parts
+
+-- the first slots, so many, stand in an opaque path
+abbrev pub in_opaque : ℕ → List Given → List Given
+in_opaque n [] = []
+in_opaque n (Markup bytes ∷ parts) = Markup bytes ∷ in_opaque n parts
+in_opaque n (Slot at ∷ parts) = Slot (if n == 0 then at else OpaquePath) ∷ in_opaque (n - 1) parts
+
+-- the slots that are told
+abbrev pub told_slots : Told → List UrlSlot
+told_slots (Ok slots) = slots
+told_slots (Err fault) = []
+
+-- parts as they are given, of which the slots stand in the places that are told of them
+abbrev pub given : List UrlPart → List Given
+given parts = placed (told_slots (slots_of (map bare parts))) (map bare parts)
+
+abbrev pub is_opaque_path : UrlPlace → Bool
+is_opaque_path Path = false
+is_opaque_path OpaquePath = true
+is_opaque_path Query = false
+is_opaque_path Fragment = false
+
+-- how many of the first slots stand in an opaque path
+abbrev pub opaque_count : List UrlSlot → ℕ
+opaque_count [] = 0
+opaque_count (slot ∷ slots) = if is_opaque_path slot.place then suc (opaque_count slots) else 0
+
+-- the texts fill these slots, which are those of the parts
+abbrev pub FillParts : List Given → List (List ℕ) → List UrlSlot → Type 0
+FillParts parts texts slots = FillSlots slots texts × (placed slots parts ≡ parts)
+
 -- the texts fill the slots of the parts, which have no fault
 abbrev pub FillUrl : List Given → List (List ℕ) → Type 0
-FillUrl parts texts = IsOkAnd (slots_of parts) (λ slots. FillSlots slots texts)
+FillUrl parts texts = IsOkAnd (slots_of parts) (FillParts parts texts)

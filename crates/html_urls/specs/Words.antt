@@ -1,6 +1,6 @@
 -- The words of contracts, from one place.
-pub use Rattle.html_urls.specs.Bases.{FillBehind, IsWebPage, goes_on_so, is_base, is_own_base}
-pub use Rattle.html_urls.specs.Components.{component}
+pub use Rattle.html_urls.specs.Bases.{FillBehind, IsWebPage, given_behind, goes_on_so, is_base, is_own_base}
+pub use Rattle.html_urls.specs.Components.{component, component_at}
 pub use Rattle.html_urls.specs.Decoded.{decoded_segments, pairs_of, query_pairs}
 pub use Rattle.html_urls.specs.Heads.{head_of}
 pub use Rattle.html_urls.specs.Links.{HasLinkOrPageScheme, HasLinkScheme, is_link}

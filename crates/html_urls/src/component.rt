@@ -26,6 +26,10 @@ pub const COMPONENT: AsciiSet = ascii_set!(
         .remove(b'~')
 );
 
+/// The same without `@` and `+`, which stand in the addresses of `mailto:` URLs and the numbers of `tel:`
+/// URLs as they are.
+pub const ADDRESS: AsciiSet = ascii_set!(COMPONENT.remove(b'@').remove(b'+'));
+
 /// The component of a text, as parts that are put: for a page that is made of several of them.
 ///
 /// Of `Component("a&b")` the parts are `a`, `%26` and `b`.
@@ -69,7 +73,22 @@ pub fn put_component<S: Sink>(text: &str, sink: &mut S) -> Result<(), S::Fault>
     ensures same_reference { S.reference sink.new ≡ S.reference sink.old }
     ensures same_before { S.before sink.new ≡ S.before sink.old }
 {
-    let mut rest = text.as_bytes();
+    put_bytes(text.as_bytes(), sink)
+}
+
+/// The same of bytes.
+pub(crate) fn put_bytes<S: Sink>(bytes: &[u8], sink: &mut S) -> Result<(), S::Fault>
+    ensures ok_taken { OnOk result (S.taken sink.new ≡ S.taken sink.old ++ component bytes.now) }
+    ensures ok_failures { OnOk result (S.failures sink.new ≡ S.failures sink.old) }
+    ensures err_taken { OnErr result
+        (TookBeginning (S.taken sink.old) (S.taken sink.new) (component bytes.now)) }
+    ensures err_failures { OnErr result (S.failures sink.old < S.failures sink.new) }
+    ensures fits { length (component bytes.now) ≤ S.room sink.old → IsOk result }
+    ensures room { OnOk result (S.room sink.old ≤ S.room sink.new + length (component bytes.now)) }
+    ensures same_reference { S.reference sink.new ≡ S.reference sink.old }
+    ensures same_before { S.before sink.new ≡ S.before sink.old }
+{
+    let mut rest = bytes;
     'putting: while !rest.is_empty() {
         let (block, later) = first_block(rest);
         put_block(block, sink)?;

@@ -3,7 +3,7 @@
 //! A URL is the bytes of a front, a text as a component, and the bytes of a rest. It is read by
 //! `parse_url`, the URL Standard's parser, against the bases that a law names: none and any web page,
 //! at least.
-ghost use Rattle.std.specs.Prelude.{◌≡◌, ◌++◌, ◌∷◌, ℕ, [], IfOk, IfSome, List, Ok, Option, Some, map, true, unwrap_or};
+ghost use Rattle.std.specs.Prelude.{◌≡◌, ◌++◌, ◌∷◌, ℕ, [], IfOk, IfSome, List, Ok, Option, Some, codes, false, map, true, unwrap_or};
 ghost use Rattle.form_urlencoded.specs.Form.{parse};
 ghost use Rattle.percent_encoding.specs.Percent.{percent_decode, percent_encode};
 ghost use Rattle.url.specs.declared.sets.TheConstants.{PATH};
@@ -12,8 +12,8 @@ ghost use Rattle.url.specs.Head.{head_only};
 ghost use Rattle.url.specs.Parser.{parse_url};
 ghost use Rattle.url.specs.Parts.{Parts};
 ghost use Rattle.url.specs.Relative.{segments};
-ghost use Rattle.html_urls.specs.Bases.{FillBehind, IsWebPage, goes_on_so, is_base, is_own_base};
-ghost use Rattle.html_urls.specs.Components.{component};
+ghost use Rattle.html_urls.specs.Bases.{FillBehind, IsWebPage, given_behind, goes_on_so, is_base, is_own_base};
+ghost use Rattle.html_urls.specs.Components.{component, component_at};
 ghost use Rattle.html_urls.specs.Decoded.{AreBytes, decoded_segments, has_pairs, query_pairs};
 ghost use Rattle.html_urls.specs.Heads.{head_of, on_ok};
 ghost use Rattle.html_urls.specs.Hosts.{IsWebBase};
@@ -22,17 +22,19 @@ ghost use Rattle.html_urls.specs.OwnPaths.{is_own_path};
 ghost use Rattle.html_urls.specs.Pieces.{filled_pieces, open_path, pieces};
 ghost use Rattle.html_urls.specs.Places.{EndsIn, Fits, SuitsPlace, goes_on};
 ghost use Rattle.html_urls.specs.Shapes.{HasShape, fill, front_of, shape_of};
+ghost use Rattle.html_urls.specs.declared.place.UrlPlace.{UrlPlace};
 ghost use Rattle.html_urls.specs.Slots.{FillUrl, Markup, begins_in_path, given, slots_of, texts_of, url_of};
 
 use crate::base::BehindBase;
 use crate::parts::UrlPart;
 use crate::place::UrlPlace;
 
-/// A component is decoded to its text.
+/// A component is decoded to its text, and so is a text as it is written in any part of a URL.
 ///
 /// For instance the component of `a&b` is `a%26b`, which is decoded to `a&b`.
 pub fn decode_law(text: &str)
-    ensures { percent_decode (component text.now) ≡ text.now }
+    ensures component { percent_decode (component text.now) ≡ text.now }
+    ensures any { (place : UrlPlace) → percent_decode (component_at place text.now) ≡ text.now }
 {}
 
 /// The URL of a front, a text and a rest is the URL of the front, of which the part that the front
@@ -45,27 +47,33 @@ pub fn url_law(place: UrlPlace, front: &[u8], text: &str, rest: &[u8])
     requires ends { EndsIn place front.now }
     requires fits { Fits place front.now text.now rest.now }
     ensures { (base : Option Parts) → SuitsPlace place base
-        → parse_url base (front.now ++ component text.now ++ rest.now)
+        → parse_url base (front.now ++ component_at place text.now ++ rest.now)
         ≡ on_ok (goes_on place text.now rest.now) (parse_url base front.now) }
 {}
 
 /// The URL of texts that fill the slots of a URL is one shape with the texts in its slots, the same
 /// shape for all such texts, or it is refused with all of them. The shape is what the parser makes of
 /// the parts: markup as it writes it, and the slots. Where there is a slot, the scheme is `http`,
-/// `https`, `mailto` or that of the page.
+/// `https`, `mailto` or that of the page, and behind markup that is no link it is `tel`.
 ///
 /// For instance `/items/`, a slot, `?q=` and a slot have, on a page of `https://h/`, the path `/items/`
 /// and a slot, and the query `q=` and a slot.
 pub fn url_shape_law(parts: &[UrlPart<'_>])
-    ensures one { (base : Option Parts) → IsWebBase base → HasShape base (map given parts.now) }
+    ensures one { (base : Option Parts) → IsWebBase base → HasShape base (given parts.now) }
     ensures shape { (base : Option Parts) (texts : List (List ℕ)) → IsWebBase base
-        → FillUrl (map given parts.now) texts
-        → parse_url base (url_of (map given parts.now) texts)
-        ≡ fill (shape_of base (map given parts.now)) texts }
+        → FillUrl (given parts.now) texts
+        → parse_url base (url_of (given parts.now) texts)
+        ≡ fill (shape_of base (given parts.now)) texts }
     ensures scheme { (base : Option Parts) (text : List ℕ) (texts : List (List ℕ)) → IsWebBase base
-        → FillUrl (map given parts.now) (text ∷ texts)
-        → IfOk (parse_url base (url_of (map given parts.now) (text ∷ texts)))
+        → is_link (front_of (given parts.now)) ≡ true
+        → FillUrl (given parts.now) (text ∷ texts)
+        → IfOk (parse_url base (url_of (given parts.now) (text ∷ texts)))
         (HasLinkOrPageScheme base) }
+    ensures number { (base : Option Parts) (text : List ℕ) (texts : List (List ℕ)) → IsWebBase base
+        → is_link (front_of (given parts.now)) ≡ false
+        → FillUrl (given parts.now) (text ∷ texts)
+        → IfOk (parse_url base (url_of (given parts.now) (text ∷ texts)))
+        (λ url. url.scheme ≡ codes "tel") }
 {}
 
 /// The segments of the path of a URL whose first slot stands in the path: some that are the same for all
@@ -74,21 +82,21 @@ pub fn url_shape_law(parts: &[UrlPart<'_>])
 ///
 /// For instance the URL of `/items/`, a slot and `/edit` has behind `items` the text and `edit`.
 pub fn url_segments_law(parts: &[UrlPart<'_>])
-    requires { begins_in_path (slots_of (map given parts.now)) ≡ true }
+    requires { begins_in_path (slots_of (given parts.now)) ≡ true }
     ensures segments { (base : Option Parts) → IsWebBase base
         → (before : List (List ℕ))
-        × ((texts : List (List ℕ)) → FillUrl (map given parts.now) texts
-        → IfOk (parse_url base (url_of (map given parts.now) texts))
+        × ((texts : List (List ℕ)) → FillUrl (given parts.now) texts
+        → IfOk (parse_url base (url_of (given parts.now) texts))
         (λ url. segments url.path
         ≡ before
         ++ map (percent_encode PATH)
-        (filled_pieces (pieces slash (open_path (map given parts.now))) texts))) }
+        (filled_pieces (pieces slash (open_path (given parts.now))) texts))) }
     ensures decoded { (base : Option Parts) → IsWebBase base
         → (before : List (List ℕ))
-        × ((texts : List (List ℕ)) → FillUrl (map given parts.now) texts → AreBytes texts
-        → IfOk (parse_url base (url_of (map given parts.now) texts))
+        × ((texts : List (List ℕ)) → FillUrl (given parts.now) texts → AreBytes texts
+        → IfOk (parse_url base (url_of (given parts.now) texts))
         (λ url. map percent_decode (segments url.path)
-        ≡ before ++ decoded_segments (pieces slash (open_path (map given parts.now))) texts)) }
+        ≡ before ++ decoded_segments (pieces slash (open_path (given parts.now))) texts)) }
 {}
 
 /// The pairs of the query of a URL with slots are those of the query that its parts have behind their
@@ -97,13 +105,13 @@ pub fn url_segments_law(parts: &[UrlPart<'_>])
 ///
 /// For instance the URL of `/items/`, a slot, `?q=` and a slot has one pair, `q` and the second text.
 pub fn url_pairs_law(parts: &[UrlPart<'_>], texts: &[&str])
-    requires fills { FillUrl (map given parts.now) (texts_of texts.now) }
+    requires fills { FillUrl (given parts.now) (texts_of texts.now) }
     requires bytes { AreBytes (texts_of texts.now) }
-    requires pairs { has_pairs (map given parts.now) ≡ true }
+    requires pairs { has_pairs (given parts.now) ≡ true }
     ensures { (base : Option Parts) → IsWebBase base
-        → IfOk (parse_url base (url_of (map given parts.now) (texts_of texts.now)))
+        → IfOk (parse_url base (url_of (given parts.now) (texts_of texts.now)))
         (λ url. parse (unwrap_or url.query [])
-        ≡ query_pairs (map given parts.now) (texts_of texts.now)) }
+        ≡ query_pairs (given parts.now) (texts_of texts.now)) }
 {}
 
 /// The URL of a text that is a link has the scheme `http`, `https` or `mailto`, on each page whose own
@@ -126,12 +134,12 @@ pub fn link_law(text: &str)
 /// `https://a.example/b/items/..%2Fc`, whose host is that of `https://a.example/b`.
 pub fn base_law(behind: BehindBase, base: &str, parts: &[UrlPart<'_>])
     requires { is_base behind base.now ≡ true }
-    ensures fills { (texts : List (List ℕ)) → FillBehind behind (map given parts.now) texts
-        → FillUrl (Markup base.now ∷ map given parts.now) texts }
+    ensures fills { (texts : List (List ℕ)) → FillBehind behind (given_behind behind parts.now) texts
+        → FillUrl (Markup base.now ∷ given_behind behind parts.now) texts }
     ensures head { (page : Option Parts) (texts : List (List ℕ)) → IsWebPage page
-        → goes_on_so behind (front_of (map given parts.now)) ≡ true
-        → FillUrl (Markup base.now ∷ map given parts.now) texts
-        → head_of (parse_url page (base.now ++ url_of (map given parts.now) texts))
+        → goes_on_so behind (front_of (given_behind behind parts.now)) ≡ true
+        → FillUrl (Markup base.now ∷ given_behind behind parts.now) texts
+        → head_of (parse_url page (base.now ++ url_of (given_behind behind parts.now) texts))
         ≡ head_of (parse_url page base.now) }
 {}
 

@@ -7,6 +7,7 @@
 //! which a URL begins, [`is_base`] or [`is_own_base`].
 #![tactic(auto)]
 
+pub mod address;
 pub mod append;
 pub mod base;
 pub mod component;
@@ -21,17 +22,18 @@ pub mod place;
 pub mod segment;
 pub mod slots;
 
+pub use crate::address::put_component_at;
 pub use crate::append::append_url;
 pub use crate::base::{BehindBase, behind_base, goes_as, is_base, is_own_base, open_behind};
-pub use crate::component::{COMPONENT, Component, put_component};
+pub use crate::component::{ADDRESS, COMPONENT, Component, put_component};
 pub use crate::forms::{
     append_component, append_component_to_vec, encode_component, encode_component_to_string,
     encode_component_to_vec, encode_component_to_writer,
 };
-pub use crate::length::component_length;
+pub use crate::length::{component_length, component_length_at};
 pub use crate::link::is_link;
 pub use crate::open_part::{
-    OpenPart, after_markup, after_text, ends_scheme, may_be_dots, open_of, slot_at,
+    OpenPart, after_markup, after_text, ends_scheme, is_unfixed, may_be_dots, open_of, slot_at,
 };
 pub use crate::own_path::is_own_path;
 pub use crate::parts::{UrlFault, UrlPart, UrlSlot, UrlTextFault};

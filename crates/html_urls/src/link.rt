@@ -44,12 +44,10 @@ pub(crate) fn mark_at(bytes: &[u8]) -> usize
     ensures value { result ≡ spec.mark_at bytes.now }
     ensures within { result ≤ length bytes.now }
 {
-    for (i, b) in bytes.iter().enumerate() {
-        if is_mark(*b) {
-            return i;
-        }
-    }
-    bytes.len()
+    bytes
+        .iter()
+        .position(|b| is_mark(*b))
+        .unwrap_or(bytes.len())
 }
 
 pub(crate) fn is_mark(b: u8) -> bool

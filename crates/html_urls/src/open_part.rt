@@ -1,6 +1,7 @@
-//! What is open at the end of a URL's beginning: a segment of its path, its query or its fragment.
-ghost use Rattle.std.specs.Prelude.{◌≡◌};
-ghost use Rattle.std.specs.List.{list_all};
+//! What is open at the end of a URL's beginning: a segment of its path, its opaque path, its query or its
+//! fragment.
+ghost use Rattle.std.specs.Prelude.{◌≡◌, ◌≤◌, length};
+ghost use Rattle.std.specs.List.{list_all, position_or_len};
 ghost use Rattle.html_urls.specs.Hosts as hosts;
 ghost use Rattle.html_urls.specs.OpenParts as spec;
 ghost use Rattle.html_urls.specs.Parts.Segments as segments;
@@ -22,6 +23,8 @@ pub enum OpenPart {
     NamedSegment,
     /// The first segment of a relative path, which its markup keeps from that. A `:` in it ends a scheme.
     FirstSegment,
+    /// The opaque path of a `mailto:` or a `tel:` URL.
+    OpaquePath,
     /// The query.
     Query,
     /// The fragment.
@@ -47,6 +50,7 @@ fn after_byte(part: OpenPart, b: u8) -> OpenPart
     match part {
         OpenPart::Fragment => OpenPart::Fragment,
         OpenPart::Query => after_query_byte(b),
+        OpenPart::OpaquePath => after_opaque_byte(b),
         _ => after_path_byte(part, b),
     }
 }
@@ -58,6 +62,18 @@ fn after_query_byte(b: u8) -> OpenPart
         OpenPart::Fragment
     } else {
         OpenPart::Query
+    }
+}
+
+fn after_opaque_byte(b: u8) -> OpenPart
+    ensures { result ≡ spec.after_opaque_byte b }
+{
+    if b == b'?' {
+        OpenPart::Query
+    } else if b == b'#' {
+        OpenPart::Fragment
+    } else {
+        OpenPart::OpaquePath
     }
 }
 
@@ -123,6 +139,33 @@ pub fn ends_scheme(part: OpenPart, markup: &[u8]) -> bool
     part == OpenPart::FirstSegment && has_scheme(markup)
 }
 
+// Whether a `/` stands in the markup before any `?` and `#`.
+fn has_slash(markup: &[u8]) -> bool
+    ensures { result ≡ spec.has_slash markup.now }
+{
+    let at = end_at(markup);
+    at < markup.len() && markup[at] == b'/'
+}
+
+// Where the first of these bytes stands.
+fn end_at(bytes: &[u8]) -> usize
+    ensures value { result ≡ position_or_len spec.is_end bytes.now }
+    ensures within { result ≤ length bytes.now }
+{
+    bytes.iter().position(|b| is_end(*b)).unwrap_or(bytes.len())
+}
+
+/// Whether with markup behind a slot, where this is open before it, and some text the URL has another scheme
+/// or another kind of path: where a scheme [ends](ends_scheme) in the markup, and in an opaque path at a `/`
+/// before any `?` and `#`. Such markup may not stand there.
+///
+/// In `OpaquePath`, of `/b` it is `true`, and of `@a.example?cc=/` it is `false`.
+pub fn is_unfixed(part: OpenPart, markup: &[u8]) -> bool
+    ensures { result ≡ spec.is_unfixed part markup.now }
+{
+    ends_scheme(part, markup) || (part == OpenPart::OpaquePath && has_slash(markup))
+}
+
 /// What is open after markup behind a slot, where this was open before it: `None` where a segment ends
 /// in the markup that may read as `.` or `..`.
 ///
@@ -155,6 +198,10 @@ pub fn slot_at(part: OpenPart) -> Option<UrlSlot>
         }),
         OpenPart::NamedSegment | OpenPart::FirstSegment => Some(UrlSlot {
             place: UrlPlace::Path,
+            begins_segment: false,
+        }),
+        OpenPart::OpaquePath => Some(UrlSlot {
+            place: UrlPlace::OpaquePath,
             begins_segment: false,
         }),
         OpenPart::DotSegment => None,
@@ -269,16 +316,44 @@ fn is_fixed(front: &[u8]) -> bool
     is_rooted(front) || has_first_segment(front) || has_host(front) || has_web_host(front)
 }
 
+// `mailto` or `tel`, in any case.
+fn is_address_scheme(scheme: &[u8]) -> bool
+    ensures { result ≡ spec.is_address_scheme scheme.now }
+{
+    scheme.eq_ignore_ascii_case(b"mailto") || scheme.eq_ignore_ascii_case(b"tel")
+}
+
+// Such a scheme and `:`.
+fn has_address_scheme(front: &[u8]) -> bool
+    ensures { result ≡ spec.has_address_scheme front.now }
+{
+    has_scheme(front) && is_address_scheme(&front[..mark_at(front)])
+}
+
+// And no `/` behind it, `?` or `#`.
+fn ends_in_opaque_path(front: &[u8]) -> bool
+    ensures { result ≡ spec.ends_in_opaque_path front.now }
+{
+    has_address_scheme(front)
+        && !front[mark_at(front) + 1..].starts_with(b"/")
+        && !has_byte(b'?', front)
+        && !has_byte(b'#', front)
+}
+
 /// What is open at the end of the markup before the first slot, if a text may stand there. Behind a scheme
-/// that is none of `http`, `https` and `mailto` none may: of a `javascript:` or a `data:` URL a browser
+/// that is none of `http`, `https`, `mailto` and `tel` none may: of a `javascript:` or a `data:` URL a browser
 /// decodes all that follows, and runs or shows it.
 ///
 /// Of `/items/`, `items/` and `//a.example/` it is `NewSegment`, of `item-` it is `FirstSegment`, of
-/// `mailto:a@b.example?subject=` it is `Query`, and of `//`, `item:` and `javascript:x?` it is `None`.
+/// `mailto:` and `tel:+49` it is `OpaquePath`, of `mailto:a@b.example?subject=` it is `Query`, and of `//`,
+/// `item:`, `mailto:/` and `javascript:x?` it is `None`.
 pub fn open_of(front: &[u8]) -> Option<OpenPart>
     ensures { result ≡ spec.open_of front.now }
 {
-    if !is_link_bytes(front) {
+    if ends_in_opaque_path(front) {
+        return Some(OpenPart::OpaquePath);
+    }
+    if !is_link_bytes(front) && !has_address_scheme(front) {
         return None;
     }
     open_of_link(front)

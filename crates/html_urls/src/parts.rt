@@ -7,7 +7,7 @@ use std::alloc::AllocError;
 pub enum UrlPart<'a> {
     /// Markup, which stands in each URL as it is.
     Markup(&'a str),
-    /// A slot, for the component of one text.
+    /// A slot, for one text, which is written as a component, in an opaque path as an address or a number.
     Slot,
 }
 
@@ -28,9 +28,11 @@ pub enum UrlFault {
     /// ends in `%`, or in `%` and one hexadecimal digit, which with the text of a slot would be an escape.
     NotPlain(usize),
     /// This part is a slot in a scheme, a user, a host or a port, or where these are still open, or
-    /// behind a scheme that is none of `http`, `https` and `mailto`, as in `javascript:x?` and a slot.
+    /// behind a scheme that is none of `http`, `https`, `mailto` and `tel`, as in `javascript:x?` and a slot.
     /// Or it is markup behind a slot in the first segment of a relative path, and a `:` stands in this
-    /// segment, as in `item-`, a slot and `:x`: with some texts that is a scheme.
+    /// segment, as in `item-`, a slot and `:x`: with some texts that is a scheme. Or it is markup behind a
+    /// slot in an opaque path, and a `/` stands in this path, as in `mailto:`, a slot and `/x`: with an empty
+    /// text the path is not opaque.
     NotFixed(usize),
     /// In this part a segment of the path ends, or a slot stands in one, that with some text may
     /// read as `.` or `..`: it has no other bytes than those of dots.

@@ -5,6 +5,9 @@
 pub enum UrlPlace {
     /// The path: the text is in one of its segments.
     Path,
+    /// The path of a `mailto:` or a `tel:` URL, which is opaque: the text is an address or a number, or a
+    /// part of one.
+    OpaquePath,
     /// The query: the text is the value of a pair, or a part of one.
     Query,
     /// The fragment, which the browser does not send.

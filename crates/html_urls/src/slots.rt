@@ -2,8 +2,10 @@
 ghost use Rattle.std.specs.Prelude.{◌≡◌, ℕ, List, Some, map};
 ghost use Rattle.html_urls.specs.SlotFaults.{AnswersSlots, TakesPart};
 ghost use Rattle.html_urls.specs.Slots as spec;
+ghost use Rattle.html_urls.specs.Slots.{bare, given};
+ghost use Rattle.html_urls.specs.declared.place.UrlPlace.{UrlPlace};
 
-use crate::open_part::{OpenPart, after_markup, after_text, ends_scheme, open_of, slot_at};
+use crate::open_part::{OpenPart, after_markup, after_text, is_unfixed, open_of, slot_at};
 use crate::parts::{UrlFault, UrlPart, UrlSlot};
 use crate::segment::may_be_segment;
 use std::alloc::{AllocError, Allocator};
@@ -23,12 +25,23 @@ pub fn may_fill(slot: UrlSlot, text: &str) -> bool
 /// Of `/items/`, a slot, `?q=` and a slot, the first stands in the path and a segment begins with it,
 /// and the second stands in the query. Of `//`, a slot and `/` the fault is `NotFixed(1)`, and so it is
 /// of `javascript:x?` and a slot. Of `?q=%4` and a slot it is `NotPlain(0)`: the text would end an escape.
-#[tactic(auto, using(crate::proofs::SlotsTaken::answered))]
+#[tactic(auto, using(crate::proofs::SlotsTaken::given_slots))]
 pub fn slots_of<A: Allocator + Copy>(
     alloc: A,
     parts: &[UrlPart<'_>],
 ) -> Result<Vec<UrlSlot, A>, UrlFault>
-    ensures { AnswersSlots (λ slots. slots.items) (spec.slots_of (map spec.given parts.now)) result }
+    ensures { AnswersSlots (λ slots. slots.items) (spec.slots_of (given parts.now)) result }
+{
+    bare_slots(alloc, parts)
+}
+
+/// The same of the parts without their places, which it does not ask for.
+#[tactic(auto, using(crate::proofs::SlotsTaken::answered))]
+pub(crate) fn bare_slots<A: Allocator + Copy>(
+    alloc: A,
+    parts: &[UrlPart<'_>],
+) -> Result<Vec<UrlSlot, A>, UrlFault>
+    ensures { AnswersSlots (λ slots. slots.items) (spec.slots_of (map bare parts.now)) result }
 {
     let mut front = Vec::new(alloc);
     let mut slots = Vec::new(alloc);
@@ -58,8 +71,8 @@ fn take_part<A: Allocator>(
     others: &[UrlPart<'_>],
     number: usize,
 ) -> Result<Option<OpenPart>, UrlFault>
-    ensures { TakesPart number front.old.items open_part slots.old.items (spec.given part.entry)
-        (map spec.given others.now) front.new.items slots.new.items result }
+    ensures { TakesPart number front.old.items open_part slots.old.items (bare part.entry)
+        (map bare others.now) front.new.items slots.new.items result }
 {
     match (part, open_part) {
         (UrlPart::Markup(markup), None) => {
@@ -73,7 +86,7 @@ fn take_part<A: Allocator>(
             if !is_plain(markup.as_bytes(), others.is_empty()) {
                 return Err(UrlFault::NotPlain(number));
             }
-            if ends_scheme(open_part, markup.as_bytes()) {
+            if is_unfixed(open_part, markup.as_bytes()) {
                 return Err(UrlFault::NotFixed(number));
             }
             match after_markup(open_part, markup.as_bytes()) {
@@ -95,8 +108,8 @@ fn take_slot<A: Allocator>(
     open_part: OpenPart,
     number: usize,
 ) -> Result<Option<OpenPart>, UrlFault>
-    ensures { (front : List ℕ) (parts : List spec.Given)
-        → TakesPart number front (Some open_part) slots.old.items spec.Slot
+    ensures { (at : UrlPlace) (front : List ℕ) (parts : List spec.Given)
+        → TakesPart number front (Some open_part) slots.old.items (spec.Slot at)
         parts front slots.new.items result }
 {
     match slot_at(open_part) {

@@ -28,7 +28,7 @@ is_segment : (text : List ℕ) → list_all (λ b. nat_lt b 256) text ≡ true �
 is_segment text bytes may = ap (λ n. n == 0) (component_dots text (are_bytes text bytes) may)
 
 pub hostile_fill : FillUrl item_parts (codes "../../logout" ∷ codes "1&admin=1" ∷ [])
-hostile_fill = (is_segment (codes "../../logout") refl refl, (refl, tt))
+hostile_fill = ((is_segment (codes "../../logout") refl refl, (refl, tt)), refl)
 
 pub hostile_bytes : AreBytes (codes "../../logout" ∷ codes "1&admin=1" ∷ [])
 hostile_bytes = (are_bytes (codes "../../logout") refl, (are_bytes (codes "1&admin=1") refl, tt))

@@ -5,7 +5,7 @@ use Rattle.std.proofs.lemmas.Bool.{and_parts, cases_Bool, cases_eq, false≢true
 use Rattle.html_urls.specs.declared.base.BehindBase.{BehindBase}
 use Rattle.html_urls.specs.declared.base.BehindBase.TheVariants.{Segment}
 use Rattle.html_urls.specs.declared.open_part.OpenPart.{OpenPart}
-use Rattle.html_urls.specs.declared.open_part.OpenPart.TheVariants.{NewSegment, DotSegment, NamedSegment, FirstSegment, Query, Fragment}
+use Rattle.html_urls.specs.declared.open_part.OpenPart.TheVariants.{NewSegment, DotSegment, NamedSegment, FirstSegment, OpaquePath, Query, Fragment}
 use Rattle.html_urls.specs.Bases.{ends_as, is_base, is_own_or_web}
 use Rattle.html_urls.specs.OpenParts.{after_byte, after_front, after_markup, has_byte, is_end, may_be_dots}
 use Rattle.html_urls.specs.Slots.{is_plain}
@@ -88,6 +88,7 @@ is_new NewSegment = true
 is_new DotSegment = false
 is_new NamedSegment = false
 is_new FirstSegment = false
+is_new OpaquePath = false
 is_new Query = false
 is_new Fragment = false
 

@@ -9,20 +9,20 @@ use Rattle.html_urls.specs.declared.parts.UrlSlot.{UrlSlot}
 use Rattle.html_urls.specs.Bases.{FillBehind, goes_on_so, is_base, open_behind, slots_behind}
 use Rattle.html_urls.specs.OpenParts.{after_markup, after_text, open_of}
 use Rattle.html_urls.specs.Shapes.{front_of}
-use Rattle.html_urls.specs.Slots.{FillSlots, FillUrl, Given, Markup, Slot, Told, after_slots, first_slots, is_plain, later_slots, no_parts, slots_of, told_of}
+use Rattle.html_urls.specs.Slots.{FillParts, FillUrl, Given, Markup, Slot, Told, after_slots, first_slots, is_plain, later_slots, no_parts, slots_of, told_of}
 use Rattle.html_urls.proofs.Bases.Ends.{IsBase, base_is, markup_joined}
 use Rattle.html_urls.proofs.Bases.Opened.{opens}
 use Rattle.html_urls.proofs.Bases.GoesAs.{behind_goes}
-use Rattle.html_urls.proofs.Filled.Told.{later_markup, later_nothing, later_scheme, later_slot, told_slots}
+use Rattle.html_urls.proofs.Filled.Told.{later_markup, later_fixed, later_nothing, later_slot, placed_markup, told_slots}
 
 -- the slots behind an open part are the same whatever number the first part has
 pub any_number : (parts : List Given) (k n : ℕ) (p : OpenPart) (slots : List UrlSlot) → later_slots k p parts ≡ Ok slots → later_slots n p parts ≡ Ok slots
 any_number [] k n p slots told = let (closed, none) = later_nothing k p slots told in rw closed (ap Ok (sym none))
 any_number (Markup bytes ∷ parts) k n p slots told =
     let (q, plain, here, rest) = later_markup k p bytes parts slots told in
-    rw (plain, later_scheme k p bytes parts slots told, here) (any_number parts (k + 1) (n + 1) q slots rest)
-any_number (Slot ∷ parts) k n p slots told =
-    let (slot, more, here, rest, are) = later_slot k p parts slots told in
+    rw (plain, later_fixed k p bytes parts slots told, here) (any_number parts (k + 1) (n + 1) q slots rest)
+any_number (Slot at ∷ parts) k n p slots told =
+    let (slot, more, here, rest, are) = later_slot k p at parts slots told in
     rw here (ap (after_slots (slot ∷ [])) (any_number parts (k + 1) (n + 1) (after_text p) more rest) ∙ ap Ok (sym are))
 
 -- the parts behind the base, of which this markup was read
@@ -34,9 +34,9 @@ first_from behind text (Markup bytes ∷ parts) k n done q slots base goes opene
     rw plain
     (ap (λ front. first_slots (n + 1) front parts) (append_assoc text done bytes)
     ∙ first_from behind text parts (k + 1) (n + 1) (done ++ bytes) r slots base (ap (goes_on_so behind) (append_assoc done bytes (front_of parts)) ∙ goes) (markup_joined (open_behind behind) q done bytes opened ∙ is) rest)
-first_from behind text (Slot ∷ parts) k n done q slots base goes opened told =
+first_from behind text (Slot at ∷ parts) k n done q slots base goes opened told =
     let here : open_of (text ++ done) ≡ Some q = opens behind text done q base (ap (goes_on_so behind) (sym (append-nil done)) ∙ goes) opened in
-    ap (λ o. told_of o (fault.NotFixed n) (λ p. later_slots n p (Slot ∷ parts))) here ∙ any_number (Slot ∷ parts) k n q slots told
+    ap (λ o. told_of o (fault.NotFixed n) (λ p. later_slots n p (Slot at ∷ parts))) here ∙ any_number (Slot at ∷ parts) k n q slots told
 
 -- markup that another part may follow may be the last one
 pub plain_anywhere : (text : List ℕ) (is_last : Bool) → is_plain text false ≡ true → is_plain text is_last ≡ true
@@ -55,5 +55,5 @@ pub fills : (behind : BehindBase) (text : List ℕ) (parts : List Given) (texts 
 fills behind text parts texts is full =
     let goes = behind_goes behind parts texts full in
     let told : slots_behind behind parts ≡ later_slots 0 (open_behind behind) parts = cond-true _ _ _ goes in
-    let (slots, found, fill) = told_slots (slots_behind behind parts) texts full in
-    subst (λ (t : Told). IsOkAnd t (λ slots. FillSlots slots texts)) (sym (slots_told behind text parts 0 slots is goes (sym told ∙ found))) fill
+    let (slots, found, fill) = told_slots (slots_behind behind parts) parts texts full in
+    subst (λ (t : Told). IsOkAnd t (FillParts (Markup text ∷ parts) texts)) (sym (slots_told behind text parts 0 slots is goes (sym told ∙ found))) (fill.0, placed_markup slots text parts ∙ ap (λ l. Markup text ∷ l) fill.1)

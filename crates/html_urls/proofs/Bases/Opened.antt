@@ -1,7 +1,7 @@
 -- Behind a base and the markup that follows it the host is fixed, and the same is open as behind the markup alone.
 use Rattle.std.proofs.Common.{◌≡◌, ◌≢◌, ℕ, Bool, true, false, ◌||◌, List, [], ◌∷◌, ◌++◌, codes, Some, refl, sym, ap, ◌∙◌, append_assoc, arith, get_or}
 use Rattle.std.proofs.lemmas.Bool.Decides.{nat_tests}
-use Rattle.std.proofs.lemmas.Bool.{cond-true, ne_eqb}
+use Rattle.std.proofs.lemmas.Bool.{cond-false, cond-true, ne_eqb}
 use Rattle.html_urls.specs.declared.base.BehindBase.{BehindBase}
 use Rattle.html_urls.specs.declared.base.BehindBase.TheVariants.{Slash, Tail, Segment}
 use Rattle.html_urls.specs.declared.open_part.OpenPart.{OpenPart}
@@ -9,9 +9,9 @@ use Rattle.html_urls.specs.declared.open_part.OpenPart.TheVariants.{NewSegment}
 use Rattle.html_urls.specs.Bases.{goes_on_so, is_own_or_web, open_behind}
 use Rattle.html_urls.specs.Hosts.{has_first_segment}
 use Rattle.html_urls.specs.Links.{is_link}
-use Rattle.html_urls.specs.OpenParts.{after_front, after_markup, begins, has_byte, has_host, has_web_host, is_fixed, is_rooted, open_of, open_of_link}
+use Rattle.html_urls.specs.OpenParts.{after_front, after_markup, begins, ends_in_opaque_path, has_address_scheme, has_byte, has_host, has_web_host, is_fixed, is_rooted, open_of, open_of_link}
 use Rattle.html_urls.proofs.Bases.Ends.{IsBase, as_front, ends_behind_slash, fragment_found, front_joined, no_fragment_in, no_query_in, query_found, slash_found, slash_in}
-use Rattle.html_urls.proofs.Bases.Origins.{Origin, byte_before, byte_behind, no_byte_before, origin_of, web_host, web_is_link}
+use Rattle.html_urls.proofs.Bases.Origins.{Origin, no_colon, byte_before, byte_behind, no_byte_before, origin_of, web_host, web_is_link, web_is_no_opaque}
 use Rattle.html_urls.proofs.Places.FixedHosts.{Rooted, root, rooted_is}
 use Rattle.html_urls.proofs.Filled.OpenSegments.{in_path}
 
@@ -90,6 +90,19 @@ link_on behind text markup base (of_web origin) goes =
     ap is_link spelled ∙ web_is_link origin.scheme (47 ∷ 47 ∷ origin.first ∷ origin.more ++ markup) origin.no_marks origin.web
 link_on behind _ markup base nothing goes = grind (arith, nat_tests, base.is, base.ends)
 
+-- ---- its path is not opaque
+
+no_opaque_on : (behind : BehindBase) (text markup : List ℕ) → IsBase behind text → BaseText text → goes_on_so behind markup ≡ true → ends_in_opaque_path (text ++ markup) ≡ false
+no_opaque_on behind _ markup base (own (root rest other)) goes = refl
+no_opaque_on behind text markup base (of_web origin) goes =
+    let spelled : text ++ markup ≡ origin.scheme ++ 58 ∷ (47 ∷ 47 ∷ origin.first ∷ origin.more ++ markup) = ap (λ l. l ++ markup) origin.spelled ∙ append_assoc origin.scheme (58 ∷ 47 ∷ 47 ∷ origin.first ∷ origin.more) markup in
+    ap ends_in_opaque_path spelled ∙ web_is_no_opaque origin.scheme (47 ∷ origin.first ∷ origin.more ++ markup) origin.no_marks
+no_opaque_on Segment _ markup base nothing goes = absurd (grind (arith, nat_tests, base.is, base.ends))
+no_opaque_on Slash _ [] base nothing goes = refl
+no_opaque_on Tail _ [] base nothing goes = refl
+no_opaque_on Slash _ (b ∷ markup) base nothing goes = no_colon b markup (grind (arith, nat_tests))
+no_opaque_on Tail _ (b ∷ markup) base nothing goes = no_colon b markup (grind (arith, nat_tests))
+
 -- ---- what is open
 
 -- markup with neither mark is no tail
@@ -115,5 +128,6 @@ link_opens behind text markup q base goes is =
 
 pub opens : (behind : BehindBase) (text markup : List ℕ) (q : OpenPart) → IsBase behind text → goes_on_so behind markup ≡ true → after_markup (open_behind behind) markup ≡ Some q → open_of (text ++ markup) ≡ Some q
 opens behind text markup q base goes is =
-    cond-true _ _ _ (link_on behind text markup base (text_is text base.host) goes)
+    cond-false _ _ _ (no_opaque_on behind text markup base (text_is text base.host) goes)
+    ∙ cond-true _ _ _ (ap (λ l. l || has_address_scheme (text ++ markup)) (link_on behind text markup base (text_is text base.host) goes))
     ∙ link_opens behind text markup q base goes (as_front (open_behind behind) q markup is)

@@ -1,5 +1,5 @@
 -- A text that begins with a scheme of the web and a host.
-use Rattle.std.proofs.Common.{◌≡◌, ◌≢◌, ℕ, ◌+◌, Bool, true, false, not, ◌&&◌, ◌||◌, ◌==◌, List, [], ◌∷◌, ◌++◌, length, get_or, take, drop, take_at, drop_at, All, refl, sym, ap, ◌∙◌, append_assoc, length-append, arith}
+use Rattle.std.proofs.Common.{◌≡◌, ◌≢◌, ℕ, ◌+◌, Bool, true, false, not, ◌&&◌, ◌||◌, ◌==◌, List, [], ◌∷◌, ◌++◌, length, codes, get_or, take, drop, take_at, drop_at, All, refl, sym, ap, ◌∙◌, append_assoc, length-append, arith}
 use Rattle.std.proofs.lemmas.Bool.{and_parts, eqb-true}
 use Rattle.std.proofs.lemmas.Bool.Decides.{nat_tests}
 use Rattle.std.proofs.lemmas.List.{get_or_at}
@@ -10,7 +10,7 @@ use Rattle.html_urls.proofs.Places.FixedHosts.{at_mark}
 use Rattle.html_urls.specs.Bases.{begins_host, has_origin}
 use Rattle.html_urls.specs.Hosts.{is_web_scheme}
 use Rattle.html_urls.specs.Links.{is_link, is_link_scheme, is_mark, mark_at}
-use Rattle.html_urls.specs.OpenParts.{has_byte, has_host, has_web_host}
+use Rattle.html_urls.specs.OpenParts.{begins, ends_in_opaque_path, has_byte, has_host, has_web_host, is_address_scheme}
 
 abbrev IsNoMark : ℕ → Type 0
 IsNoMark b = Passes (λ c. not (is_mark c)) b
@@ -67,6 +67,26 @@ or_right x y is = grind (arith, nat_tests)
 
 pub web_is_link : (scheme rest : List ℕ) → All IsNoMark scheme → is_web_scheme scheme ≡ true → is_link (scheme ++ 58 ∷ rest) ≡ true
 web_is_link scheme rest none web = grind (arith, nat_tests, scheme_ends, take_at, or_right, not, link_scheme)
+
+-- a front whose first byte is another mark than `:`
+pub no_colon : (b : ℕ) (rest : List ℕ) → (is_mark b && not (b == 58)) ≡ true → ends_in_opaque_path (b ∷ rest) ≡ false
+no_colon b rest other = grind (arith, nat_tests)
+
+-- its path is not opaque
+pub web_is_no_opaque : (scheme rest : List ℕ) → All IsNoMark scheme → ends_in_opaque_path (scheme ++ 58 ∷ 47 ∷ rest) ≡ false
+web_is_no_opaque scheme rest none = by_slash (behind_mark (scheme_ends scheme (47 ∷ rest) none))
+  where
+    front : List ℕ
+    front = scheme ++ 58 ∷ 47 ∷ rest
+
+    no_path : (x y z : Bool) → (x && false && y && z) ≡ false
+    no_path x y z = grind (arith, nat_tests)
+
+    behind_mark : mark_at front ≡ length scheme → begins (drop (mark_at front + 1) front) (codes "/") ≡ true
+    behind_mark is = ap (λ n. begins (drop (n + 1) front) (codes "/")) is ∙ ap (λ l. begins l (codes "/")) (behind_scheme scheme (47 ∷ rest))
+
+    by_slash : begins (drop (mark_at front + 1) front) (codes "/") ≡ true → ends_in_opaque_path front ≡ false
+    by_slash slash = rw slash (no_path (get_or front (mark_at front) 0 == 58 && is_address_scheme (take (mark_at front) front)) (not (has_byte 63 front)) (not (has_byte 35 front)))
 
 pub web_host : (scheme body : List ℕ) → All IsNoMark scheme → is_web_scheme scheme ≡ true → has_host body ≡ true → has_web_host (scheme ++ 58 ∷ body) ≡ true
 web_host scheme body none web host = grind (arith, nat_tests, scheme_ends, get_or_at, take_at, behind_scheme)

@@ -1,5 +1,5 @@
 -- Own paths: the head of their URLs is that of the page.
-use Rattle.std.proofs.Common.{◌≡◌, ℕ, true, List, [], ◌∷◌, Option, Some, Ok, All, sym, ap, ◌∙◌, arith}
+use Rattle.std.proofs.Common.{◌≡◌, ℕ, true, List, [], ◌∷◌, Option, Some, Ok, All, refl, sym, ap, ◌∙◌, arith}
 use Rattle.std.proofs.lemmas.Bool.Decides.{nat_tests}
 use Rattle.std.proofs.lemmas.Bool.{cond-false}
 use Rattle.std.proofs.lemmas.List.Elements.{All-nil}
@@ -56,4 +56,4 @@ own_alike base text other web is also = own_head base text web is ∙ sym (own_h
 
 -- no slot stands in one
 pub one_part : (text : List ℕ) → is_own_path text ≡ true → FillUrl (Markup text ∷ []) []
-one_part text is = rw (own_is text is).plain tt
+one_part text is = rw (own_is text is).plain (tt, refl)

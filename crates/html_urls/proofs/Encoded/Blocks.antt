@@ -9,7 +9,6 @@ use Rattle.percent_encoding.specs.AsciiSet.{should_percent_encode}
 use Rattle.percent_encoding.specs.Percent.{encode_byte, percent_encode_byte}
 use Rattle.percent_encoding.proofs.PercentLemmas.{percent_encode-append, percent_encode-nil, percent_encode_escaped, percent_encode_kept}
 use Rattle.hesc_sinks.specs.Stores.{Stored}
-use Rattle.hesc_sinks.proofs.Progress.{Progress}
 use Rattle.hesc_sinks.proofs.Stores.{stored_first, stored_then}
 use Rattle.html_urls.specs.declared.component.TheConstants.{COMPONENT}
 use Rattle.html_urls.specs.Components.{component}
@@ -68,9 +67,3 @@ stored_rest old mid new bytes rest place i middle end is one two =
     let whole : component (take i bytes) ++ component rest ≡ component bytes =
     sym (percent_encode-append COMPONENT (take i bytes) rest) ∙ ap (λ l. component (take i bytes ++ l)) is ∙ ap component (take-append-drop i bytes) in
     subst (λ l. Stored old new place l end) whole (stored_then old mid new (component (take i bytes)) (component rest) place middle end one two)
-
--- after the last block
-pub all_taken : (old now rest text : List ℕ) → length rest ≡ 0 → Progress old now (component rest) (component text) → now ≡ old ++ component text
-all_taken old now [] text none progress =
-    progress.taken ∙ ap (λ l. old ++ l) (sym (append-nil progress.done) ∙ ap (λ l. progress.done ++ l) (sym (percent_encode-nil COMPONENT)) ∙ progress.left)
-all_taken old now (b ∷ rest) text none progress = absurd (omega (arith, none))

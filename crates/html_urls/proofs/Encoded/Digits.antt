@@ -18,7 +18,7 @@ use Rattle.html_urls.specs.declared.component.TheConstants.{COMPONENT}
 use Rattle.html_urls.specs.Components.{component, encoded_count, is_encoded}
 use Rattle.html_urls.proofs.Encoded.Blocks.{stored_row}
 use Rattle.html_urls.proofs.Encoded.Halves.{by_high_half, by_low_half, down}
-use Rattle.html_urls.proofs.Components.{component_length_is, component_parts}
+use Rattle.html_urls.proofs.Components.{component_length_is, encoded_parts}
 use Rattle.html_urls.specs.Components.Lanes.{high_digit, low_digit, with_signs}
 
 -- ---- digits
@@ -75,7 +75,7 @@ pub stored_lanes : (w bytes old new : List ℕ) (place end count mask : ℕ) →
 stored_lanes w bytes old new place end count mask long same few within is stored =
     let made : List ℕ = component (take count w) in
     let later : List ℕ = component (drop count w) in
-    let whole : component w ≡ made ++ later = component_parts w (take count w) (drop count w) count refl refl in
+    let whole : component w ≡ made ++ later = encoded_parts COMPONENT w (take count w) (drop count w) count refl refl in
     let ones : count_ones (mask % (1 * 2 ^ count % 2 ^ 64)) ≡ encoded_count (take count w) =
     ap (λ n. count_ones (mask % n)) (one_shl count 64 (omega arith))
     ∙ ap (λ n. count_ones (n % 2 ^ count)) is

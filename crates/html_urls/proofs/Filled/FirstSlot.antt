@@ -1,5 +1,5 @@
 -- The markup before the first slot, and what its text and the parts behind it do.
-use Rattle.std.proofs.Common.{codes, ◌≡◌, ℕ, ◌<◌, Bool, true, false, ◌==◌, nat_lt, List, [], ◌∷◌, ◌++◌, length, drop, Option, Some, None, is_some, All, sym, refl, ap, ◌∙◌, subst, append_assoc, append-nil, arith, if◌then◌else◌, inl, inr, ◌⊎◌}
+use Rattle.std.proofs.Common.{codes, ◌≡◌, ℕ, ◌<◌, Bool, true, false, ◌||◌, ◌==◌, nat_lt, List, [], ◌∷◌, ◌++◌, ◌≢◌, get_or, length, drop, Option, Some, None, is_some, All, sym, refl, ap, ◌∙◌, subst, append_assoc, append-nil, arith, if◌then◌else◌, inl, inr, ◌⊎◌}
 use Rattle.std.specs.List.{list_all}
 use Rattle.std.proofs.lemmas.Bool.{and_parts, cases_Bool, cond-true, cond-false, lt-leb}
 use Rattle.std.proofs.lemmas.Bool.Decides.{nat_tests}
@@ -11,25 +11,27 @@ use Rattle.url.specs.Path.{dot_count}
 use Rattle.url.specs.Parts.{Parts}
 use Rattle.url.specs.Parser.{parse_url}
 use Rattle.url.proofs.HostLemmas.{none_from_list_any}
-use Rattle.html_urls.specs.Components.{component}
+use Rattle.html_urls.specs.Components.{component, component_at}
 use Rattle.html_urls.specs.Heads.{on_ok}
 use Rattle.html_urls.specs.Hosts.{FixesHost, IsFirstSegment, IsWebBase, absolute, hosted, is_first_byte, is_first_segment, relative, rooted}
 use Rattle.html_urls.specs.Inputs.{IsNot, IsVisible, kept, kept_rest, EndsVisibly}
 use Rattle.html_urls.specs.Links.{is_link}
+use Rattle.html_urls.specs.Parts.OpaquePaths.{BeginsOpaque}
 use Rattle.html_urls.specs.Parts.Paths.{FitsSegment, IsPathText}
 use Rattle.html_urls.specs.Parts.Rests.{path_of}
 use Rattle.html_urls.specs.Parts.Segments.{HasNoDotSegments, last_segment}
 use Rattle.html_urls.specs.Places.{EndsIn, Fits, SuitsPlace, goes_on}
 use Rattle.html_urls.specs.declared.open_part.OpenPart.{OpenPart}
-use Rattle.html_urls.specs.declared.open_part.OpenPart.TheVariants.{NewSegment, DotSegment, NamedSegment, FirstSegment, Query, Fragment}
+use Rattle.html_urls.specs.declared.open_part.OpenPart.TheVariants.{NewSegment, DotSegment, NamedSegment, FirstSegment, OpaquePath, Query, Fragment}
 use Rattle.html_urls.specs.declared.parts.UrlSlot.{UrlSlot}
 use Rattle.html_urls.specs.declared.place.UrlPlace.{UrlPlace}
 use Rattle.html_urls.specs.declared.place.UrlPlace.TheVariants as place
-use Rattle.html_urls.specs.OpenParts.{after_front, as_first, has_byte, after_text, is_first, is_fixed, open_of, open_of_link, slot_at}
+use Rattle.html_urls.specs.OpenParts.{after_front, as_first, ends_in_opaque_path, has_address_scheme, has_byte, after_text, is_first, is_opaque, is_fixed, open_of, open_of_link, slot_at}
 use Rattle.html_urls.specs.Slots.{is_plain_byte, may_fill}
 use Rattle.html_urls.proofs.Splits.{all_visible, kept_nothing, kept_visible}
 use Rattle.html_urls.proofs.Paths.PathSegments.{last_of_whole, last_whole}
 use Rattle.html_urls.proofs.Places.FixedHosts.{byte_found, fixed_front}
+use Rattle.html_urls.proofs.Places.OpaqueFronts.{begins_opaque}
 use Rattle.html_urls.proofs.Places.UrlLaw.{url_law}
 use Rattle.html_urls.proofs.Filled.OpenSegments.{path_front, Open, closes, in_path}
 use Rattle.html_urls.proofs.Filled.LaterSlots.{Good, path_over_text, text_good}
@@ -49,6 +51,7 @@ place_at NewSegment = place.Path
 place_at DotSegment = place.Path
 place_at NamedSegment = place.Path
 place_at FirstSegment = place.Path
+place_at OpaquePath = place.OpaquePath
 place_at Query = place.Query
 place_at Fragment = place.Fragment
 
@@ -123,6 +126,7 @@ first_stands front p slot kept_is ends text segment is here =
     by_part DotSegment p path open_still is here = let none : slot_at DotSegment ≡ Some slot = ap slot_at is ∙ here in absurd (cc)
     by_part NamedSegment p path named is here = subst (λ r. (in_path r ≡ true) × Open r (last_segment front) × (is_first r ≡ true)) is (refl, named, refl)
     by_part FirstSegment p path named is here = subst (λ r. (in_path r ≡ true) × Open r (last_segment front) × (is_first r ≡ true)) is (refl, named, refl)
+    by_part OpaquePath p path known is here = cc
     by_part Query p path known is here = cc
     by_part Fragment p path known is here = cc
 
@@ -154,9 +158,26 @@ link_stands (b ∷ bytes) p slot plain is here = by_tests (has_byte 35 front) (h
     by_tests false false false true fragment query fixed segment found = first_stands front p slot (kept_front front visible) ends (path_text front plain fragment query) (first_is front segment) (cc) here
     by_tests false false false false fragment query fixed segment found = cc
 
+opaque_stands : (front : List ℕ) → All (λ b. is_plain_byte b ≡ true) front → ends_in_opaque_path front ≡ true → StandsIn front OpaquePath
+opaque_stands [] plain ends = cc
+opaque_stands (b ∷ bytes) plain ends =
+    let visible = plain_visible (b ∷ bytes) plain in
+    record {
+      ends = record { ends = all_visible (b ∷ bytes) visible (omega arith); opaque = subst BeginsOpaque (sym (kept_front (b ∷ bytes) visible)) (begins_opaque (b ∷ bytes) plain ends) };
+      known = λ path. cc;
+      first = λ path. cc;
+    }
+
 pub front_stands : (front : List ℕ) (p : OpenPart) (slot : UrlSlot) → All (λ b. is_plain_byte b ≡ true) front → open_of front ≡ Some p → slot_at p ≡ Some slot → StandsIn front p
 front_stands front p slot plain is here =
-    elim (cases_Bool (is_link front)) [ inl link ↦ link_stands front p slot plain (sym (cond-true _ _ _ link) ∙ is) here | inr other ↦ let clash : None ≡ Some p = sym (cond-false _ _ _ other) ∙ is in cc ]
+    elim (cases_Bool (ends_in_opaque_path front)) [
+      | inl ends ↦ let same : OpaquePath ≡ p = part_is (sym (cond-true _ _ _ ends) ∙ is) in subst (StandsIn front) same (opaque_stands front plain ends)
+      | inr none ↦ let told : (if is_link front || has_address_scheme front then open_of_link front else None) ≡ Some p = sym (cond-false _ _ _ none) ∙ is in
+          elim (cases_Bool (is_link front || has_address_scheme front)) [ inl link ↦ link_stands front p slot plain (sym (cond-true _ _ _ link) ∙ told) here | inr other ↦ let clash : None ≡ Some p = sym (cond-false _ _ _ other) ∙ told in cc ]
+    ]
+  where
+    part_is : {q : OpenPart} → Some q ≡ Some p → q ≡ p
+    part_is same = cc
 
 -- ---- a text in the first slot
 
@@ -188,13 +209,22 @@ path_fits front p slot text rest stands path here may good =
     some_text : (p : OpenPart) → slot_at p ≡ Some slot → in_path p ≡ true → Open p [] → 0 < length text
     some_text p here path known = grind (arith, nat_tests, nat_lt, one_dot)
 
-text_fits : (front : List ℕ) (p : OpenPart) (slot : UrlSlot) (text rest : List ℕ) → StandsIn front p → slot_at p ≡ Some slot → may_fill slot text ≡ true → Good (after_text p) rest → Fits (place_at p) front text rest
-text_fits front Query slot text rest stands here may good = tt
-text_fits front Fragment slot text rest stands here may good = tt
-text_fits front NewSegment slot text rest stands here may good = path_fits front NewSegment slot text rest stands refl here may good
-text_fits front DotSegment slot text rest stands here may good = cc
-text_fits front NamedSegment slot text rest stands here may good = path_fits front NamedSegment slot text rest stands refl here may good
-text_fits front FirstSegment slot text rest stands here may good = path_fits front FirstSegment slot text rest stands refl here may good
+-- what an opaque path needs of the rest
+pub record OpaqueRest (rest : List ℕ) : Type 0 where
+  pub visible : All IsVisible (path_of rest)
+  pub first : get_or (path_of rest) 0 0 ≢ 47
+
+abbrev pub Opaque : OpenPart → List ℕ → Type 0
+Opaque p rest = is_opaque p ≡ true → OpaqueRest rest
+
+text_fits : (front : List ℕ) (p : OpenPart) (slot : UrlSlot) (text rest : List ℕ) → StandsIn front p → slot_at p ≡ Some slot → may_fill slot text ≡ true → Good (after_text p) rest → Opaque (after_text p) rest → Fits (place_at p) front text rest
+text_fits front Query slot text rest stands here may good opaque = tt
+text_fits front Fragment slot text rest stands here may good opaque = tt
+text_fits front OpaquePath slot text rest stands here may good opaque = let is = opaque refl in record { visible = is.visible; opaque = λ none. is.first }
+text_fits front NewSegment slot text rest stands here may good opaque = path_fits front NewSegment slot text rest stands refl here may good
+text_fits front DotSegment slot text rest stands here may good opaque = cc
+text_fits front NamedSegment slot text rest stands here may good opaque = path_fits front NamedSegment slot text rest stands refl here may good
+text_fits front FirstSegment slot text rest stands here may good opaque = path_fits front FirstSegment slot text rest stands refl here may good
 
 -- ---- the URL
 
@@ -202,8 +232,8 @@ any_suits : (at : UrlPlace) (base : Option Parts) → IsWebBase base → SuitsPl
 any_suits at base web = grind (arith, nat_tests)
 
 -- with these texts it is the URL of the front, of which the part goes on
-pub one_url : (base : Option Parts) (front : List ℕ) (p : OpenPart) (slot : UrlSlot) (text rest : List ℕ) → IsWebBase base → StandsIn front p → slot_at p ≡ Some slot → may_fill slot text ≡ true → Good (after_text p) rest →
-    parse_url base (front ++ (component text ++ rest)) ≡ on_ok (goes_on (place_at p) text rest) (parse_url base front)
-one_url base front p slot text rest web stands here may good =
-    ap (parse_url base) (sym (append_assoc front (component text) rest))
-    ∙ url_law (place_at p) base front text rest stands.ends (text_fits front p slot text rest stands here may good) (any_suits (place_at p) base web)
+pub one_url : (base : Option Parts) (front : List ℕ) (p : OpenPart) (slot : UrlSlot) (text rest : List ℕ) → IsWebBase base → StandsIn front p → slot_at p ≡ Some slot → may_fill slot text ≡ true → Good (after_text p) rest → Opaque (after_text p) rest →
+    parse_url base (front ++ (component_at (place_at p) text ++ rest)) ≡ on_ok (goes_on (place_at p) text rest) (parse_url base front)
+one_url base front p slot text rest web stands here may good opaque =
+    ap (parse_url base) (sym (append_assoc front (component_at (place_at p) text) rest))
+    ∙ url_law (place_at p) base front text rest stands.ends (text_fits front p slot text rest stands here may good opaque) (any_suits (place_at p) base web)

@@ -5,24 +5,26 @@ use Rattle.std.proofs.lemmas.Bool.Decides.{nat_tests}
 use Rattle.std.proofs.lemmas.List.Elements.{All-nil, All-cons, All-head, All-tail, All-append, All-push, All-weaker}
 use Rattle.url.specs.Input.{split_once, strip_tabs_and_new_lines}
 use Rattle.url.specs.Path.{dot_count}
-use Rattle.html_urls.specs.Components.{component, is_component_byte}
+use Rattle.html_urls.specs.Components.{component, component_at, is_component_byte}
 use Rattle.html_urls.specs.Inputs.{IsNot, IsVisible}
 use Rattle.html_urls.specs.Links.{has_scheme, is_mark}
 use Rattle.html_urls.specs.Parts.Paths.{IsPathText, is_path_byte}
 use Rattle.html_urls.specs.Parts.Rests.{path_of}
 use Rattle.html_urls.specs.Parts.Segments.{HasNoDotSegments, IsNoDotSegment}
 use Rattle.html_urls.specs.declared.open_part.OpenPart.{OpenPart}
-use Rattle.html_urls.specs.declared.open_part.OpenPart.TheVariants.{NewSegment, DotSegment, NamedSegment, FirstSegment, Query, Fragment}
+use Rattle.html_urls.specs.declared.open_part.OpenPart.TheVariants.{NewSegment, DotSegment, NamedSegment, FirstSegment, OpaquePath, Query, Fragment}
+use Rattle.html_urls.specs.declared.place.UrlPlace.{UrlPlace}
+use Rattle.html_urls.specs.declared.place.UrlPlace.TheVariants as place
 use Rattle.html_urls.specs.declared.parts.UrlSlot.{UrlSlot}
 use Rattle.html_urls.specs.OpenParts.{after_byte, after_segment_byte, after_markup, after_text, ends_scheme, is_end, is_first, may_be_dots, slot_at}
-use Rattle.html_urls.specs.Slots.{FillSlots, Given, Markup, Slot, is_plain_byte, later_slots, may_fill, no_parts, url_of}
+use Rattle.html_urls.specs.Slots.{FillParts, FillSlots, Given, Markup, Slot, is_plain_byte, later_slots, may_fill, no_parts, placed, url_of}
 use Rattle.html_urls.proofs.Components.{component_bytes, component_visible, component_without}
 use Rattle.html_urls.proofs.Splits.{kept_visible, split_clear}
 use Rattle.html_urls.proofs.Paths.FirstSegment.{mark_passed, text_passed}
 use Rattle.html_urls.proofs.Paths.PathSegments.{split_at, split_one}
 use Rattle.html_urls.proofs.Filled.NamedTexts.{text_names}
 use Rattle.html_urls.proofs.OpenEscapes.{plain_bytes}
-use Rattle.html_urls.proofs.Filled.Told.{later_markup, later_nothing, later_scheme, later_slot}
+use Rattle.html_urls.proofs.Filled.Told.{first_place, later_markup, later_nothing, later_places, later_scheme, later_slot, markup_places}
 use Rattle.html_urls.proofs.Filled.OpenSegments.{PathByte, inside, path_byte, slash, tail, IsNamed, Open, after_segment, closes, in_path, named_more, segment_in_path}
 
 -- ---- the path of a rest
@@ -50,7 +52,7 @@ pub fragment_ends : (rest : List ℕ) → path_of (35 ∷ rest) ≡ []
 unfolding split_once
 fragment_ends rest = ap (λ k. (split_once 63 (split_once 35 k).0).0) (kept_visible (35 ∷ []) rest (one_visible 35 (omega arith)))
 
-path_nothing : path_of [] ≡ []
+pub path_nothing : path_of [] ≡ []
 unfolding strip_tabs_and_new_lines split_once
 path_nothing = refl
 
@@ -146,18 +148,29 @@ text_good NewSegment slot text rest is may good path =
 text_good NamedSegment slot text rest is may good path = over_text NamedSegment NamedSegment text rest (good refl) (λ first. cc) (λ s named. named_more s (component text) named)
 text_good FirstSegment slot text rest is may good path = over_text FirstSegment FirstSegment text rest (good refl) (λ first. refl) (λ s named. named_more s (component text) named)
 text_good DotSegment slot text rest is may good path = cc
+text_good OpaquePath slot text rest is may good path = cc
 text_good Query slot text rest is may good path = cc
 text_good Fragment slot text rest is may good path = cc
 
 -- ---- the slots behind an open part
 
-pub later_good : (parts : List Given) (texts : List (List ℕ)) (slots : List UrlSlot) (number : ℕ) (p : OpenPart) → later_slots number p parts ≡ Ok slots → FillSlots slots texts → Good p (url_of parts texts)
+-- a slot in a path stands in the place Path
+path_place : (p : OpenPart) (slot : UrlSlot) → slot_at p ≡ Some slot → in_path p ≡ true → slot.place ≡ place.Path
+path_place p slot here path = grind (arith, nat_tests)
+
+-- where what is written is the component of the text, if this is a path
+written_good : (p : OpenPart) (slot : UrlSlot) (at : UrlPlace) (text rest : List ℕ) → slot_at p ≡ Some slot → at ≡ slot.place → may_fill slot text ≡ true → Good (after_text p) rest → Good p (component_at at text ++ rest)
+written_good p slot at text rest here same may good path =
+    subst (λ (x : UrlPlace). GoodRest p (component_at x text ++ rest)) (sym (same ∙ path_place p slot here path)) (text_good p slot text rest here may good path)
+
+pub later_good : (parts : List Given) (texts : List (List ℕ)) (slots : List UrlSlot) (number : ℕ) (p : OpenPart) → later_slots number p parts ≡ Ok slots → FillParts parts texts slots → Good p (url_of parts texts)
 later_good [] texts slots number p is fill = λ path. ended p [] path (later_nothing number p slots is).0 path_nothing
 later_good (Markup bytes ∷ parts) texts slots number p is fill =
     let (q, plain, here, rest) = later_markup number p bytes parts slots is in
-    markup_good p q bytes (url_of parts texts) (plain_bytes bytes (no_parts parts) plain) (later_scheme number p bytes parts slots is) here (later_good parts texts slots (number + 1) q rest fill)
-later_good (Slot ∷ parts) [] slots number p is fill = let (slot, more, here, rest, are) = later_slot number p parts slots is in absurd (subst (λ l. FillSlots l []) are fill)
-later_good (Slot ∷ parts) (text ∷ texts) slots number p is fill =
-    let (slot, more, here, rest, are) = later_slot number p parts slots is in
-    let both = subst (λ l. FillSlots l (text ∷ texts)) are fill in
-    text_good p slot text (url_of parts texts) here both.0 (later_good parts texts more (number + 1) (after_text p) rest both.1)
+    markup_good p q bytes (url_of parts texts) (plain_bytes bytes (no_parts parts) plain) (later_scheme number p bytes parts slots is) here (later_good parts texts slots (number + 1) q rest (fill.0, markup_places slots fill.1))
+later_good (Slot at ∷ parts) [] slots number p is fill = let (slot, more, here, rest, are) = later_slot number p at parts slots is in absurd (subst (λ l. FillSlots l []) are fill.0)
+later_good (Slot at ∷ parts) (text ∷ texts) slots number p is fill =
+    let (slot, more, here, rest, are) = later_slot number p at parts slots is in
+    let both = subst (λ l. FillSlots l (text ∷ texts)) are fill.0 in
+    let same = subst (λ l. placed l (Slot at ∷ parts) ≡ Slot at ∷ parts) are fill.1 in
+    written_good p slot at text (url_of parts texts) here (first_place more slot same) both.0 (later_good parts texts more (number + 1) (after_text p) rest (both.1, later_places more slot same))

@@ -9,7 +9,7 @@ use Rattle.html_urls.specs.Inputs.{IsNot}
 use Rattle.html_urls.specs.Parts.Paths.{IsPathText, is_path_byte}
 use Rattle.html_urls.proofs.Paths.PathSegments.{last_after, last_of_whole}
 use Rattle.html_urls.specs.declared.open_part.OpenPart.{OpenPart}
-use Rattle.html_urls.specs.declared.open_part.OpenPart.TheVariants.{NewSegment, DotSegment, NamedSegment, FirstSegment, Query, Fragment}
+use Rattle.html_urls.specs.declared.open_part.OpenPart.TheVariants.{NewSegment, DotSegment, NamedSegment, FirstSegment, OpaquePath, Query, Fragment}
 use Rattle.html_urls.specs.OpenParts.{after_byte, after_front, after_segment_byte, begins_dots, may_be_dots}
 use Rattle.html_urls.specs.Parts.Segments.{is_dot_byte, last_segment}
 use Rattle.html_urls.proofs.Paths.Opening.{all_left, all_right}
@@ -40,6 +40,7 @@ Open NewSegment s = s ≡ []
 Open DotSegment s = ⊤
 Open NamedSegment s = IsNamed s
 Open FirstSegment s = IsNamed s
+Open OpaquePath s = ⊤
 Open Query s = ⊤
 Open Fragment s = ⊤
 
@@ -48,6 +49,7 @@ in_path NewSegment = true
 in_path DotSegment = true
 in_path NamedSegment = true
 in_path FirstSegment = true
+in_path OpaquePath = false
 in_path Query = false
 in_path Fragment = false
 
@@ -61,6 +63,7 @@ closes NewSegment s path other is = ap dot_count is ∙ nothing_is_no_dot
 closes DotSegment s path other is = cc
 closes NamedSegment s path other is = ap dot_count (sym (append-nil s)) ∙ is []
 closes FirstSegment s path other is = ap dot_count (sym (append-nil s)) ∙ is []
+closes OpaquePath s path other is = cc
 closes Query s path other is = cc
 closes Fragment s path other is = cc
 

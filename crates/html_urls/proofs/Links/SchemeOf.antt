@@ -55,7 +55,7 @@ all_scheme scheme base body query fragment fits =
     next_scheme scheme (parse_body scheme base body) (λ url. with_tail (before_tail url query fragment) query fragment)
     (λ url. cond_both _ (with_path url (escape_end url.path)) url (λ (u : Parts). u.scheme ≡ url.scheme) (λ _. refl) (λ _. refl)) (body_scheme scheme base body fits)
 
-parts_scheme : (scheme : List ℕ) (base : Option Parts) (body : List ℕ) (query fragment : Option (List ℕ)) → Fits scheme base → HasScheme scheme (parse_parts scheme base body query fragment)
+pub parts_scheme : (scheme : List ℕ) (base : Option Parts) (body : List ℕ) (query fragment : Option (List ℕ)) → Fits scheme base → HasScheme scheme (parse_parts scheme base body query fragment)
 unfolding parse_parts
 parts_scheme scheme base body query fragment fits = grind (arith, nat_tests, all_scheme, cond_both)
 

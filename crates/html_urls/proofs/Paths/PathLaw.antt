@@ -1,6 +1,8 @@
 -- A text in the path.
-use Rattle.std.proofs.Common.{◌≡◌, ◌⊎◌, inl, inr, append-nil, ℕ, ◌<◌, true, false, List, [], ◌∷◌, ◌++◌, length, Option, None, Ok, IfOk, codes, All, sym, refl, ap, ◌∙◌, subst, append_assoc, arith, ◌≢◌, get_or}
+use Rattle.std.proofs.Common.{◌≡◌, ◌⊎◌, inl, inr, append-nil, ℕ, ◌<◌, true, false, List, [], ◌∷◌, ◌++◌, length, Option, Some, None, Ok, Err, IfOk, codes, All, sym, refl, ap, ◌∙◌, subst, append_assoc, arith, ◌≢◌, get_or}
+use Rattle.std.proofs.lemmas.Bool.{cond_both}
 use Rattle.std.proofs.lemmas.Bool.Decides.{nat_tests}
+use Rattle.url.specs.declared.error.ParseError.TheVariants.{RelativeUrlWithCannotBeABaseBase}
 use Rattle.std.proofs.lemmas.List.{get_or_append_left}
 use Rattle.std.proofs.lemmas.List.Elements.{All-nil, All-tail, All-append, All-weaker}
 use Rattle.percent_encoding.specs.Percent.{percent_encode}
@@ -10,13 +12,14 @@ use Rattle.url.specs.declared.scheme.SchemeType.TheVariants.{SpecialNotFile}
 use Rattle.url.specs.Head.{without_tail}
 use Rattle.url.specs.Input.{lowercase, split_once}
 use Rattle.url.specs.Path.{dot_count, parse_path}
-use Rattle.url.specs.Parts.{Parts}
+use Rattle.url.specs.Parts.{Parts, cannot_be_a_base, kind_of}
+use Rattle.url.specs.Scheme.{scheme_type}
 use Rattle.url.specs.Parser.{Parsed, and_then, parse_authority, with_path, with_tail, split_scheme, parse_by_scheme, parse_url}
 use Rattle.url.proofs.InputLemmas.{split_once_none}
 use Rattle.html_urls.specs.declared.component.TheConstants.{COMPONENT}
 use Rattle.html_urls.specs.Components.{component, is_component_byte}
 use Rattle.html_urls.specs.Heads.{on_ok}
-use Rattle.html_urls.specs.Hosts.{FixesHost, IsFirstSegment, absolute, hosted, rooted, relative, IsWebBase}
+use Rattle.html_urls.specs.Hosts.{FixesHost, IsFirstSegment, IsWebScheme, absolute, hosted, rooted, relative, IsWebBase}
 use Rattle.html_urls.specs.Inputs.{IsNot, kept, kept_rest}
 use Rattle.html_urls.specs.Links.{has_scheme}
 use Rattle.html_urls.specs.Parts.Paths.{is_path_byte, IsPathText, EndsInPath, FitsSegment, path_goes_on}
@@ -25,7 +28,8 @@ use Rattle.html_urls.specs.Parts.Segments.{last_segment, HasNoDotSegments}
 use Rattle.html_urls.proofs.Components.{component_without, encode_around}
 use Rattle.html_urls.proofs.Splits.{kept_around, split_clear}
 use Rattle.html_urls.proofs.Paths.PathSegments.{after_front, last_after, path_alone, path_grows}
-use Rattle.html_urls.proofs.Paths.Opening.{Reads, authority_of, hosted_reads, from_base, folder_of, all_left, all_right, rooted_reads, first_not, absolute_reads}
+use Rattle.html_urls.proofs.Paths.Opening.{Reads, authority_of, authority_scheme, hosted_reads, from_base, folder_of, all_left, all_right, rooted_reads, first_not, absolute_reads}
+use Rattle.html_urls.proofs.Paths.WebSchemes.{web_type}
 use Rattle.html_urls.proofs.Paths.FirstSegment.{segment_reads, text_passed}
 
 -- ---- bytes
@@ -35,8 +39,32 @@ path_without mark other = All-weaker (λ b. is_path_byte b ≡ true) (IsNot mark
 
 -- ---- what the parser has read at the end of the front
 
+-- the URL is special, and no file
+abbrev pub IsSpecial : Parts → Type 0
+IsSpecial url = kind_of url ≡ SpecialNotFile
+
+base_special : (base : Option Parts) → IsWebBase base → IfOk (from_base base) IsSpecial
+base_special None web = tt
+base_special (Some url) web = grind (arith, nat_tests)
+
+web_special : (scheme host : List ℕ) → IsWebScheme scheme → IfOk (parse_authority (lowercase scheme) host) IsSpecial
+web_special scheme host web = of_scheme (parse_authority (lowercase scheme) host) (authority_scheme (lowercase scheme) host) (web_type scheme web)
+  where
+    of_scheme : (parsed : Parsed Parts) → IfOk parsed (λ url. url.scheme ≡ lowercase scheme) → scheme_type (lowercase scheme) ≡ SpecialNotFile → IfOk parsed IsSpecial
+    of_scheme parsed same kind = grind (arith, nat_tests)
+
+host_special : (base : Option Parts) (host : List ℕ) → IsWebBase base → IfOk (authority_of base host) IsSpecial
+host_special None host web = tt
+host_special (Some url) host web =
+    cond_both (cannot_be_a_base url) (Err RelativeUrlWithCannotBeABaseBase) (parse_authority url.scheme host) (λ (r : Parsed Parts). IfOk r IsSpecial) (λ _. tt)
+    (λ _. of_scheme (parse_authority url.scheme host) (authority_scheme url.scheme host))
+  where
+    of_scheme : (parsed : Parsed Parts) → IfOk parsed (λ other. other.scheme ≡ url.scheme) → IfOk parsed IsSpecial
+    of_scheme parsed same = grind (arith, nat_tests)
+
 record Opened (base : Option Parts) (front text : List ℕ) : Type 0 where
   start : Parsed Parts
+  special : IfOk start IsSpecial
   path : List ℕ
   body : List ℕ
   plain : All (IsNot 92) body
@@ -59,6 +87,7 @@ host_opened base _ text web plain (absolute scheme host rest is_web some other) 
     let after = All-tail (IsNot 92) 47 rest (all_right (IsNot 92) head (47 ∷ rest) plain) in
     record {
       start = parse_authority (lowercase scheme) host;
+      special = web_special scheme host is_web;
       path = [];
       body = rest;
       plain = after;
@@ -72,6 +101,7 @@ host_opened base _ text web plain (hosted host rest some other) text_some =
     let after = All-tail (IsNot 92) 47 rest (all_right (IsNot 92) head (47 ∷ rest) plain) in
     record {
       start = authority_of base host;
+      special = host_special base host web;
       path = [];
       body = rest;
       plain = after;
@@ -85,6 +115,7 @@ host_opened base _ text web plain (rooted rest other) text_some =
     let some = λ (none : rest ≡ []). text_some (ap (λ l. 47 ∷ l) none) in
     record {
       start = from_base base;
+      special = base_special base web;
       path = [];
       body = rest;
       plain = after;
@@ -94,6 +125,7 @@ host_opened base _ text web plain (rooted rest other) text_some =
     }
 host_opened base _ text web plain (relative first rest some bytes) text_some = record {
   start = from_base base;
+  special = base_special base web;
   path = folder_of base;
   body = first ++ 47 ∷ rest;
   plain = plain;
@@ -106,6 +138,7 @@ opened : (base : Option Parts) (front text : List ℕ) → IsWebBase base → Al
 opened base front text web plain (inl fixed) text_some = host_opened base front text web plain fixed text_some
 opened base front text web plain (inr segment) text_some = record {
   start = from_base base;
+  special = base_special base web;
   path = folder_of base;
   body = front;
   plain = plain;
@@ -146,7 +179,7 @@ path_law base front text rest web place fits =
     let resolved : dot_count (last_segment at.body) ≡ 0 = ap dot_count at.last ∙ place.resolved in
     let dots : HasNoDotSegments (last_segment at.body ++ (c ++ body)) =
     subst HasNoDotSegments (append_assoc (last_segment before) c body ∙ ap (λ x. x ++ (c ++ body)) (sym at.last)) fits.resolved in
-    let encoded = encode_around PATH refl refl [] text body in
+    let encoded = encode_around COMPONENT PATH refl refl [] text body in
     let grown = path_grows at.path at.body (c ++ body) at.plain after_plain resolved dots ∙ ap (λ x. parse_path SpecialNotFile at.path at.body ++ x) encoded ∙ sym (append_assoc (parse_path SpecialNotFile at.path at.body) c (percent_encode PATH body)) in
     ap read_hash whole_hash ∙ ap (λ r. read r hash.1) whole_question ∙ at.goes_on body fits.scheme (query_of rest) (fragment_of rest)
     ∙ grow at.start text rest (parse_path SpecialNotFile at.path at.body) (parse_path SpecialNotFile at.path (at.body ++ (c ++ body))) grown
@@ -156,7 +189,7 @@ path_law base front text rest web place fits =
 
 -- what the parser makes of a front that ends in its path: its path ends with the open segment
 abbrev Alone : Option Parts → List ℕ → Type 0
-Alone base front = (start : Parsed Parts) × (before : List ℕ) × (parse_url base front ≡ and_then start (λ url. Ok (with_tail (with_path url (before ++ 47 ∷ percent_encode PATH (last_segment (kept front)))) None None)))
+Alone base front = (start : Parsed Parts) × IfOk start IsSpecial × (before : List ℕ) × (parse_url base front ≡ and_then start (λ url. Ok (with_tail (with_path url (before ++ 47 ∷ percent_encode PATH (last_segment (kept front)))) None None)))
 
 alone : (base : Option Parts) (front : List ℕ) → IsWebBase base → EndsInPath front → Alone base front
 unfolding parse_url
@@ -168,6 +201,7 @@ alone base front web place =
     let read = λ (r : List ℕ × Option (List ℕ)) (fragment : Option (List ℕ)). parse_by_scheme (split_scheme r.0) base r.0 r.1 fragment in
     let read_hash = λ (r : List ℕ × Option (List ℕ)). read (split_once 63 r.0) r.1 in (
       at.start,
+      at.special,
       before,
       ap read_hash (split_once_none 35 whole (path_without 35 refl whole place.plain))
           ∙ ap (λ r. read r None) (split_once_none 63 whole (path_without 63 refl whole place.plain))
@@ -178,6 +212,10 @@ alone base front web place =
 -- it has neither a query nor a fragment
 pub path_bare : (base : Option Parts) (front : List ℕ) → IsWebBase base → EndsInPath front → parse_url base front ≡ on_ok without_tail (parse_url base front)
 path_bare base front web place = grind (arith, nat_tests, alone)
+
+-- it is special
+pub path_special : (base : Option Parts) (front : List ℕ) → IsWebBase base → EndsInPath front → IfOk (parse_url base front) IsSpecial
+path_special base front web place = grind (arith, nat_tests, alone)
 
 -- its path is some path, `/` and the open segment, percent-encoded
 pub front_path : (base : Option Parts) (front : List ℕ) → IsWebBase base → EndsInPath front → (before : List ℕ) × IfOk (parse_url base front) (λ url. url.path ≡ before ++ 47 ∷ percent_encode PATH (last_segment (kept front)))

@@ -6,6 +6,7 @@ use Rattle.std.proofs.lemmas.List.Elements.{All-cons, All-head, All-nil, All-tai
 use Rattle.std.specs.Bool.{⊤}
 use Rattle.form_urlencoded.specs.Form.{onto_first, split}
 use Rattle.url.specs.Input.{split_once}
+use Rattle.html_urls.specs.declared.place.UrlPlace.{UrlPlace}
 use Rattle.html_urls.specs.Pieces.{behind_slash, onto_piece, open_path, pieces}
 use Rattle.html_urls.specs.Shapes.{before_fragment_parts, from_slot, front_of, path_parts, query_parts, split_parts}
 use Rattle.html_urls.specs.Slots.{Given, Markup, Slot, ends_in_escape}
@@ -43,7 +44,7 @@ halves_close mark (Markup bytes ∷ part ∷ parts) closed =
       | found before after is halves whole ↦ rw halves (refl, closed_before after (part ∷ parts) (after_closed mark bytes after is ended) (closed_behind bytes (part ∷ parts) closed))
       | clear halves whole ↦ rw halves (closed_before bytes (split_parts mark (part ∷ parts)).0 ended later.0, later.1)
     ]
-halves_close mark (Slot ∷ parts) closed = halves_close mark parts closed
+halves_close mark (Slot at ∷ parts) closed = halves_close mark parts closed
 
 -- ---- pieces
 
@@ -83,9 +84,9 @@ markup_closes (bytes ∷ []) (piece ∷ more) last all =
     All-cons ClosesEscapes (Markup bytes ∷ piece) more (closed_before bytes piece last (All-head ClosesEscapes piece more all)) (All-tail ClosesEscapes piece more all)
 markup_closes (bytes ∷ next ∷ more) later last all = All-cons ClosesEscapes (Markup bytes ∷ []) (onto_pieces (next ∷ more) later) refl (markup_closes (next ∷ more) later last all)
 
-slot_closes : (l : List (List Given)) → All ClosesEscapes l → All ClosesEscapes (onto_piece Slot l)
-slot_closes [] all = All-cons ClosesEscapes (Slot ∷ []) [] refl (All-nil ClosesEscapes)
-slot_closes (piece ∷ more) all = All-cons ClosesEscapes (Slot ∷ piece) more (All-head ClosesEscapes piece more all) (All-tail ClosesEscapes piece more all)
+slot_closes : (at : UrlPlace) (l : List (List Given)) → All ClosesEscapes l → All ClosesEscapes (onto_piece (Slot at) l)
+slot_closes at [] all = All-cons ClosesEscapes (Slot at ∷ []) [] refl (All-nil ClosesEscapes)
+slot_closes at (piece ∷ more) all = All-cons ClosesEscapes (Slot at ∷ piece) more (All-head ClosesEscapes piece more all) (All-tail ClosesEscapes piece more all)
 
 pub pieces_close : (mark : ℕ) (parts : List Given) → ClosesEscapes parts → All ClosesEscapes (pieces mark parts)
 pieces_close mark [] closed = All-cons ClosesEscapes [] [] refl (All-nil ClosesEscapes)
@@ -95,7 +96,7 @@ pieces_close mark (Markup bytes ∷ part ∷ parts) closed =
     (markup_closes (split mark bytes) (pieces mark (part ∷ parts))
     (subst LastCloses (onto_nothing (split mark bytes) (split_some mark bytes)) (last_closes mark [] bytes (closed_markup bytes part parts closed)))
     (pieces_close mark (part ∷ parts) (closed_behind bytes (part ∷ parts) closed)))
-pieces_close mark (Slot ∷ parts) closed = slot_closes (pieces mark parts) (pieces_close mark parts closed)
+pieces_close mark (Slot at ∷ parts) closed = slot_closes at (pieces mark parts) (pieces_close mark parts closed)
 
 -- ---- a query, and the path from its open segment on
 
@@ -106,7 +107,7 @@ query_closes parts own closed is =
 from_slot_closes : (parts : List Given) → ClosesEscapes parts → ClosesEscapes (from_slot parts)
 from_slot_closes [] closed = refl
 from_slot_closes (Markup bytes ∷ parts) closed = from_slot_closes parts (closed_behind bytes parts closed)
-from_slot_closes (Slot ∷ parts) closed = closed
+from_slot_closes (Slot at ∷ parts) closed = closed
 
 -- the markup before the first slot
 front_closes : (parts : List Given) (first : Given) (later : List Given) → ClosesEscapes parts → from_slot parts ≡ first ∷ later → ends_in_escape (front_of parts) ≡ false
@@ -114,7 +115,7 @@ front_closes [] first later closed is = cc
 front_closes (Markup bytes ∷ []) first later closed is = cc
 front_closes (Markup bytes ∷ part ∷ parts) first later closed is =
     both_closed bytes (front_of (part ∷ parts)) (closed_markup bytes part parts closed) (front_closes (part ∷ parts) first later (closed_behind bytes (part ∷ parts) closed) is)
-front_closes (Slot ∷ parts) first later closed is = refl
+front_closes (Slot at ∷ parts) first later closed is = refl
 
 -- its last segment
 behind_closes : (so_far bytes : List ℕ) → ends_in_escape (so_far ++ bytes) ≡ false → ends_in_escape (behind_slash so_far bytes) ≡ false

@@ -6,17 +6,19 @@ use Rattle.percent_encoding.specs.declared.ascii_set.AsciiSet.{AsciiSet}
 use Rattle.percent_encoding.specs.AsciiSet.{contains}
 use Rattle.percent_encoding.specs.Percent.{percent_encode}
 use Rattle.percent_encoding.proofs.PercentLemmas.{percent_encode-append, percent_encode-nil, percent_encode_unchanged}
-use Rattle.url.specs.declared.sets.TheConstants.{FRAGMENT, PATH, QUERY, SPECIAL_QUERY}
+use Rattle.url.specs.declared.sets.TheConstants.{FRAGMENT, OPAQUE_PATH, PATH, QUERY, SPECIAL_QUERY}
 use Rattle.url.specs.declared.scheme.SchemeType.{SchemeType}
 use Rattle.url.specs.declared.scheme.SchemeType.TheVariants.{File, SpecialNotFile, NotSpecial}
 use Rattle.url.specs.Input.{split_once}
 use Rattle.url.specs.Parts.{query_set}
 use Rattle.url.proofs.SetLemmas.{encoded_is_kept, is_escape_byte, outside_pass, passing_outside}
-use Rattle.html_urls.specs.declared.component.TheConstants.{COMPONENT}
-use Rattle.html_urls.specs.Components.{component, is_component_byte}
-use Rattle.html_urls.specs.Shapes.{encoded, from_slot, onto_halves, split_markup, split_parts, texts_after}
+use Rattle.html_urls.specs.declared.component.TheConstants.{ADDRESS, COMPONENT}
+use Rattle.html_urls.specs.declared.place.UrlPlace.{UrlPlace}
+use Rattle.html_urls.specs.declared.place.UrlPlace.TheVariants.{Path, OpaquePath, Query, Fragment}
+use Rattle.html_urls.specs.Components.{component_at, is_written_byte}
+use Rattle.html_urls.specs.Shapes.{encoded, path_set, from_slot, onto_halves, split_markup, split_parts, texts_after}
 use Rattle.html_urls.specs.Slots.{Given, Markup, Slot, url_of}
-use Rattle.html_urls.proofs.Components.{component_without}
+use Rattle.html_urls.proofs.Components.{written_without}
 use Rattle.html_urls.proofs.Splits.{split_clear, split_found, split_whole}
 
 -- ---- splitting
@@ -56,7 +58,7 @@ markup_split mark bytes parts = by_mark (split_once mark bytes).1 refl
 abbrev pub halves_of : Halves → List (List ℕ) → List ℕ × Option (List ℕ)
 halves_of halves texts = (url_of halves.0 texts, option_map (λ parts. url_of parts (texts_after halves.0 texts)) halves.1)
 
-pub split_filled : (mark : ℕ) → is_component_byte mark ≡ false → (parts : List Given) (texts : List (List ℕ)) → split_once mark (url_of parts texts) ≡ halves_of (split_parts mark parts) texts
+pub split_filled : (mark : ℕ) → is_written_byte mark ≡ false → (parts : List Given) (texts : List (List ℕ)) → split_once mark (url_of parts texts) ≡ halves_of (split_parts mark parts) texts
 unfolding split_once
 split_filled mark other [] texts = refl
 split_filled mark other (Markup bytes ∷ parts) texts =
@@ -64,55 +66,66 @@ split_filled mark other (Markup bytes ∷ parts) texts =
       | found before after is halves whole ↦ rw (whole (url_of parts texts), halves) (ap (λ l. (l, Some (after ++ url_of parts texts))) (sym (append-nil before)))
       | clear halves whole ↦ rw (whole (url_of parts texts), halves, split_filled mark other parts texts) refl
     ]
-split_filled mark other (Slot ∷ parts) [] = split_filled mark other parts []
-split_filled mark other (Slot ∷ parts) (text ∷ texts) =
-    split_clear mark (component text) (url_of parts texts) (component_without mark other text) ∙ ap (λ r. (component text ++ r.0, r.1)) (split_filled mark other parts texts)
+split_filled mark other (Slot at ∷ parts) [] = split_filled mark other parts []
+split_filled mark other (Slot at ∷ parts) (text ∷ texts) =
+    split_clear mark (component_at at text) (url_of parts texts) (written_without mark other at text) ∙ ap (λ r. (component_at at text ++ r.0, r.1)) (split_filled mark other parts texts)
 
 -- ---- percent-encoding
 
--- the set escapes no byte of a component
+-- the set escapes no byte that a text is written with
 abbrev pub Keeps : AsciiSet → Type 0
-Keeps set = (text : List ℕ) → percent_encode set (component text) ≡ component text
+Keeps set = (at : UrlPlace) (text : List ℕ) → percent_encode set (component_at at text) ≡ component_at at text
 
-keeps : (set : AsciiSet) → outside_pass COMPONENT (λ b. not (contains set b)) ≡ true → passing_outside is_escape_byte set ≡ true → Keeps set
-keeps set within escapes text = percent_encode_unchanged set (component text) (encoded_is_kept COMPONENT set within escapes text)
+keeps : (set : AsciiSet) → outside_pass COMPONENT (λ b. not (contains set b)) ≡ true → outside_pass ADDRESS (λ b. not (contains set b)) ≡ true → passing_outside is_escape_byte set ≡ true → Keeps set
+keeps set within address_within escapes at text = by_place at
+  where
+    of_component : percent_encode set (component_at Path text) ≡ component_at Path text
+    of_component = percent_encode_unchanged set (component_at Path text) (encoded_is_kept COMPONENT set within escapes text)
 
-pub path_keeps : Keeps PATH
-path_keeps = keeps PATH refl refl
+    by_place : (at : UrlPlace) → percent_encode set (component_at at text) ≡ component_at at text
+    by_place Path = of_component
+    by_place OpaquePath = percent_encode_unchanged set (component_at OpaquePath text) (encoded_is_kept ADDRESS set address_within escapes text)
+    by_place Query = of_component
+    by_place Fragment = of_component
+
+pub path_keeps : (kind : SchemeType) → Keeps (path_set kind)
+path_keeps File = keeps PATH refl refl refl
+path_keeps SpecialNotFile = keeps PATH refl refl refl
+path_keeps NotSpecial = keeps OPAQUE_PATH refl refl refl
 
 pub fragment_keeps : Keeps FRAGMENT
-fragment_keeps = keeps FRAGMENT refl refl
+fragment_keeps = keeps FRAGMENT refl refl refl
 
 pub query_keeps : (kind : SchemeType) → Keeps (query_set kind)
-query_keeps File = keeps SPECIAL_QUERY refl refl
-query_keeps SpecialNotFile = keeps SPECIAL_QUERY refl refl
-query_keeps NotSpecial = keeps QUERY refl refl
+query_keeps File = keeps SPECIAL_QUERY refl refl refl
+query_keeps SpecialNotFile = keeps SPECIAL_QUERY refl refl refl
+query_keeps NotSpecial = keeps QUERY refl refl refl
 
 pub encode_filled : (set : AsciiSet) → Keeps set → (parts : List Given) (texts : List (List ℕ)) → percent_encode set (url_of parts texts) ≡ url_of (encoded set parts) texts
 encode_filled set kept [] texts = percent_encode-nil set
 encode_filled set kept (Markup bytes ∷ parts) texts = percent_encode-append set bytes (url_of parts texts) ∙ ap (λ l. percent_encode set bytes ++ l) (encode_filled set kept parts texts)
-encode_filled set kept (Slot ∷ parts) [] = encode_filled set kept parts []
-encode_filled set kept (Slot ∷ parts) (text ∷ texts) =
-    percent_encode-append set (component text) (url_of parts texts)
-    ∙ ap (λ l. l ++ percent_encode set (url_of parts texts)) (kept text)
-    ∙ ap (λ l. component text ++ l) (encode_filled set kept parts texts)
+encode_filled set kept (Slot at ∷ parts) [] = encode_filled set kept parts []
+encode_filled set kept (Slot at ∷ parts) (text ∷ texts) =
+    percent_encode-append set (component_at at text) (url_of parts texts)
+    ∙ ap (λ l. l ++ percent_encode set (url_of parts texts)) (kept at text)
+    ∙ ap (λ l. component_at at text ++ l) (encode_filled set kept parts texts)
 
 -- ---- the texts that are left
 
 pub texts_encoded : (set : AsciiSet) (parts : List Given) (texts : List (List ℕ)) → texts_after (encoded set parts) texts ≡ texts_after parts texts
 texts_encoded set [] texts = refl
 texts_encoded set (Markup bytes ∷ parts) texts = texts_encoded set parts texts
-texts_encoded set (Slot ∷ parts) [] = texts_encoded set parts []
-texts_encoded set (Slot ∷ parts) (text ∷ texts) = texts_encoded set parts texts
+texts_encoded set (Slot at ∷ parts) [] = texts_encoded set parts []
+texts_encoded set (Slot at ∷ parts) (text ∷ texts) = texts_encoded set parts texts
 
 pub texts_from_slot : (parts : List Given) (texts : List (List ℕ)) → texts_after (from_slot parts) texts ≡ texts_after parts texts
 texts_from_slot [] texts = refl
 texts_from_slot (Markup bytes ∷ parts) texts = texts_from_slot parts texts
-texts_from_slot (Slot ∷ parts) texts = refl
+texts_from_slot (Slot at ∷ parts) texts = refl
 
 -- those behind the two halves are those behind the whole
 pub texts_split : (mark : ℕ) (parts : List Given) (texts : List (List ℕ)) → texts_after (unwrap_or (split_parts mark parts).1 []) (texts_after (split_parts mark parts).0 texts) ≡ texts_after parts texts
 texts_split mark [] texts = refl
 texts_split mark (Markup bytes ∷ parts) texts = elim (markup_split mark bytes parts) [ found before after is halves whole ↦ rw halves refl | clear halves whole ↦ rw halves (texts_split mark parts texts) ]
-texts_split mark (Slot ∷ parts) [] = texts_split mark parts []
-texts_split mark (Slot ∷ parts) (text ∷ texts) = texts_split mark parts texts
+texts_split mark (Slot at ∷ parts) [] = texts_split mark parts []
+texts_split mark (Slot at ∷ parts) (text ∷ texts) = texts_split mark parts texts

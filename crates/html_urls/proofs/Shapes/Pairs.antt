@@ -8,7 +8,7 @@ use Rattle.form_urlencoded.specs.Form as form
 use Rattle.form_urlencoded.proofs.FormLemmas.{split_once_after_other, split_once_after_same, split_once_before_other, split_once_before_same}
 use Rattle.percent_encoding.proofs.PercentLemmas.{IsByte}
 use Rattle.url.specs.Input.{split_once}
-use Rattle.html_urls.specs.Components.{component}
+use Rattle.html_urls.specs.Components.{component_at}
 use Rattle.html_urls.specs.Decoded.{pair_of, pairs_of}
 use Rattle.html_urls.specs.Pieces.{HasMarkup, filled_pieces, pieces}
 use Rattle.html_urls.specs.Shapes.{split_parts, texts_after}
@@ -17,6 +17,7 @@ use Rattle.html_urls.proofs.Bytes.{AllBytes}
 use Rattle.html_urls.proofs.OpenEscapes.{ClosesEscapes}
 use Rattle.html_urls.proofs.Shapes.Closing.{halves_close}
 use Rattle.html_urls.proofs.Shapes.Decoding.{form_law}
+use Rattle.html_urls.proofs.Shapes.FormSlots.{FormSlots, halves_form}
 use Rattle.html_urls.proofs.Shapes.Fills.{split_filled}
 use Rattle.html_urls.proofs.Shapes.Pieces.{pieces_law}
 
@@ -41,20 +42,21 @@ form_split mark (x ∷ xs) =
 pub bytes_after : (parts : List Given) (texts : List (List ℕ)) → AllBytes texts → AllBytes (texts_after parts texts)
 bytes_after [] texts bytes = bytes
 bytes_after (Markup markup ∷ parts) texts bytes = bytes_after parts texts bytes
-bytes_after (Slot ∷ parts) [] bytes = bytes_after parts [] bytes
-bytes_after (Slot ∷ parts) (text ∷ texts) bytes = bytes_after parts texts (All-tail (All IsByte) text texts bytes)
+bytes_after (Slot at ∷ parts) [] bytes = bytes_after parts [] bytes
+bytes_after (Slot at ∷ parts) (text ∷ texts) bytes = bytes_after parts texts (All-tail (All IsByte) text texts bytes)
 
 or_nothing : (o : Option (List Given)) (texts : List (List ℕ)) → unwrap_or (option_map (λ parts. url_of parts texts) o) [] ≡ url_of (unwrap_or o []) texts
 or_nothing o texts = grind (arith, nat_tests)
 
-pair_filled : (string : List Given) (texts : List (List ℕ)) → AllBytes texts → ClosesEscapes string → (decode (split_pair (url_of string texts)).0, decode (split_pair (url_of string texts)).1) ≡ pair_of string texts
-pair_filled string texts bytes closed =
+pair_filled : (string : List Given) (texts : List (List ℕ)) → AllBytes texts → FormSlots string → ClosesEscapes string → (decode (split_pair (url_of string texts)).0, decode (split_pair (url_of string texts)).1) ≡ pair_of string texts
+pair_filled string texts bytes form closed =
     let halves = split_parts 61 string in
     let left = texts_after halves.0 texts in
     let both = halves_close 61 string closed in
+    let forms = halves_form 61 string form in
     let splits = form_split 61 (url_of string texts) ∙ ap (λ r. (r.0, unwrap_or r.1 [])) (split_filled 61 refl string texts) in
-    let name = ap (λ r. decode r.0) splits ∙ form_law halves.0 texts bytes both.0 in
-    let value = ap (λ r. decode r.1) splits ∙ ap decode (or_nothing halves.1 left) ∙ form_law (unwrap_or halves.1 []) left (bytes_after halves.0 texts bytes) both.1 in
+    let name = ap (λ r. decode r.0) splits ∙ form_law halves.0 texts bytes forms.0 both.0 in
+    let value = ap (λ r. decode r.1) splits ∙ ap decode (or_nothing halves.1 left) ∙ form_law (unwrap_or halves.1 []) left (bytes_after halves.0 texts bytes) forms.1 both.1 in
     λ i. (name i, value i)
 
 -- ---- all pairs
@@ -63,8 +65,8 @@ pub some_bytes : (piece : List Given) (texts : List (List ℕ)) → HasMarkup pi
 some_bytes [] texts has = cc
 some_bytes (Markup [] ∷ parts) texts has = some_bytes parts texts has
 some_bytes (Markup (b ∷ bytes) ∷ parts) texts has = omega arith
-some_bytes (Slot ∷ parts) [] has = some_bytes parts [] has
-some_bytes (Slot ∷ parts) (text ∷ texts) has = omega (arith, some_bytes parts texts has, length-append (component text) (url_of parts texts))
+some_bytes (Slot at ∷ parts) [] has = some_bytes parts [] has
+some_bytes (Slot at ∷ parts) (text ∷ texts) has = omega (arith, some_bytes parts texts has, length-append (component_at at text) (url_of parts texts))
 
 pub none_empty : (l : List (List Given)) (texts : List (List ℕ)) → All HasMarkup l → filter is_nonempty (filled_pieces l texts) ≡ filled_pieces l texts
 none_empty [] texts has = refl
@@ -72,11 +74,11 @@ none_empty (piece ∷ more) texts has =
     cond-true _ _ _ (lt-ltb 0 (length (url_of piece texts)) (some_bytes piece texts (All-head HasMarkup piece more has)))
     ∙ ap (λ l. url_of piece texts ∷ l) (none_empty more (texts_after piece texts) (All-tail HasMarkup piece more has))
 
-pairs_filled : (l : List (List Given)) (texts : List (List ℕ)) → AllBytes texts → All ClosesEscapes l → map (λ pair. (decode pair.0, decode pair.1)) (map split_pair (filled_pieces l texts)) ≡ pairs_of l texts
-pairs_filled [] texts bytes closed = refl
-pairs_filled (string ∷ more) texts bytes closed =
-    let first = pair_filled string texts bytes (All-head ClosesEscapes string more closed) in
-    let later = pairs_filled more (texts_after string texts) (bytes_after string texts bytes) (All-tail ClosesEscapes string more closed) in
+pairs_filled : (l : List (List Given)) (texts : List (List ℕ)) → AllBytes texts → All FormSlots l → All ClosesEscapes l → map (λ pair. (decode pair.0, decode pair.1)) (map split_pair (filled_pieces l texts)) ≡ pairs_of l texts
+pairs_filled [] texts bytes form closed = refl
+pairs_filled (string ∷ more) texts bytes form closed =
+    let first = pair_filled string texts bytes (All-head FormSlots string more form) (All-head ClosesEscapes string more closed) in
+    let later = pairs_filled more (texts_after string texts) (bytes_after string texts bytes) (All-tail FormSlots string more form) (All-tail ClosesEscapes string more closed) in
     λ i. first i ∷ later i
 
 raw_filled : (query : List Given) (texts : List (List ℕ)) → All HasMarkup (pieces 38 query) → raw_pairs (url_of query texts) ≡ map split_pair (filled_pieces (pieces 38 query) texts)
@@ -84,6 +86,6 @@ unfolding raw_pairs
 raw_filled query texts has = grind (arith, nat_tests, map, filter, pieces_law, none_empty)
 
 -- THE PAIRS LAW
-pub pairs_law : (query : List Given) (texts : List (List ℕ)) → AllBytes texts → All HasMarkup (pieces 38 query) → All ClosesEscapes (pieces 38 query) → parse (url_of query texts) ≡ pairs_of (pieces 38 query) texts
-pairs_law query texts bytes has closed =
-    ap (map (λ pair. (decode pair.0, decode pair.1))) (raw_filled query texts has) ∙ pairs_filled (pieces 38 query) texts bytes closed
+pub pairs_law : (query : List Given) (texts : List (List ℕ)) → AllBytes texts → All HasMarkup (pieces 38 query) → All FormSlots (pieces 38 query) → All ClosesEscapes (pieces 38 query) → parse (url_of query texts) ≡ pairs_of (pieces 38 query) texts
+pairs_law query texts bytes has form closed =
+    ap (map (λ pair. (decode pair.0, decode pair.1))) (raw_filled query texts has) ∙ pairs_filled (pieces 38 query) texts bytes form closed

@@ -1,26 +1,25 @@
 -- The shape of parts whose first slot stands in the path.
-use Rattle.std.proofs.Common.{◌≡◌, ℕ, false, List, [], ◌∷◌, ◌++◌, Option, None, Ok, Err, is_some, option_map, sym, refl, ap, ◌∙◌, append_assoc, append-nil, arith}
+use Rattle.std.proofs.Common.{◌≡◌, ℕ, false, List, [], ◌∷◌, ◌++◌, Option, None, Ok, Err, IfOk, is_some, option_map, sym, refl, ap, ◌∙◌, append_assoc, append-nil, arith}
 use Rattle.std.proofs.lemmas.Bool.Decides.{nat_tests}
 use Rattle.percent_encoding.specs.Percent.{percent_encode}
 use Rattle.percent_encoding.proofs.PercentLemmas.{percent_encode-append}
-use Rattle.url.specs.declared.sets.TheConstants.{FRAGMENT, PATH}
+use Rattle.percent_encoding.specs.declared.ascii_set.AsciiSet.{AsciiSet}
+use Rattle.url.specs.declared.sets.TheConstants.{FRAGMENT}
 use Rattle.url.specs.Head.{without_tail}
 use Rattle.url.specs.declared.scheme.SchemeType.{SchemeType}
 use Rattle.url.specs.Input.{split_once}
 use Rattle.url.specs.Parts.{Parts, kind_of, query_set}
 use Rattle.url.specs.Parser.{Parsed, and_then, parse_url}
-use Rattle.html_urls.specs.Components.{component}
+use Rattle.html_urls.specs.Components.{component_at}
+use Rattle.html_urls.specs.declared.place.UrlPlace.{UrlPlace}
 use Rattle.html_urls.specs.Heads.{on_ok}
-use Rattle.html_urls.specs.Hosts.{IsWebBase}
 use Rattle.html_urls.specs.Inputs.{kept_rest}
-use Rattle.html_urls.specs.Parts.Paths.{EndsInPath, path_after, path_goes_on}
 use Rattle.html_urls.specs.Parts.Rests.{fragment_of, path_of, query_of}
-use Rattle.html_urls.specs.Shapes.{before_fragment_parts, fill, from_slot, front_of, path_parts, shape_from}
+use Rattle.html_urls.specs.Shapes.{before_fragment_parts, fill, from_slot, front_of, path_parts, path_set, shape_from, split_parts}
 use Rattle.html_urls.specs.Slots.{Given, Slot, url_of}
-use Rattle.html_urls.proofs.Components.{component_without}
+use Rattle.html_urls.proofs.Components.{written_without}
 use Rattle.html_urls.proofs.Splits.{kept_nothing, kept_visible, split_clear, split_whole}
-use Rattle.html_urls.proofs.Paths.PathLaw.{path_bare}
-use Rattle.html_urls.proofs.Shapes.Fills.{path_keeps, split_filled}
+use Rattle.html_urls.proofs.Shapes.Fills.{Keeps, split_filled}
 use Rattle.html_urls.proofs.Shapes.Filling.{filled_is, fragment_bytes, grown, query_bytes}
 use Rattle.html_urls.proofs.Shapes.Fronts.{front_of_split, from_slot_split, url_of_front}
 use Rattle.html_urls.proofs.Shapes.PlainParts.{ArePlain, url_visible}
@@ -45,11 +44,23 @@ rest_split parts texts plain =
       ap (λ k. (split_once 35 k).1) kept_is,
     )
 
-pub path_shape : (base : Option Parts) (parts later : List Given) (text : List ℕ) (texts : List (List ℕ)) → IsWebBase base → ArePlain parts → ArePlain later → from_slot parts ≡ Slot ∷ later →
-    is_some (front_fragment parts) ≡ false → is_some (front_query parts) ≡ false → EndsInPath (front_of parts) →
-    parse_url base (front_of parts ++ (component text ++ url_of later texts)) ≡ on_ok (path_goes_on text (url_of later texts)) (parse_url base (front_of parts)) → HasThatShape base parts (text ∷ texts)
-path_shape base parts later text texts web plain later_plain from no_fragment no_query ends goes =
-    ap (parse_url base) whole ∙ goes ∙ by_front (parse_url base front) (path_bare base front web ends)
+-- what a URL becomes whose path goes on with a text and a rest, of which this set escapes the bytes
+abbrev pub path_grown : AsciiSet → UrlPlace → List ℕ → List ℕ → Parts → Parts
+path_grown set at text rest url = record url {
+  path = url.path ++ component_at at text ++ percent_encode set (path_of rest);
+  query = option_map (percent_encode (query_set (kind_of url))) (query_of rest);
+  fragment = option_map (percent_encode FRAGMENT) (fragment_of rest);
+}
+
+-- the set is that of the URL, where there is one
+abbrev pub HasSet : AsciiSet → Parsed Parts → Type 0
+HasSet set parsed = IfOk parsed (λ url. path_set (kind_of url) ≡ set)
+
+pub path_shape : (set : AsciiSet) (at : UrlPlace) (base : Option Parts) (parts later : List Given) (text : List ℕ) (texts : List (List ℕ)) → Keeps set → ArePlain later → from_slot parts ≡ Slot at ∷ later →
+    is_some (front_fragment parts) ≡ false → is_some (front_query parts) ≡ false → parse_url base (front_of parts) ≡ on_ok without_tail (parse_url base (front_of parts)) → HasSet set (parse_url base (front_of parts)) →
+    parse_url base (front_of parts ++ (component_at at text ++ url_of later texts)) ≡ on_ok (path_grown set at text (url_of later texts)) (parse_url base (front_of parts)) → HasThatShape base parts (text ∷ texts)
+path_shape set at base parts later text texts kept later_plain from no_fragment no_query bare has goes =
+    ap (parse_url base) whole ∙ goes ∙ by_front (parse_url base front) bare has
   where
     front : List ℕ
     front = front_of parts
@@ -60,7 +71,10 @@ path_shape base parts later text texts web plain later_plain from no_fragment no
     before : List Given
     before = before_fragment_parts parts
 
-    whole : url_of parts (text ∷ texts) ≡ front ++ (component text ++ rest)
+    c : List ℕ
+    c = component_at at text
+
+    whole : url_of parts (text ∷ texts) ≡ front ++ (c ++ rest)
     whole = url_of_front parts (text ∷ texts) ∙ ap (λ l. front ++ url_of l (text ∷ texts)) from
 
     alone : (split_once 35 front).0 ≡ front
@@ -69,32 +83,43 @@ path_shape base parts later text texts web plain later_plain from no_fragment no
     no_mark : is_some (split_once 63 front).1 ≡ false
     no_mark = ap (λ l. is_some (split_once 63 l).1) (sym alone) ∙ no_query
 
-    path_is : component text ++ path_after rest ≡ percent_encode PATH (url_of (from_slot (path_parts parts)) (text ∷ texts))
-    path_is = grind (arith, nat_tests, from_slot_split, is_some, front_of_split, rest_split, percent_encode-append, path_keeps)
+    from_is : from_slot (path_parts parts) ≡ Slot at ∷ path_parts later
+    from_is =
+        from_slot_split 63 before (ap (λ l. is_some (split_once 63 l).1) (front_of_split 35 parts) ∙ no_query)
+        ∙ ap (λ l. (split_parts 63 l).0) (from_slot_split 35 parts no_fragment ∙ ap (λ l. (split_parts 35 l).0) from)
+
+    path_is : c ++ percent_encode set (path_of rest) ≡ percent_encode set (url_of (from_slot (path_parts parts)) (text ∷ texts))
+    path_is =
+        ap (λ l. c ++ percent_encode set l) (rest_split later texts later_plain).0
+        ∙ ap (λ l. l ++ percent_encode set (url_of (path_parts later) texts)) (sym (kept at text))
+        ∙ sym (percent_encode-append set c (url_of (path_parts later) texts))
+        ∙ ap (λ l. percent_encode set (url_of l (text ∷ texts))) (sym from_is)
 
     fragment_is : fragment_bytes parts (text ∷ texts) ≡ fragment_of rest
     fragment_is =
         fragment_bytes_are parts (text ∷ texts) ∙ ap (λ l. (split_once 35 l).1) whole
-        ∙ ap (λ r. r.1) (split_whole 35 front (component text ++ rest) no_fragment)
-        ∙ ap (λ r. r.1) (split_clear 35 (component text) rest (component_without 35 refl text))
+        ∙ ap (λ r. r.1) (split_whole 35 front (c ++ rest) no_fragment)
+        ∙ ap (λ r. r.1) (split_clear 35 c rest (written_without 35 refl at text))
         ∙ sym (rest_split later texts later_plain).2
 
-    before_is : url_of before (text ∷ texts) ≡ front ++ (component text ++ (split_once 35 rest).0)
+    before_is : url_of before (text ∷ texts) ≡ front ++ (c ++ (split_once 35 rest).0)
     before_is =
         ap (λ r. r.0) (sym (split_filled 35 refl parts (text ∷ texts))) ∙ ap (λ l. (split_once 35 l).0) whole
-        ∙ ap (λ r. r.0) (split_whole 35 front (component text ++ rest) no_fragment)
-        ∙ ap (λ r. front ++ r.0) (split_clear 35 (component text) rest (component_without 35 refl text))
+        ∙ ap (λ r. r.0) (split_whole 35 front (c ++ rest) no_fragment)
+        ∙ ap (λ r. front ++ r.0) (split_clear 35 c rest (written_without 35 refl at text))
 
     query_is : query_bytes parts (text ∷ texts) ≡ query_of rest
     query_is =
         query_bytes_are parts (text ∷ texts) ∙ ap (λ l. (split_once 63 l).1) before_is
-        ∙ ap (λ r. r.1) (split_whole 63 front (component text ++ (split_once 35 rest).0) no_mark)
-        ∙ ap (λ r. r.1) (split_clear 63 (component text) (split_once 35 rest).0 (component_without 63 refl text))
+        ∙ ap (λ r. r.1) (split_whole 63 front (c ++ (split_once 35 rest).0) no_mark)
+        ∙ ap (λ r. r.1) (split_clear 63 c (split_once 35 rest).0 (written_without 63 refl at text))
         ∙ sym (rest_split later texts later_plain).1
 
-    goes_on_is : (url : Parts) → url.query ≡ None → path_goes_on text rest url ≡ grown parts (text ∷ texts) url
-    goes_on_is url none =
-        let path = append_assoc url.path (component text) (path_after rest) ∙ ap (λ l. url.path ++ l) path_is in
+    goes_on_is : (url : Parts) → url.query ≡ None → path_set (kind_of url) ≡ set → path_grown set at text rest url ≡ grown parts (text ∷ texts) url
+    goes_on_is url none own =
+        let path =
+        append_assoc url.path c (percent_encode set (path_of rest)) ∙ ap (λ l. url.path ++ l) path_is
+        ∙ ap (λ s. url.path ++ percent_encode s (url_of (from_slot (path_parts parts)) (text ∷ texts))) (sym own) in
         let query =
         ap (option_map (percent_encode (query_set (kind_of url)))) (sym query_is)
         ∙ sym (query_or_none (kind_of url) (query_bytes parts (text ∷ texts)))
@@ -102,8 +127,8 @@ path_shape base parts later text texts web plain later_plain from no_fragment no
         let fragment = ap (option_map (percent_encode FRAGMENT)) (sym fragment_is) in
         λ i. record url { path = path i; query = query i; fragment = fragment i }
 
-    by_front : (parsed : Parsed Parts) → parsed ≡ on_ok without_tail parsed → on_ok (path_goes_on text rest) parsed ≡ fill (and_then parsed (λ url. Ok (shape_from parts url))) (text ∷ texts)
-    by_front (Ok url) bare =
+    by_front : (parsed : Parsed Parts) → parsed ≡ on_ok without_tail parsed → HasSet set parsed → on_ok (path_grown set at text rest) parsed ≡ fill (and_then parsed (λ url. Ok (shape_from parts url))) (text ∷ texts)
+    by_front (Ok url) bare own =
         let same : url ≡ without_tail url = cc in
-        ap Ok (goes_on_is url (ap (λ u. u.query) same) ∙ sym (filled_is parts (text ∷ texts) url))
-    by_front (Err e) bare = refl
+        ap Ok (goes_on_is url (ap (λ u. u.query) same) own ∙ sym (filled_is parts (text ∷ texts) url))
+    by_front (Err e) bare own = refl

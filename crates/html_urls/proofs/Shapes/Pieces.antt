@@ -4,11 +4,12 @@ use Rattle.std.proofs.lemmas.Bool.Decides.{nat_tests}
 use Rattle.std.proofs.lemmas.Bool.{cases_Bool, cond-false, ne_eqb}
 use Rattle.std.proofs.lemmas.List.Elements.{All-head, All-tail}
 use Rattle.form_urlencoded.specs.Form.{onto_first, split}
-use Rattle.html_urls.specs.Components.{component, is_component_byte}
+use Rattle.html_urls.specs.Components.{component_at, is_written_byte}
+use Rattle.html_urls.specs.declared.place.UrlPlace.{UrlPlace}
 use Rattle.html_urls.specs.Inputs.{IsNot}
 use Rattle.html_urls.specs.Pieces.{filled_pieces, markup_pieces, onto_markup, onto_piece, pieces}
 use Rattle.html_urls.specs.Slots.{Given, Markup, Slot, url_of}
-use Rattle.html_urls.proofs.Components.{component_without}
+use Rattle.html_urls.proofs.Components.{written_without}
 use Rattle.html_urls.proofs.Splits.{split_some}
 
 -- ---- pieces of bytes
@@ -87,7 +88,7 @@ onto_pieces_some (bytes ∷ next ∷ more) later some = omega arith
 pub pieces_some : (mark : ℕ) (parts : List Given) → 0 < length (pieces mark parts)
 pieces_some mark [] = omega arith
 pieces_some mark (Markup bytes ∷ parts) = rw (pieces_are mark bytes (pieces mark parts)) (onto_pieces_some (split mark bytes) (pieces mark parts) (pieces_some mark parts))
-pieces_some mark (Slot ∷ parts) = onto_piece_some Slot (pieces mark parts)
+pieces_some mark (Slot at ∷ parts) = onto_piece_some (Slot at) (pieces mark parts)
 
 markup_filled : (bytes : List ℕ) (l : List (List Given)) (texts : List (List ℕ)) → 0 < length l → onto_front bytes (filled_pieces l texts) ≡ filled_pieces (onto_piece (Markup bytes) l) texts
 markup_filled bytes l texts some = grind (arith, nat_tests)
@@ -100,22 +101,22 @@ all_filled (bytes ∷ next ∷ more) l texts some =
     let alone = sym (append-nil bytes) in
     λ i. alone i ∷ later i
 
-no_text : (l : List (List Given)) → 0 < length l → filled_pieces l [] ≡ filled_pieces (onto_piece Slot l) []
-no_text l some = grind (arith, nat_tests)
+no_text : (at : UrlPlace) (l : List (List Given)) → 0 < length l → filled_pieces l [] ≡ filled_pieces (onto_piece (Slot at) l) []
+no_text at l some = grind (arith, nat_tests)
 
-one_text : (text : List ℕ) (l : List (List Given)) (texts : List (List ℕ)) → 0 < length l → onto_front (component text) (filled_pieces l texts) ≡ filled_pieces (onto_piece Slot l) (text ∷ texts)
-one_text text l texts some = grind (arith, nat_tests)
+one_text : (at : UrlPlace) (text : List ℕ) (l : List (List Given)) (texts : List (List ℕ)) → 0 < length l → onto_front (component_at at text) (filled_pieces l texts) ≡ filled_pieces (onto_piece (Slot at) l) (text ∷ texts)
+one_text at text l texts some = grind (arith, nat_tests)
 
 -- THE PIECES LAW
-pub pieces_law : (mark : ℕ) → is_component_byte mark ≡ false → (parts : List Given) (texts : List (List ℕ)) → split mark (url_of parts texts) ≡ filled_pieces (pieces mark parts) texts
+pub pieces_law : (mark : ℕ) → is_written_byte mark ≡ false → (parts : List Given) (texts : List (List ℕ)) → split mark (url_of parts texts) ≡ filled_pieces (pieces mark parts) texts
 unfolding split
 pieces_law mark other [] texts = refl
 pieces_law mark other (Markup bytes ∷ parts) texts =
     split_joins mark bytes (url_of parts texts) ∙ ap (joined (split mark bytes)) (pieces_law mark other parts texts)
     ∙ all_filled (split mark bytes) (pieces mark parts) texts (pieces_some mark parts)
     ∙ sym (ap (λ l. filled_pieces l texts) (pieces_are mark bytes (pieces mark parts)))
-pieces_law mark other (Slot ∷ parts) [] = pieces_law mark other parts [] ∙ no_text (pieces mark parts) (pieces_some mark parts)
-pieces_law mark other (Slot ∷ parts) (text ∷ texts) =
-    split_front mark (component text) (url_of parts texts) (component_without mark other text)
-    ∙ ap (onto_front (component text)) (pieces_law mark other parts texts)
-    ∙ one_text text (pieces mark parts) texts (pieces_some mark parts)
+pieces_law mark other (Slot at ∷ parts) [] = pieces_law mark other parts [] ∙ no_text at (pieces mark parts) (pieces_some mark parts)
+pieces_law mark other (Slot at ∷ parts) (text ∷ texts) =
+    split_front mark (component_at at text) (url_of parts texts) (written_without mark other at text)
+    ∙ ap (onto_front (component_at at text)) (pieces_law mark other parts texts)
+    ∙ one_text at text (pieces mark parts) texts (pieces_some mark parts)

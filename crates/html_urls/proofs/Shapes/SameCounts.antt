@@ -4,7 +4,7 @@ use Rattle.std.proofs.lemmas.Bool.Decides.{nat_tests}
 use Rattle.form_urlencoded.specs.Form.{split}
 use Rattle.url.specs.Parts.{Parts}
 use Rattle.url.specs.Parser.{Parsed, parse_url}
-use Rattle.html_urls.specs.Components.{is_component_byte}
+use Rattle.html_urls.specs.Components.{is_written_byte}
 use Rattle.html_urls.specs.Heads.{head_of}
 use Rattle.html_urls.specs.Hosts.{IsWebBase}
 use Rattle.html_urls.specs.Parts.Pairs.{string_count}
@@ -20,7 +20,7 @@ same_length [] texts others = refl
 same_length (piece ∷ more) texts others = ap suc (same_length more (texts_after piece texts) (texts_after piece others))
 
 -- whatever the texts, there are as many pieces
-piece_count : (mark : ℕ) → is_component_byte mark ≡ false → (parts : List Given) (texts others : List (List ℕ)) → length (split mark (url_of parts texts)) ≡ length (split mark (url_of parts others))
+piece_count : (mark : ℕ) → is_written_byte mark ≡ false → (parts : List Given) (texts others : List (List ℕ)) → length (split mark (url_of parts texts)) ≡ length (split mark (url_of parts others))
 piece_count mark other parts texts others = grind (arith, nat_tests, pieces_law, same_length)
 
 query_count : (query : Option (List Given)) (texts others : List (List ℕ)) →

@@ -3,13 +3,12 @@ use Rattle.std.proofs.Common.{◌≡◌, ℕ, true, List, [], ◌++◌, Option, 
 use Rattle.std.proofs.lemmas.Bool.Decides.{nat_tests}
 use Rattle.percent_encoding.specs.Percent.{percent_encode}
 use Rattle.percent_encoding.proofs.PercentLemmas.{percent_encode-nil}
-use Rattle.url.specs.declared.sets.TheConstants.{PATH}
 use Rattle.url.specs.Input.{split_once}
-use Rattle.url.specs.Parts.{Parts}
+use Rattle.url.specs.Parts.{Parts, kind_of}
 use Rattle.url.specs.Parser.{Parsed, and_then, parse_by_scheme, parse_url, split_scheme}
 use Rattle.html_urls.specs.Heads.{on_ok}
 use Rattle.html_urls.specs.Inputs.{IsVisible}
-use Rattle.html_urls.specs.Shapes.{before_fragment_parts, fill, from_slot, front_of, path_parts, shape_from, shape_of}
+use Rattle.html_urls.specs.Shapes.{before_fragment_parts, fill, from_slot, front_of, path_parts, path_set, shape_from, shape_of}
 use Rattle.html_urls.specs.Slots.{Given, url_of}
 use Rattle.html_urls.proofs.Splits.{split_found, some_value}
 use Rattle.html_urls.proofs.Filled.FirstSlot.{kept_front, plain_visible}
@@ -66,8 +65,8 @@ tail_shape base parts texts plain none same =
     ∙ ap (on_ok (with_tails query fragment)) (sym (parsed base front (plain_visible front (front_plain parts plain))))
     ∙ by_front (parse_url base front)
   where
-    no_more : (url : Parts) → url.path ≡ url.path ++ percent_encode PATH (url_of (from_slot (path_parts parts)) texts)
-    no_more url = sym (ap (λ l. url.path ++ percent_encode PATH (url_of l texts)) none ∙ ap (λ l. url.path ++ l) (percent_encode-nil PATH) ∙ append-nil url.path)
+    no_more : (url : Parts) → url.path ≡ url.path ++ percent_encode (path_set (kind_of url)) (url_of (from_slot (path_parts parts)) texts)
+    no_more url = sym (ap (λ l. url.path ++ percent_encode (path_set (kind_of url)) (url_of l texts)) none ∙ ap (λ l. url.path ++ l) (percent_encode-nil (path_set (kind_of url))) ∙ append-nil url.path)
 
     by_front : (front : Parsed Parts) → on_ok (with_tails (query_bytes parts texts) (fragment_bytes parts texts)) front ≡ fill (and_then front (λ url. Ok (shape_from parts url))) texts
     by_front (Ok url) = ap Ok (ap (λ p. record (with_tails (query_bytes parts texts) (fragment_bytes parts texts) url) { path = p }) (no_more url) ∙ sym (filled_is parts texts url))

@@ -5,6 +5,7 @@ use Rattle.url.specs.declared.sets.TheConstants.{FRAGMENT}
 use Rattle.url.specs.Input.{split_once}
 use Rattle.url.specs.Parts.{Parts}
 use Rattle.url.specs.Parser.{parse_by_scheme, split_scheme, parse_url}
+use Rattle.html_urls.specs.declared.component.TheConstants.{COMPONENT}
 use Rattle.html_urls.specs.Components.{component}
 use Rattle.html_urls.specs.Heads.{on_ok}
 use Rattle.html_urls.specs.Inputs.{kept, kept_rest}
@@ -27,7 +28,7 @@ fragment_law base front text rest place =
     let question = split_once 63 before in
     let read = λ (hash : List ℕ × Option (List ℕ)). parse_by_scheme (split_scheme (split_once 63 hash.0).0) base (split_once 63 hash.0).0 (split_once 63 hash.0).1 hash.1 in
     let goes_on : (url : Parts) → fragment_goes_on text rest (with_tails question.1 (Some f) url) ≡ with_tails question.1 (Some (f ++ (c ++ after))) url =
-    λ url. ap (λ x. record (with_tails question.1 None url) { fragment = Some x }) (sym (encode_around FRAGMENT refl refl f text after) ∙ ap (percent_encode FRAGMENT) (append_assoc f c after)) in
+    λ url. ap (λ x. record (with_tails question.1 None url) { fragment = Some x }) (sym (encode_around COMPONENT FRAGMENT refl refl f text after) ∙ ap (percent_encode FRAGMENT) (append_assoc f c after)) in
     ap read whole_hash
     ∙ tails_go_on (split_scheme question.0) base question.0 question.1 question.1 (Some f) (Some (f ++ (c ++ after))) (fragment_goes_on text rest) (refl, λ _. refl) goes_on
     ∙ sym (ap (on_ok (fragment_goes_on text rest)) (ap read front_hash))

@@ -7,6 +7,7 @@ use Rattle.url.specs.declared.scheme.SchemeType.TheVariants.{File, SpecialNotFil
 use Rattle.url.specs.Input.{split_once}
 use Rattle.url.specs.Parts.{Parts, kind_of, query_set}
 use Rattle.url.specs.Parser.{parse_by_scheme, split_scheme, parse_url}
+use Rattle.html_urls.specs.declared.component.TheConstants.{COMPONENT}
 use Rattle.html_urls.specs.Components.{component}
 use Rattle.html_urls.specs.Heads.{on_ok}
 use Rattle.html_urls.specs.Inputs.{kept, kept_rest}
@@ -16,9 +17,9 @@ use Rattle.html_urls.proofs.Tails.{tails_go_on, with_tails}
 use Rattle.html_urls.proofs.Splits.{kept_around, split_found, split_clear, split_whole, some_value}
 
 encode_query : (kind : SchemeType) (before text after : List ℕ) → percent_encode (query_set kind) (before ++ component text ++ after) ≡ percent_encode (query_set kind) before ++ component text ++ percent_encode (query_set kind) after
-encode_query File = encode_around SPECIAL_QUERY refl refl
-encode_query SpecialNotFile = encode_around SPECIAL_QUERY refl refl
-encode_query NotSpecial = encode_around QUERY refl refl
+encode_query File = encode_around COMPONENT SPECIAL_QUERY refl refl
+encode_query SpecialNotFile = encode_around COMPONENT SPECIAL_QUERY refl refl
+encode_query NotSpecial = encode_around COMPONENT QUERY refl refl
 
 -- THE QUERY LAW: the URL is that of the front, with a query that goes on, and the fragment of the rest
 pub query_law : (base : Option Parts) (front text rest : List ℕ) → EndsInQuery front →

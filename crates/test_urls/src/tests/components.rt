@@ -3,8 +3,9 @@ use crate::tests::hostile::ROWS;
 use hesc_engine::Counter;
 use hesc_engine::forms::Parts;
 use html_urls::{
-    Component, append_component, append_component_to_vec, component_length, encode_component,
-    encode_component_to_string, encode_component_to_vec, encode_component_to_writer, put_component,
+    Component, UrlPlace, append_component, append_component_to_vec, component_length,
+    component_length_at, encode_component, encode_component_to_string, encode_component_to_vec,
+    encode_component_to_writer, put_component, put_component_at,
 };
 use std::borrow::CowStr;
 use std::test::Fail;
@@ -82,6 +83,18 @@ fn a_fault_of_the_writer_is_handed_on(rt: HostRuntime) -> Result<(), Fail> {
         assert!(rt; writer.taken.as_slice() == &b"a%26b"[..taken], "{number}");
         assert!(rt; writer.calls == number);
     }
+    Ok(())
+}
+
+#[test]
+fn a_text_is_put_as_its_place_has_it(rt: HostRuntime) -> Result<(), Fail> {
+    let mut counter = Counter::new();
+    assert!(rt; put_component_at(UrlPlace::OpaquePath, "a+b@c?d", &mut counter).is_ok());
+    assert!(rt; counter.count() == 9);
+    assert!(rt; put_component_at(UrlPlace::Query, "a+b@c?d", &mut counter).is_ok());
+    assert!(rt; counter.count() == 22);
+    assert!(rt; component_length_at(UrlPlace::OpaquePath, "a+b@c?d") == Some(9));
+    assert!(rt; component_length_at(UrlPlace::Query, "a+b@c?d") == Some(13));
     Ok(())
 }
 

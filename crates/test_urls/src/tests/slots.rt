@@ -2,8 +2,8 @@
 use html_urls::UrlPart::{Markup, Slot};
 use html_urls::{
     OpenPart, UrlFault, UrlPart, UrlPlace, UrlSlot, UrlTextFault, after_markup, after_text,
-    append_component, append_url, ends_scheme, is_plain, may_be_dots, may_fill, open_of, slot_at,
-    slots_of,
+    append_component, append_url, ends_scheme, is_plain, is_unfixed, may_be_dots, may_fill,
+    open_of, slot_at, slots_of,
 };
 use std::alloc::Global;
 use std::test::Fail;
@@ -30,6 +30,11 @@ const IN_SEGMENT: UrlSlot = UrlSlot {
     begins_segment: false,
 };
 
+const IN_OPAQUE_PATH: UrlSlot = UrlSlot {
+    place: UrlPlace::OpaquePath,
+    begins_segment: false,
+};
+
 const IN_QUERY: UrlSlot = UrlSlot {
     place: UrlPlace::Query,
     begins_segment: false,
@@ -41,7 +46,7 @@ const IN_FRAGMENT: UrlSlot = UrlSlot {
 };
 
 // A front, and the fault of a slot behind it.
-const FRONTS: [(&str, UrlFault); 36] = [
+const FRONTS: [(&str, UrlFault); 39] = [
     ("", UrlFault::NotFixed(1)),
     ("//", UrlFault::NotFixed(1)),
     ("//x", UrlFault::NotFixed(1)),
@@ -62,9 +67,12 @@ const FRONTS: [(&str, UrlFault); 36] = [
     ("javascript:x?", UrlFault::NotFixed(1)),
     ("JavaScript:x#", UrlFault::NotFixed(1)),
     ("data:text/html,?", UrlFault::NotFixed(1)),
-    ("tel:1?", UrlFault::NotFixed(1)),
     ("file:///a?q=", UrlFault::NotFixed(1)),
-    ("mailto:", UrlFault::NotFixed(1)),
+    ("tel:/", UrlFault::NotFixed(1)),
+    ("mailto:/", UrlFault::NotFixed(1)),
+    ("mailto://", UrlFault::NotFixed(1)),
+    ("mailto2:", UrlFault::NotFixed(1)),
+    ("sms:", UrlFault::NotFixed(1)),
     ("file:///", UrlFault::NotFixed(1)),
     ("/a b/", UrlFault::NotPlain(0)),
     ("/\t/", UrlFault::NotPlain(0)),
@@ -318,6 +326,16 @@ fn slots_are_told_part_by_part(rt: HostRuntime) -> Result<(), Fail> {
     assert!(rt; ends_scheme(OpenPart::FirstSegment, b"-b:c"));
     assert!(rt; !ends_scheme(OpenPart::FirstSegment, b"/b:c"));
     assert!(rt; !ends_scheme(OpenPart::NamedSegment, b"-b:c"));
+    assert!(rt; open_of(b"mailto:") == Some(OpenPart::OpaquePath));
+    assert!(rt; open_of(b"TEL:+49") == Some(OpenPart::OpaquePath));
+    assert!(rt; open_of(b"mailto:/").is_none() && open_of(b"tel:/1").is_none());
+    assert!(rt; open_of(b"tel:1?") == Some(OpenPart::Query));
+    assert!(rt; open_of(b"tel:1#") == Some(OpenPart::Fragment));
+    assert!(rt; slot_at(OpenPart::OpaquePath) == Some(IN_OPAQUE_PATH));
+    assert!(rt; after_markup(OpenPart::OpaquePath, b"@a?") == Some(OpenPart::Query));
+    assert!(rt; is_unfixed(OpenPart::OpaquePath, b"/b"));
+    assert!(rt; !is_unfixed(OpenPart::OpaquePath, b"@a.example?cc=/"));
+    assert!(rt; is_unfixed(OpenPart::FirstSegment, b"-b:c"));
     assert!(rt; open_of(b"//").is_none() && open_of(b"javascript:x?").is_none());
     assert!(rt; slot_at(OpenPart::NewSegment) == Some(BEGINS));
     assert!(rt; slot_at(OpenPart::DotSegment).is_none());
@@ -326,6 +344,32 @@ fn slots_are_told_part_by_part(rt: HostRuntime) -> Result<(), Fail> {
     assert!(rt; after_markup(OpenPart::NamedSegment, b"/../b").is_none());
     assert!(rt; after_markup(OpenPart::NamedSegment, b"/%2") == Some(OpenPart::DotSegment));
     assert!(rt; may_be_dots(OpenPart::DotSegment) && !may_be_dots(OpenPart::NamedSegment));
+    Ok(())
+}
+
+#[test]
+fn an_address_and_a_number_are_appended(rt: HostRuntime) -> Result<(), Fail> {
+    let mail = [
+        Markup("mailto:"),
+        Slot,
+        Markup("@example.org,"),
+        Slot,
+        Markup("?subject="),
+        Slot,
+    ];
+    let slots = [IN_OPAQUE_PATH, IN_OPAQUE_PATH, IN_QUERY];
+    assert!(rt; are_slots(rt.alloc(), &mail, &slots));
+    let mut link = String::new(rt.alloc());
+    assert!(rt; append_url(&mut link, &mail, &["a+b", "c?cc=d@e,f", "g+h@i"]).is_ok());
+    assert!(rt; link.as_str() == "mailto:a+b@example.org,c%3Fcc%3Dd@e%2Cf?subject=g%2Bh%40i");
+    let mut link = String::new(rt.alloc());
+    let number = [Markup("tel:"), Slot];
+    assert!(rt; append_url(&mut link, &number, &["+49 30 1234"]).is_ok());
+    assert!(rt; link.as_str() == "tel:+49%2030%201234");
+    let parts = [Markup("mailto:"), Slot, Markup("/b")];
+    assert!(rt; is_fault(rt.alloc(), &parts, UrlFault::NotFixed(2)));
+    let parts = [Markup("mail"), Slot, Markup("to:")];
+    assert!(rt; is_fault(rt.alloc(), &parts, UrlFault::NotFixed(2)));
     Ok(())
 }
 

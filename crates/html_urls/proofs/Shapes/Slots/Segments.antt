@@ -16,7 +16,7 @@ use Rattle.html_urls.specs.Inputs.{IsNot, kept}
 use Rattle.html_urls.specs.Parts.Paths.{EndsInPath}
 use Rattle.html_urls.specs.Parts.Segments.{last_segment}
 use Rattle.html_urls.specs.Pieces.{behind_slash, filled_pieces, open_path, pieces}
-use Rattle.html_urls.specs.Shapes.{fill, from_slot, front_of, path_parts, shape_from, texts_after}
+use Rattle.html_urls.specs.Shapes.{fill, from_slot, front_of, path_parts, path_set, shape_from, texts_after}
 use Rattle.html_urls.specs.Places.{EndsIn}
 use Rattle.html_urls.specs.Slots.{FillUrl, Given, Told, begins_in_path, is_path, slots_of, url_of}
 use Rattle.html_urls.specs.declared.parts.UrlSlot.{UrlSlot}
@@ -26,7 +26,7 @@ use Rattle.html_urls.proofs.Bytes.{AllBytes, IsOfBytes}
 use Rattle.html_urls.proofs.Filled.FirstSlot.{place_at, slot_place, front_stands, kept_front, plain_visible}
 use Rattle.html_urls.proofs.OpenEscapes.{ClosesEscapes}
 use Rattle.html_urls.proofs.Paths.Opening.{all_left, all_right}
-use Rattle.html_urls.proofs.Paths.PathLaw.{front_path}
+use Rattle.html_urls.proofs.Paths.PathLaw.{IsSpecial, front_path, path_special}
 use Rattle.html_urls.proofs.Paths.PathSegments.{last_after, last_of_whole, slash_kept}
 use Rattle.html_urls.proofs.Splits.{split_joined}
 use Rattle.html_urls.proofs.Shapes.Closing.{open_closes, pieces_close}
@@ -61,10 +61,10 @@ front_kept parts texts fills = grind (arith, nat_tests, kept_front, plain_visibl
 abbrev EndsOpen : List ℕ → List Given → List (List ℕ) → Parts → Type 0
 EndsOpen before parts texts url = url.path ≡ before ++ 47 ∷ percent_encode PATH (url_of (open_path parts) texts)
 
-filled_path : (base : Option Parts) (parts : List Given) (before : List ℕ) (texts : List (List ℕ)) → IsWebBase base → FillUrl parts texts →
+filled_path : (base : Option Parts) (parts : List Given) (before : List ℕ) (texts : List (List ℕ)) → IsWebBase base → FillUrl parts texts → IfOk (parse_url base (front_of parts)) IsSpecial →
     IfOk (parse_url base (front_of parts)) (λ url. url.path ≡ before ++ 47 ∷ percent_encode PATH (last_segment (kept (front_of parts)))) → IfOk (parse_url base (url_of parts texts)) (EndsOpen before parts texts)
-filled_path base parts before texts web fills ends =
-    subst (λ (parsed : Parsed Parts). IfOk parsed (EndsOpen before parts texts)) (sym (shape_law base parts texts web fills)) (by_front (parse_url base (front_of parts)) ends)
+filled_path base parts before texts web fills special ends =
+    subst (λ (parsed : Parsed Parts). IfOk parsed (EndsOpen before parts texts)) (sym (shape_law base parts texts web fills)) (by_front (parse_url base (front_of parts)) special ends)
   where
     last : List ℕ
     last = behind_slash [] (front_of parts)
@@ -72,13 +72,13 @@ filled_path base parts before texts web fills ends =
     rest : List ℕ
     rest = url_of (from_slot (path_parts parts)) texts
 
-    by_front : (front : Parsed Parts) → IfOk front (λ url. url.path ≡ before ++ 47 ∷ percent_encode PATH (last_segment (kept (front_of parts)))) → IfOk (fill (and_then front (λ url. Ok (shape_from parts url))) texts) (EndsOpen before parts texts)
-    by_front (Ok url) is =
+    by_front : (front : Parsed Parts) → IfOk front IsSpecial → IfOk front (λ url. url.path ≡ before ++ 47 ∷ percent_encode PATH (last_segment (kept (front_of parts)))) → IfOk (fill (and_then front (λ url. Ok (shape_from parts url))) texts) (EndsOpen before parts texts)
+    by_front (Ok url) kind is =
         let own = is ∙ ap (λ f. before ++ 47 ∷ percent_encode PATH (last_segment f)) (front_kept parts texts fills) ∙ ap (λ l. before ++ 47 ∷ percent_encode PATH l) (sym (behind_is [] (front_of parts) (All-nil (IsNot 47)))) in
-        ap (λ u. u.path) (filled_is parts texts url) ∙ ap (λ p. p ++ percent_encode PATH rest) own
+        ap (λ u. u.path) (filled_is parts texts url) ∙ ap (λ k. url.path ++ percent_encode (path_set k) rest) kind ∙ ap (λ p. p ++ percent_encode PATH rest) own
         ∙ append_assoc before (47 ∷ percent_encode PATH last) (percent_encode PATH rest)
         ∙ ap (λ l. before ++ 47 ∷ l) (sym (percent_encode-append PATH last rest))
-    by_front (Err e) is = tt
+    by_front (Err e) kind is = tt
 
 -- the segments of such a path
 open_segments : (before : List ℕ) (parts : List Given) (texts : List (List ℕ)) (url : Parts) → EndsOpen before parts texts url → segments url.path ≡ segments before ++ map (percent_encode PATH) (filled_pieces (pieces 47 (open_path parts)) texts)
@@ -95,7 +95,7 @@ slot_segments base parts web ends =
       segments before,
       λ texts fills.
           where_ok (parse_url base (url_of parts texts)) (EndsOpen before parts texts) (λ url. segments url.path ≡ segments before ++ map (percent_encode PATH) (filled_pieces (pieces 47 (open_path parts)) texts))
-          (open_segments before parts texts) (filled_path base parts before texts web fills is),
+          (open_segments before parts texts) (filled_path base parts before texts web fills (path_special base (front_of parts) web ends) is),
     )
 
 -- ---- decoded

@@ -9,18 +9,20 @@ use Rattle.percent_encoding.specs.Percent.{percent_encode}
 use Rattle.percent_encoding.proofs.PercentLemmas.{IsByte}
 use Rattle.url.specs.Parts.{Parts, kind_of, query_set}
 use Rattle.url.specs.Parser.{Parsed, parse_url}
-use Rattle.html_urls.specs.Components.{component, is_component_byte}
+use Rattle.html_urls.specs.Components.{component_at, is_written_byte}
+use Rattle.html_urls.specs.declared.place.UrlPlace.{UrlPlace}
 use Rattle.html_urls.specs.Decoded.{has_pairs, pairs_of, query_pairs}
 use Rattle.html_urls.specs.Hosts.{IsWebBase}
 use Rattle.html_urls.specs.Pieces.{HasMarkup, has_markup, pieces}
 use Rattle.html_urls.specs.Shapes.{before_fragment_parts, path_parts, query_parts, texts_after}
 use Rattle.html_urls.specs.Slots.{FillUrl, Given, Markup, Slot, url_of}
 use Rattle.html_urls.proofs.Bytes.{AllBytes, IsOfBytes}
-use Rattle.html_urls.proofs.Components.{component_bytes}
+use Rattle.html_urls.proofs.Components.{written_bytes}
 use Rattle.html_urls.proofs.Paths.Opening.{all_left, all_right}
 use Rattle.html_urls.proofs.Shapes.Encoded.Pairs.{parse_encoded, query_keeps_form}
 use Rattle.html_urls.proofs.Shapes.Encoded.Splits.{all_halves}
 use Rattle.html_urls.proofs.Shapes.Closing.{query_closes}
+use Rattle.html_urls.proofs.Shapes.FormSlots.{query_form}
 use Rattle.html_urls.proofs.Shapes.Fills.{split_filled}
 use Rattle.html_urls.proofs.Shapes.Filling.{filled_is}
 use Rattle.html_urls.proofs.Shapes.Pairs.{bytes_after, pairs_law}
@@ -38,21 +40,21 @@ own_query base parts texts own web fills is = grind (arith, nat_tests, shape_law
 pub where_ok : (parsed : Parsed Parts) (P Q : Parts → Type 0) → ((url : Parts) → P url → Q url) → IfOk parsed P → IfOk parsed Q
 where_ok parsed P Q more is = grind (arith, nat_tests)
 
--- a component is of bytes, and so are markup of bytes and texts
-small_component : (text : List ℕ) → All IsByte (component text)
-small_component text = All-weaker (λ b. is_component_byte b ≡ true) IsByte (λ b passes. grind (arith, nat_tests)) (component text) (component_bytes text)
+-- what is written is of bytes, and so are markup of bytes and texts
+small_text : (at : UrlPlace) (text : List ℕ) → All IsByte (component_at at text)
+small_text at text = All-weaker (λ b. is_written_byte b ≡ true) IsByte (λ b passes. grind (arith, nat_tests)) (component_at at text) (written_bytes at text)
 
 pub filled_bytes : (parts : List Given) (texts : List (List ℕ)) → IsOfBytes parts → All IsByte (url_of parts texts)
 filled_bytes [] texts bytes = bytes
 filled_bytes (Markup markup ∷ parts) texts bytes =
     All-append IsByte markup (url_of parts texts) (all_left IsByte markup (url_of parts []) bytes) (filled_bytes parts texts (all_right IsByte markup (url_of parts []) bytes))
-filled_bytes (Slot ∷ parts) [] bytes = filled_bytes parts [] bytes
-filled_bytes (Slot ∷ parts) (text ∷ texts) bytes = All-append IsByte (component text) (url_of parts texts) (small_component text) (filled_bytes parts texts bytes)
+filled_bytes (Slot at ∷ parts) [] bytes = filled_bytes parts [] bytes
+filled_bytes (Slot at ∷ parts) (text ∷ texts) bytes = All-append IsByte (component_at at text) (url_of parts texts) (small_text at text) (filled_bytes parts texts bytes)
 
 no_texts : (parts : List Given) → texts_after parts [] ≡ []
 no_texts [] = refl
 no_texts (Markup bytes ∷ parts) = no_texts parts
-no_texts (Slot ∷ parts) = no_texts parts
+no_texts (Slot at ∷ parts) = no_texts parts
 
 -- the path and the query of markup of bytes
 before_bytes : (parts : List Given) → IsOfBytes parts → IsOfBytes (before_fragment_parts parts)
@@ -89,6 +91,6 @@ url_pairs base parts texts web fills bytes has =
     (λ url query.
     ap (λ q. parse (unwrap_or q [])) query
     ∙ parse_encoded (query_set (kind_of url)) (query_keeps_form (kind_of url)) (url_of own left) (filled_bytes own left (query_bytes parts own is (plain_bytes_only parts plain)))
-    ∙ pairs_law own left (bytes_after (path_parts parts) texts bytes) all (query_closes parts own (plain_closes parts plain) is)
+    ∙ pairs_law own left (bytes_after (path_parts parts) texts bytes) all (query_form parts own texts fills is) (query_closes parts own (plain_closes parts plain) is)
     ∙ sym (ap (λ (o : Option (List Given)). pairs_of (pieces 38 (unwrap_or o [])) left) is))
     (own_query base parts texts own web fills is)

@@ -1,11 +1,12 @@
-use Rattle.std.proofs.Common.{◌≡◌, ℕ, ◌+◌, List, [], ◌∷◌, length, Some, None, IsOkAnd, sym, ap, ◌∙◌, subst, arith, inl, inr}
+use Rattle.std.proofs.Common.{◌≡◌, ℕ, ◌+◌, List, [], ◌∷◌, length, Some, None, sym, ap, ◌∙◌, arith, inl, inr}
 use Rattle.std.proofs.lemmas.Bool.{cases_Bool}
 use Rattle.std.proofs.lemmas.List.{length-map}
 use Rattle.html_urls.specs.declared.parts.UrlSlot.{UrlSlot}
 use Rattle.html_urls.specs.declared.parts.UrlTextFault.{UrlTextFault}
 use Rattle.html_urls.specs.declared.parts.UrlTextFault.TheVariants.{WrongText}
-use Rattle.html_urls.specs.Slots.{FillSlots, Told, may_fill, texts_of}
+use Rattle.html_urls.specs.Slots.{FillSlots, may_fill, texts_of}
 use Rattle.html_urls.specs.TextFaults.{first_refused}
+use Rattle.html_urls.proofs.SlotsTaken.{given_fills}
 use Rattle.html_urls.proofs.append.check.Goals as goal
 
 some_none : (fault : UrlTextFault) → Some fault ≡ None → ⊥
@@ -26,4 +27,4 @@ returns-clause-fills g c =
     let none : first_refused 0 slots texts ≡ None = ap (λ s. first_refused 0 s texts) (sym c.deref.ensures.value) ∙ sym refused in
     let count : length texts ≡ length c.args.texts.now = length-map {B = List ℕ} c.args.texts.now (λ text. text.now) in
     let same : length slots ≡ length texts = omega arith in
-    subst (λ (told : Told). IsOkAnd told (λ slots. FillSlots slots texts)) (sym c.in-Ok.ensures) (all_fill 0 slots texts same none)
+    given_fills c.args.parts.now texts slots c.in-Ok.ensures (all_fill 0 slots texts same none)

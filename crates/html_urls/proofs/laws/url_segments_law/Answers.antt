@@ -1,4 +1,3 @@
-use Rattle.std.proofs.Common.{map}
 use Rattle.html_urls.specs.Slots.{given}
 use Rattle.html_urls.proofs.Bytes.{all_bytes}
 use Rattle.html_urls.proofs.Shapes.Slots.Segments.{path_begins, slot_segments, slot_segments_decoded}
@@ -6,7 +5,7 @@ use Rattle.html_urls.proofs.laws.url_segments_law.Goals as goal
 
 pub returns : goal.returns
 returns c =
-    let parts = map given c.args.parts.now in
+    let parts = given c.args.parts.now in
     let ends = path_begins parts c.requires in
     record {
       segments = λ base web. slot_segments base parts web ends;

@@ -1,6 +1,6 @@
 use Rattle.std.proofs.Common.{arith}
 use Rattle.html_urls.proofs.SlotsTaken.{next_rest}
-use Rattle.html_urls.proofs.slots.slots_of.Goals as goal
+use Rattle.html_urls.proofs.slots.bare_slots.Goals as goal
 
 pub parts-preserved : goal.parts-preserved
 parts-preserved g c = record {
