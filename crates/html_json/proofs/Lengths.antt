@@ -1,5 +1,5 @@
 -- How long the encoding is, and that no `<` stands in it.
-use Rattle.std.proofs.Common.{◌≡◌, ◌≢◌, ℕ, ◌*◌, ◌≤◌, ◌==◌, ◌&&◌, not, Bool, true, false, List, [], ◌∷◌, ◌++◌, All, length, refl, ap₂, ◌∙◌, arith, length-append}
+use Rattle.std.proofs.Common.{◌≡◌, ◌≢◌, ℕ, ◌*◌, ◌≤◌, ◌==◌, ◌&&◌, not, Bool, true, false, List, [], ◌∷◌, ◌++◌, All, Option, Some, None, IfSome, SomeIff, length, refl, ap₂, ◌∙◌, arith, length-append}
 use Rattle.std.specs.List.{list_all}
 use Rattle.std.proofs.lemmas.List.Elements.{All-weaker}
 use Rattle.std.proofs.lemmas.List.Folds.{list_all-append}
@@ -38,3 +38,8 @@ apart_is b apart same = let never : false ≡ true = rw same at apart in cc
 
 pub no_less : (text : List ℕ) → All (λ b. b ≢ less_than) (json_encoding text)
 no_less text = All-weaker _ (λ b. b ≢ less_than) apart_is (json_encoding text) (AllPass-from_list_all is_apart (json_encoding text) (all_apart text))
+
+-- what holds of a product holds of it where it can be had
+pub of_product : (found : Option ℕ) (P : Type 0) (product : ℕ) (Q : ℕ → Type 0) → SomeIff found P product → Q product → IfSome found Q
+of_product None P product Q is holds = tt
+of_product (Some n) P product Q is holds = rw is.1 holds

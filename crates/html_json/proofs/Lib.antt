@@ -1,3 +1,4 @@
 pub mod Changes
 pub mod Lengths
+pub mod Quoted
 pub mod SameValue

@@ -1,2 +1,5 @@
 pub mod Applied
+pub mod AppliedStrings
+pub mod Bytes
 pub mod Encoding
+pub mod Strings

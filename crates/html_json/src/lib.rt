@@ -7,9 +7,11 @@
 pub mod encode;
 pub mod forms;
 pub mod laws;
+mod strings;
 
 pub use crate::encode::{EncodeJson, json_length, put_json};
 pub use crate::forms::{
     append_json, append_json_to_vec, encode_json, encode_json_to_string, encode_json_to_vec,
     encode_json_to_writer,
 };
+pub use crate::strings::put_json_string;
