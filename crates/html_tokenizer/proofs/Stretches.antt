@@ -1,5 +1,6 @@
 -- A byte that neither ends a value nor begins something in it is read as itself, and at each byte that ends no stretch the tokenizer stays where it is.
-use Rattle.std.proofs.Common.{ℕ, ◌≡◌, Bool, false, [], ◌∷◌, ◌==◌, ◌||◌, refl, ap, ◌∙◌, List, take, arith, true≢false}
+use Rattle.std.specs.Prelude.{not}
+use Rattle.std.proofs.Common.{ℕ, ◌≡◌, ◌≤◌, ◌<◌, Bool, true, false, [], ◌∷◌, ◌==◌, ◌||◌, refl, ap, ◌∙◌, sym, List, length, slice_index, take, arith, true≢false}
 use Rattle.std.proofs.lemmas.Bool.{or_parts}
 use Rattle.hesc_specs.specs.Text.Ascii.{ampersand, backslash, double_quote, greater_than, less_than, single_quote}
 use Rattle.hesc_grammars.specs.Html.{is_unquoted_error}
@@ -8,11 +9,14 @@ use Rattle.html_tokenizer.specs.declared.elements.Content.{Content}
 use Rattle.html_tokenizer.specs.declared.slot_place.SlotPlace.{SlotPlace}
 use Rattle.html_tokenizer.specs.declared.slot_place.SlotPlace.TheVariants.{Text, DoubleQuoted, SingleQuoted, Unquoted, ScriptSingle, ScriptDouble, StyleSingle, StyleDouble}
 use Rattle.html_tokenizer.specs.Tokenizer.Actions.{read_byte}
-use Rattle.html_tokenizer.specs.Tokenizer.Attributes.{value_byte_read}
+use Rattle.html_tokenizer.specs.Tokenizer.Attributes.{may_end_raw, value_byte_read}
 use Rattle.html_tokenizer.specs.Tokenizer.Code.Comments.{ends_line, block_byte, line_byte, stays}
 use Rattle.html_tokenizer.specs.Tokenizer.Code.Strings.{string_byte}
 use Rattle.html_tokenizer.specs.Tokenizer.States.{Attribute, In, at_value, BogusComment, Comment, InCode, at}
-use Rattle.html_tokenizer.specs.Tokenizer.Stretches.{ends_string, leaves_value, leaves_code}
+use Rattle.html_tokenizer.specs.Tokenizer.Phases.{attribute_in}
+use Rattle.html_tokenizer.specs.Tokenizer.Stretches.{ends_string, keeps_part, leaves_value, leaves_code}
+use Rattle.html_tokenizer.specs.declared.states.Kind.{Kind}
+use Rattle.html_tokenizer.specs.declared.states.Kind.TheVariants as kinds
 use Rattle.html_tokenizer.specs.Tokenizer.Tags.{is_space}
 use Rattle.html_tokenizer.specs.Tokenizer.Tokenization.{consume, value_byte, state_after}
 use Rattle.html_tokenizer.specs.Tokenizer.Transitions.{keeps, moves, Transition}
@@ -29,11 +33,12 @@ use Rattle.html_tokenizer.specs.Tokenizer.Code.Escapes.{escaped_byte}
 use Rattle.html_tokenizer.specs.Tokenizer.Code.Scripts.{json_byte}
 use Rattle.html_tokenizer.specs.Tokenizer.Code.Styles.{front_comment_byte, style_byte, url_byte}
 use Rattle.html_tokenizer.specs.Tokenizer.Comments.{dash}
-use Rattle.html_tokenizer.proofs.Passing.{stays_up_to}
+use Rattle.html_tokenizer.proofs.Passing.{stays_at_each, stays_up_to}
 
 module _ (p : SlotPlace) (content : Content) (attribute : Attribute) (b : ℕ) where
-  quoted_kept : (mark : ℕ) → (b == mark || b == ampersand) ≡ false → quoted_byte mark p content attribute b ≡ keeps p content attribute b
-  quoted_kept mark remains = let parts = or_parts (b == mark) (b == ampersand) remains in rw (parts.0, parts.1) refl
+  quoted_kept : (mark : ℕ) → (b == mark || b == ampersand) ≡ false → may_end_raw attribute b ≡ false →
+      quoted_byte mark p content attribute b ≡ keeps p content attribute b
+  quoted_kept mark remains no_end = let parts = or_parts (b == mark) (b == ampersand) remains in rw (parts.0, parts.1, no_end) refl
 
   pub string_kept : (breaks : ℕ → Bool) (mark : ℕ) → ends_string breaks mark b ≡ false → string_byte breaks mark p content attribute b ≡ keeps p content attribute b
   string_kept breaks mark remains =
@@ -42,27 +47,28 @@ module _ (p : SlotPlace) (content : Content) (attribute : Attribute) (b : ℕ) w
       let marks = or_parts (b == mark) (b == backslash) tags.0 in
       rw (marks.0, marks.1, tags.1, breaking.1) refl
 
-pub value_kept : (p : SlotPlace) (content : Content) (attribute : Attribute) (b : ℕ) → leaves_value p b ≡ false →
+pub value_kept : (p : SlotPlace) (content : Content) (attribute : Attribute) (b : ℕ) → leaves_value p b ≡ false → may_end_raw attribute b ≡ false →
     value_byte p content attribute b ≡ keeps p content attribute b
-value_kept Text content attribute b remains = let parts = or_parts (b == less_than) (b == ampersand) remains in rw (parts.0, parts.1) refl
-value_kept DoubleQuoted content attribute b remains = quoted_kept DoubleQuoted content attribute b double_quote remains
-value_kept SingleQuoted content attribute b remains = quoted_kept SingleQuoted content attribute b single_quote remains
-value_kept Unquoted content attribute b remains =
+value_kept Text content attribute b remains no_end = let parts = or_parts (b == less_than) (b == ampersand) remains in rw (parts.0, parts.1) refl
+value_kept DoubleQuoted content attribute b remains no_end = quoted_kept DoubleQuoted content attribute b double_quote remains no_end
+value_kept SingleQuoted content attribute b remains no_end = quoted_kept SingleQuoted content attribute b single_quote remains no_end
+value_kept Unquoted content attribute b remains no_end =
     let errors = or_parts _ (is_unquoted_error b) remains in
     let references = or_parts _ (b == ampersand) errors.0 in
     let ends = or_parts (is_space b) (b == greater_than) references.0 in
     rw (ends.0, ends.1, references.1, errors.1) refl
-value_kept ScriptSingle content attribute b remains = string_kept ScriptSingle content attribute b ends_line single_quote remains
-value_kept ScriptDouble content attribute b remains = string_kept ScriptDouble content attribute b ends_line double_quote remains
-value_kept StyleSingle content attribute b remains = string_kept StyleSingle content attribute b is_newline_or_nul single_quote remains
-value_kept StyleDouble content attribute b remains = string_kept StyleDouble content attribute b is_newline_or_nul double_quote remains
+value_kept ScriptSingle content attribute b remains no_end = string_kept ScriptSingle content attribute b ends_line single_quote remains
+value_kept ScriptDouble content attribute b remains no_end = string_kept ScriptDouble content attribute b ends_line double_quote remains
+value_kept StyleSingle content attribute b remains no_end = string_kept StyleSingle content attribute b is_newline_or_nul single_quote remains
+value_kept StyleDouble content attribute b remains no_end = string_kept StyleDouble content attribute b is_newline_or_nul double_quote remains
 
 -- where its attribute stays as it is
 pub byte_kept : (p : SlotPlace) (content : Content) (attribute : Attribute) (b : ℕ) → value_byte_read attribute b ≡ attribute → leaves_value p b ≡ false →
+    may_end_raw attribute b ≡ false →
     consume (at_value (In p) content attribute) b ≡ moves (at_value (In p) content attribute) (read_byte p b ∷ [])
 unfolding consume
-byte_kept p content attribute b settled remains =
-    value_kept p content attribute b remains ∙ ap (λ a. moves (at_value (In p) content a) (read_byte p b ∷ [])) settled
+byte_kept p content attribute b settled remains no_end =
+    value_kept p content attribute b remains no_end ∙ ap (λ a. moves (at_value (In p) content a) (read_byte p b ∷ [])) settled
 
 pub value_consumed : (p : SlotPlace) (content : Content) (attribute : Attribute) (b : ℕ) → consume (at_value (In p) content attribute) b ≡ value_byte p content attribute b
 unfolding consume
@@ -134,10 +140,10 @@ stays_in_code Style code.Url content b is remains = let less : (b == less_than) 
 stays_in_code element kind content b is remains = absurd (true≢false remains)
 
 pub value_stretch_stays : (p : SlotPlace) (content : Content) (attribute : Attribute) (bytes : List ℕ) (count : ℕ) →
-    IsFirstPlace (leaves_value p) bytes 0 count → ((b : ℕ) → value_byte_read attribute b ≡ attribute) →
+    IsFirstPlace (leaves_value p) bytes 0 count → ((b : ℕ) → value_byte_read attribute b ≡ attribute) → ((b : ℕ) → may_end_raw attribute b ≡ false) →
     state_after (at_value (In p) content attribute) (take count bytes) ≡ at_value (In p) content attribute
-value_stretch_stays p content attribute bytes count first settled =
-    stays_up_to (leaves_value p) _ bytes count first (λ b remains. ap (λ (x : Transition). x.next) (byte_kept p content attribute b (settled b) remains))
+value_stretch_stays p content attribute bytes count first settled no_end =
+    stays_up_to (leaves_value p) _ bytes count first (λ b remains. ap (λ (x : Transition). x.next) (byte_kept p content attribute b (settled b) remains (no_end b)))
 
 pub code_stretch_stays : (kind : Code) (content : Content) (bytes : List ℕ) (count : ℕ) →
     IsFirstPlace (leaves_code content.element kind) bytes 0 count →
@@ -152,3 +158,54 @@ comment_stretch_stays content bytes count first = stays_up_to (λ b. b == dash) 
 pub bogus_comment_stretch_stays : (content : Content) (bytes : List ℕ) (count : ℕ) → IsFirstPlace (λ b. b == greater_than) bytes 0 count →
     state_after (at BogusComment content) (take count bytes) ≡ at BogusComment content
 bogus_comment_stretch_stays content bytes count first = stays_up_to (λ b. b == greater_than) _ bytes count first (stays_in_bogus_comment content)
+
+-- ---- the value of a `style`
+
+abbrev pub is_quoted : SlotPlace → Bool
+is_quoted DoubleQuoted = true
+is_quoted SingleQuoted = true
+is_quoted other = false
+
+not_true : (x : Bool) → not x ≡ true → x ≡ false
+not_true true e = sym e
+not_true false e = refl
+
+-- a byte at which it stays in its part neither ends a value in quotes nor begins a reference
+part_in_quotes : (kind : Kind) (b : ℕ) → keeps_part kind b ≡ true → (b == double_quote || b == single_quote || b == ampersand) ≡ false
+part_in_quotes kinds.DeclarationName b keeps = grind (arith, nat_tests)
+part_in_quotes kinds.DeclarationValue b keeps = grind (arith, nat_tests)
+part_in_quotes kinds.OpaqueStyle b keeps = not_true _ keeps
+part_in_quotes kind b keeps = absurd (true≢false (sym keeps))
+
+part_kept : (p : SlotPlace) (kind : Kind) (b : ℕ) → is_quoted p ≡ true → keeps_part kind b ≡ true → leaves_value p b ≡ false
+part_kept DoubleQuoted kind b quoted keeps =
+    let parts = or_parts (b == double_quote || b == single_quote) (b == ampersand) (part_in_quotes kind b keeps) in
+    let marks = or_parts (b == double_quote) (b == single_quote) parts.0 in
+    rw (marks.0, parts.1) refl
+part_kept SingleQuoted kind b quoted keeps =
+    let parts = or_parts (b == double_quote || b == single_quote) (b == ampersand) (part_in_quotes kind b keeps) in
+    let marks = or_parts (b == double_quote) (b == single_quote) parts.0 in
+    rw (marks.1, parts.1) refl
+part_kept p kind b quoted keeps = absurd (true≢false (sym quoted))
+
+part_read : (kind : Kind) (word : List ℕ) (b : ℕ) → keeps_part kind b ≡ true → value_byte_read (attribute_in kind word) b ≡ attribute_in kind word
+part_read kinds.DeclarationName word b keeps = rw keeps refl
+part_read kinds.DeclarationValue word b keeps = rw keeps refl
+part_read kinds.OpaqueStyle word b keeps = refl
+part_read kind word b keeps = absurd (true≢false (sym keeps))
+
+part_ends_no_raw : (kind : Kind) (word : List ℕ) (b : ℕ) → keeps_part kind b ≡ true → may_end_raw (attribute_in kind word) b ≡ false
+part_ends_no_raw kinds.DeclarationName word b keeps = refl
+part_ends_no_raw kinds.DeclarationValue word b keeps = refl
+part_ends_no_raw kinds.OpaqueStyle word b keeps = refl
+part_ends_no_raw kind word b keeps = absurd (true≢false (sym keeps))
+
+pub style_stretch_stays : (p : SlotPlace) (content : Content) (kind : Kind) (word bytes : List ℕ) (count : ℕ) → is_quoted p ≡ true → count ≤ length bytes →
+    ((k : ℕ) → k < count → keeps_part kind (slice_index bytes k) ≡ true) →
+    state_after (at_value (In p) content (attribute_in kind word)) (take count bytes) ≡ at_value (In p) content (attribute_in kind word)
+style_stretch_stays p content kind word bytes count quoted within keeps =
+    stays_at_each _ bytes count within
+    (λ k below. let b = slice_index bytes k in
+    ap (λ (x : Transition). x.next)
+    (byte_kept p content (attribute_in kind word) b (part_read kind word b (keeps k below)) (part_kept p kind b quoted (keeps k below))
+    (part_ends_no_raw kind word b (keeps k below))))

@@ -5,6 +5,7 @@ use Rattle.std.specs.Option.{option_or}
 use Rattle.hesc_specs.specs.Text.Ascii.{number_sign, double_quote, ampersand, single_quote, slash, less_than, greater_than, backslash, backtick}
 use Rattle.hesc_grammars.specs.Html.{is_unquoted_error}
 use Rattle.hesc_grammars.specs.StyleStrings.{is_newline_or_nul}
+use Rattle.html_tokenizer.specs.Declarations.{is_style_byte, is_word_byte}
 use Rattle.html_tokenizer.specs.declared.slot_place.SlotPlace.{SlotPlace}
 use Rattle.html_tokenizer.specs.declared.slot_place.SlotPlace.TheVariants.{Text, DoubleQuoted, SingleQuoted, Unquoted, ScriptSingle, ScriptDouble, StyleSingle, StyleDouble}
 use Rattle.html_tokenizer.specs.declared.states.Code.{Code}
@@ -88,6 +89,13 @@ IsSettled kind.Link = ⊤
 IsSettled kind.Url = ⊤
 IsSettled kind.FixedUrl = ⊤
 IsSettled other = ⊥
+
+-- the value of a `style` stays in its part of a declaration, or where the rest takes no slot
+abbrev pub keeps_part : Kind → ℕ → Bool
+keeps_part kind.DeclarationName b = is_word_byte b
+keeps_part kind.DeclarationValue b = is_style_byte b
+keeps_part kind.OpaqueStyle b = not (b == double_quote || b == single_quote || b == ampersand)
+keeps_part other b = false
 
 -- a byte as a name of a tag or an attribute holds it, if it is a letter, a digit or `-`
 abbrev pub is_name_letter : ℕ → Bool

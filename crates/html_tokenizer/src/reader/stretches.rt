@@ -5,7 +5,7 @@ ghost use Rattle.hesc_specs.specs.Text.FirstPlace.{IsFirstPlace};
 ghost use Rattle.html_tokenizer.specs.Tokenizer.Comments.{dash};
 ghost use Rattle.html_tokenizer.specs.Tokenizer.Phases.{attribute_in, state_of};
 ghost use Rattle.html_tokenizer.specs.Tokenizer.States.{InCode, at, at_value};
-ghost use Rattle.html_tokenizer.specs.Tokenizer.Stretches.{IsSettled, is_scanned, leaves, leaves_code, leaves_value, settled, word_after};
+ghost use Rattle.html_tokenizer.specs.Tokenizer.Stretches.{IsSettled, is_scanned, keeps_part, leaves, leaves_code, leaves_value, settled, word_after};
 ghost use Rattle.html_tokenizer.specs.Tokenizer.Tokenization.{state_after};
 ghost use Rattle.html_tokenizer.specs.declared.elements.Content.{Content};
 ghost use Rattle.html_tokenizer.specs.declared.elements.OpenElement.TheVariants.{Script};
@@ -14,6 +14,7 @@ ghost use Rattle.html_tokenizer.specs.declared.states.Code.{Code};
 ghost use Rattle.html_tokenizer.specs.declared.states.Kind.TheVariants as kinds;
 ghost use Rattle.html_tokenizer.specs.declared.states.Phase.TheVariants as phases;
 
+use crate::attributes::declarations::{is_style_byte, is_word_byte};
 use crate::code::words::{next_word, settled, settled_byte};
 use crate::elements::{Content, OpenElement};
 use crate::flags::stays_settled;
@@ -164,9 +165,35 @@ pub(crate) fn stretch(phase: Phase, content: Content, kind: Kind, bytes: &[u8]) 
     }
 }
 
+// Whether the value of a `style` stays in its part of a declaration, or where the rest takes no slot.
+#[inline(always)]
+fn keeps_part(kind: Kind, byte: u8) -> bool
+    ensures { result ≡ keeps_part kind byte }
+{
+    match kind {
+        Kind::DeclarationName => is_word_byte(byte),
+        Kind::DeclarationValue => is_style_byte(byte),
+        Kind::OpaqueStyle => !matches!(byte, b'"' | b'\'' | b'&'),
+        _ => false,
+    }
+}
+
+// How many of the first bytes leave the value of a `style` there. A call of its own: most values are none.
+#[inline(never)]
+fn style_stretch(kind: Kind, bytes: &[u8]) -> usize
+    ensures within { result ≤ length bytes.now }
+    ensures keeps { (k : ℕ) → k < result → keeps_part kind (slice_index bytes.now k) ≡ true }
+{
+    let mut count = 0;
+    'stretch: while count < bytes.len() && keeps_part(kind, bytes[count]) {
+        count += 1;
+    }
+    count
+}
+
 /// The same of text and of values in quotes; in other states no byte is gone over.
 #[inline(always)]
-#[tactic(auto, using(crate::proofs::Stretches::value_stretch_stays))]
+#[tactic(auto, using(crate::proofs::Stretches::value_stretch_stays, crate::proofs::Stretches::style_stretch_stays))]
 pub(crate) fn text_stretch(phase: Phase, kind: Kind, bytes: &[u8]) -> usize
     ensures within { result ≤ length bytes.now }
     ensures stays { (content : Content) (word : List ℕ)
@@ -187,6 +214,10 @@ pub(crate) fn text_stretch(phase: Phase, kind: Kind, bytes: &[u8]) -> usize
             Phase::In(SlotPlace::SingleQuoted),
             Kind::Ordinary | Kind::Forbidden | Kind::Link | Kind::Url | Kind::FixedUrl,
         ) => first_near(b'\'', b'&', bytes),
+        (
+            Phase::In(SlotPlace::DoubleQuoted | SlotPlace::SingleQuoted),
+            Kind::DeclarationName | Kind::DeclarationValue | Kind::OpaqueStyle,
+        ) => style_stretch(kind, bytes),
         _ => 0,
     }
 }
