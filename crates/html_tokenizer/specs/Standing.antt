@@ -27,6 +27,7 @@ in_declaration part p = Barred
 abbrev pub unless_forbidden : Attribute → SlotPlace → Standing
 unless_forbidden state.Ordinary p = Stands p
 unless_forbidden state.Url p = InUrl p
+unless_forbidden state.RawUrl p = InUrl p
 unless_forbidden state.Link p = InLink p
 unless_forbidden (state.Declarations part) p = in_declaration part p
 unless_forbidden other p = Barred
@@ -58,8 +59,9 @@ in_code kind content attribute =
     else (if takes_json kind content attribute then InJson
     else Nowhere))
 
--- the text of a `noscript` takes none: where scripts run no reference is read in it
+-- a `noscript` takes none but in a URL, in whose texts no `<` is written: where scripts run no reference is read in it
 abbrev pub in_content : OpenElement → Standing → Standing
+in_content element.NoScript (InUrl p) = InUrl p
 in_content element.NoScript standing = Barred
 in_content other standing = standing
 

@@ -7,7 +7,7 @@ use Rattle.hesc_specs.specs.Text.Ascii.{ampersand, double_quote, equals_sign, gr
 use Rattle.html_tokenizer.specs.declared.slot_place.SlotPlace.{SlotPlace}
 use Rattle.html_tokenizer.specs.declared.slot_place.SlotPlace.TheVariants.{DoubleQuoted, SingleQuoted}
 use Rattle.html_tokenizer.specs.Tokenizer.Actions.{Action, ValueByte}
-use Rattle.html_tokenizer.specs.Tokenizer.States.{Attribute, FixedUrl, Link, Tokenizer, Url}
+use Rattle.html_tokenizer.specs.Tokenizer.States.{Attribute, FixedRawUrl, FixedUrl, Link, RawUrl, Tokenizer, Url}
 use Rattle.html_tokenizer.specs.Tokenizer.Tags.{is_space}
 use Rattle.html_tokenizer.specs.Tokenizer.Tokenization.{consume}
 use Rattle.html_tokenizer.specs.Tokenizer.Values.References.{goes_on}
@@ -16,6 +16,8 @@ abbrev pub is_url : Attribute → Bool
 is_url Url = true
 is_url Link = true
 is_url FixedUrl = true
+is_url RawUrl = true
+is_url FixedRawUrl = true
 is_url other = false
 
 -- the bytes that actions append to the value of an attribute

@@ -3,13 +3,13 @@ pub(crate) mod declarations;
 pub(crate) mod encodings;
 
 ghost use Rattle.std.specs.Prelude.{◌≡◌, ℕ, IsTrue, List, [], true};
-ghost use Rattle.html_tokenizer.specs.Tokenizer.Attributes.{attribute_of, content_after, content_after_pragma, fixed, followed, holds_declarations, holds_language, holds_url, holds_urls, is_cache_header, is_javascript, is_json, is_script_tag, is_shown_relation, is_switch, names_script_type, raw_value, reference_read, resource_value, value_but_of, value_byte_read, value_of, without_value};
+ghost use Rattle.html_tokenizer.specs.Tokenizer.Attributes.{animation_value, attribute_of, content_after, content_after_pragma, fixed, followed, holds_declarations, holds_language, holds_url, holds_urls, is_cache_header, is_javascript, is_json, is_script_tag, is_set_safely, is_shown_relation, is_switch, may_end_raw, names_script_type, raw_value, reference_read, resource_value, value_but_of, value_byte_read, value_of, without_value};
 ghost use Rattle.html_tokenizer.specs.Tokenizer.Elements.{is_meta};
 ghost use Rattle.html_tokenizer.specs.Tokenizer.Phases.{attribute_in, moved, word_after};
 ghost use Rattle.html_tokenizer.specs.Tokenizer.Attributes.StyleParts.{declarations_read};
 ghost use Rattle.html_tokenizer.specs.Tokenizer.States.{Declarations, Ordinary};
 
-use crate::attributes::declarations::declarations_read;
+use crate::attributes::declarations::{declarations_read, is_word};
 use crate::attributes::encodings::{is_utf_8, names_no_other};
 use crate::elements::{Content, OpenElement, is_meta, with_element};
 use crate::states::{Kind, Move, Phase, StylePart, Word, in_value, refuses};
@@ -125,7 +125,7 @@ fn is_json(value: &[u8]) -> bool
 }
 
 // After the `=` of an attribute, in which a slot is also barred if it is this one.
-#[inline(always)]
+#[inline(never)]
 fn value_but_of(barred: &[u8], content: Content, name: &[u8]) -> Move
     ensures { moved result name.now ≡ value_but_of barred.now content name.now }
 {
@@ -138,7 +138,7 @@ fn value_but_of(barred: &[u8], content: Content, name: &[u8]) -> Move
 }
 
 // After the `=` of an attribute of a script, or of a data block.
-#[inline(always)]
+#[inline(never)]
 fn script_value(content: Content, name: &[u8]) -> Move
     requires { is_script_tag content.element ≡ true }
     ensures { moved result name.now ≡ value_of content name.now }
@@ -156,6 +156,7 @@ fn script_value(content: Content, name: &[u8]) -> Move
 }
 
 // After the `=` of an attribute of a `meta`.
+#[inline(never)]
 fn meta_value(content: Content, name: &[u8]) -> Move
     requires { is_meta content.element ≡ true }
     ensures { moved result name.now ≡ value_of content name.now }
@@ -195,14 +196,32 @@ fn is_shown_relation(relation: &[u8]) -> bool
 }
 
 // After the `=` of an attribute in a `noscript`.
+#[inline(never)]
 fn raw_value(content: Content, name: &[u8]) -> Move
     ensures { moved result name.now ≡ raw_value content name.now }
 {
     if name == b"charset".as_slice() || name == b"http-equiv".as_slice() {
-        refuses()
-    } else {
-        in_value(Phase::BeforeValue, content, Kind::Raw, Word::New)
+        return refuses();
     }
+    let kind = if holds_url(name) {
+        Kind::RawUrl
+    } else {
+        Kind::Raw
+    };
+    in_value(Phase::BeforeValue, content, kind, Word::New)
+}
+
+// After the `=` of an attribute of an animation in an `svg`.
+#[inline(never)]
+fn animation_value(content: Content, name: &[u8]) -> Move
+    ensures { moved result name.now ≡ animation_value content name.now }
+{
+    let kind = if name == b"attributename".as_slice() {
+        Kind::Pragma
+    } else {
+        Kind::Forbidden
+    };
+    in_value(Phase::BeforeValue, content, kind, Word::New)
 }
 
 // After the `=` of an attribute of a `link`.
@@ -247,6 +266,7 @@ pub(crate) fn value_of(content: Content, name: &[u8]) -> Move
             in_value(Phase::BeforeValue, content, kind, Word::New)
         }
         OpenElement::ResourceTag => resource_value(content, name),
+        OpenElement::SvgAnimationTag => animation_value(content, name),
         OpenElement::EmbedTag
         | OpenElement::SvgEmbedTag
         | OpenElement::MathEmbedTag
@@ -278,6 +298,13 @@ fn is_cache_header(name: &[u8]) -> bool
         || name == b"pragma".as_slice()
 }
 
+// Whether an animation may set what has this name, in small letters.
+fn is_set_safely(name: &[u8]) -> bool
+    ensures { result ≡ is_set_safely name.now }
+{
+    is_word(name) && !name.starts_with(b"on") && name != b"href".as_slice()
+}
+
 fn content_after_pragma(content: Content, name: &[u8]) -> Option<Content>
     ensures { result ≡ content_after_pragma content.element content name.now }
 {
@@ -289,6 +316,8 @@ fn content_after_pragma(content: Content, name: &[u8]) -> Option<Content>
                 None
             }
         }
+        OpenElement::SvgAnimationTag if is_set_safely(name) => Some(content),
+        OpenElement::SvgAnimationTag => None,
         _ if name == b"content-type".as_slice() => {
             Some(with_element(content, OpenElement::MetaType))
         }
@@ -350,6 +379,17 @@ pub(crate) fn value_byte_read(kind: Kind, word: &[u8], byte: u8) -> (Kind, Word)
     }
 }
 
+/// Whether the end tag of a `noscript` may begin with the byte, in a URL.
+#[inline(always)]
+pub(crate) fn may_end_raw(kind: Kind, byte: u8) -> bool
+    ensures { (word : List ℕ) → result ≡ may_end_raw (attribute_in kind word) byte }
+{
+    match kind {
+        Kind::RawUrl | Kind::FixedRawUrl => byte == b'<',
+        _ => false,
+    }
+}
+
 /// In a reference or an escape.
 pub(crate) fn reference_read(kind: Kind) -> Kind
     ensures { (word more : List ℕ) → attribute_in result more
@@ -357,6 +397,7 @@ pub(crate) fn reference_read(kind: Kind) -> Kind
 {
     match kind {
         Kind::Ordinary | Kind::Link | Kind::Url | Kind::FixedUrl => kind,
+        Kind::RawUrl | Kind::FixedRawUrl => kind,
         Kind::Encoding | Kind::Pragma | Kind::PageType | Kind::Unread => Kind::Unread,
         Kind::Raw => Kind::Raw,
         Kind::BeforeDeclaration
@@ -382,6 +423,7 @@ pub(crate) fn fixed(kind: Kind) -> Kind
         | Kind::Important
         | Kind::OpaqueStyle => Kind::OpaqueStyle,
         Kind::Link | Kind::Url => Kind::FixedUrl,
+        Kind::RawUrl => Kind::FixedRawUrl,
         _ => kind,
     }
 }

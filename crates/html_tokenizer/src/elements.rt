@@ -64,6 +64,10 @@ pub enum OpenElement {
     SvgTag,
     /// In an `svg`, text up to the end tag of `title`.
     SvgTitle,
+    /// The same up to that of `desc`.
+    SvgDesc,
+    /// In an `svg`, the tag of an animation.
+    SvgAnimationTag,
     /// In an `svg`, a style.
     SvgStyle,
     /// The tag of a `math`.
@@ -202,6 +206,7 @@ pub(crate) fn content_of(content: Content, name: &[u8]) -> Option<Content>
     }
 }
 
+#[inline(never)]
 fn content_of_long(content: Content, name: &[u8]) -> Option<Content>
     ensures { result ≡ content_of content name.now }
 {
@@ -250,7 +255,9 @@ fn inside_element(element: OpenElement) -> OpenElement
         OpenElement::TypedScript | OpenElement::DataBlock | OpenElement::JsonBlock => {
             OpenElement::Script
         }
-        OpenElement::SvgTag | OpenElement::SvgEmbedTag => OpenElement::Svg,
+        OpenElement::SvgTag | OpenElement::SvgEmbedTag | OpenElement::SvgAnimationTag => {
+            OpenElement::Svg
+        }
         OpenElement::MathTag | OpenElement::MathEmbedTag => OpenElement::Math,
         OpenElement::SelectEmbedTag => OpenElement::Select,
         _ => element,
@@ -315,6 +322,7 @@ pub(crate) fn beside(element: OpenElement) -> Option<OpenElement>
     match element {
         OpenElement::SvgTag | OpenElement::MathTag => Some(OpenElement::Normal),
         OpenElement::SvgTitle | OpenElement::SvgStyle => None,
+        OpenElement::SvgDesc => Some(OpenElement::Svg),
         OpenElement::MathMi
         | OpenElement::MathMo
         | OpenElement::MathMn
@@ -331,6 +339,7 @@ pub(crate) fn ends_content(element: OpenElement, name: &[u8]) -> bool
 {
     match element {
         OpenElement::SvgTitle => name == b"title".as_slice(),
+        OpenElement::SvgDesc => name == b"desc".as_slice(),
         OpenElement::SvgStyle | OpenElement::NoScriptStyle => name == b"style".as_slice(),
         OpenElement::MathMi => name == b"mi".as_slice(),
         OpenElement::MathMo => name == b"mo".as_slice(),
@@ -348,7 +357,7 @@ fn around(element: OpenElement, name: &[u8]) -> OpenElement
 {
     match element {
         OpenElement::Svg if name != b"svg".as_slice() => OpenElement::Svg,
-        OpenElement::SvgTitle | OpenElement::SvgStyle => OpenElement::Svg,
+        OpenElement::SvgTitle | OpenElement::SvgDesc | OpenElement::SvgStyle => OpenElement::Svg,
         OpenElement::Math if name != b"math".as_slice() => OpenElement::Math,
         OpenElement::Select if name != b"select".as_slice() => OpenElement::Select,
         OpenElement::NoScript if name != b"noscript".as_slice() => OpenElement::NoScript,

@@ -3,8 +3,8 @@ pub(crate) mod names;
 pub(crate) mod same;
 pub(crate) mod stretches;
 
-ghost use Rattle.std.specs.Prelude.{◌≡◌, ◌≤◌, ◌↔◌, [], IfOk, OnOk, IsTrue, length};
-ghost use Rattle.html_tokenizer.specs.Standing.{AfterStanding, in_declaration, is_between_attributes, is_refused, may_end, standing};
+ghost use Rattle.std.specs.Prelude.{◌≡◌, ◌≤◌, ◌↔◌, ℕ, List, [], IfOk, OnOk, IsTrue, length};
+ghost use Rattle.html_tokenizer.specs.Standing.{AfterStanding, in_content, in_declaration, is_between_attributes, is_refused, may_end, standing, unless_forbidden};
 ghost use Rattle.html_tokenizer.specs.Tokenizer.Attributes.{reference_read};
 ghost use Rattle.html_tokenizer.specs.declared.states.StylePart.TheVariants.{Value};
 ghost use Rattle.html_tokenizer.specs.Tokenizer.Code.Strings.{script_escape_byte};
@@ -65,6 +65,30 @@ fn in_declaration(place: SlotPlace) -> Standing
     match place {
         SlotPlace::DoubleQuoted | SlotPlace::SingleQuoted => Standing::InDeclaration(place),
         _ => Standing::Barred,
+    }
+}
+
+// A slot in a value.
+fn unless_forbidden(kind: Kind, place: SlotPlace) -> Standing
+    ensures { (word : List ℕ) → result ≡ unless_forbidden (attribute_in kind word) place }
+{
+    match kind {
+        Kind::Ordinary => Standing::Stands(place),
+        Kind::Url | Kind::RawUrl => Standing::InUrl(place),
+        Kind::Link => Standing::InLink(place),
+        Kind::DeclarationValue => in_declaration(place),
+        _ => Standing::Barred,
+    }
+}
+
+// The same in the content of this element.
+fn in_content(element: OpenElement, standing: Standing) -> Standing
+    ensures { result ≡ in_content element standing }
+{
+    match (element, standing) {
+        (OpenElement::NoScript, Standing::InUrl(place)) => Standing::InUrl(place),
+        (OpenElement::NoScript, _) => Standing::Barred,
+        _ => standing,
     }
 }
 
@@ -439,7 +463,7 @@ impl<A: Allocator> Reader<A> {
         ensures { result ≡ is_url (tokenizer_of self.now).attribute }
     {
         match self.kind {
-            Kind::Link | Kind::Url | Kind::FixedUrl => true,
+            Kind::Link | Kind::Url | Kind::FixedUrl | Kind::RawUrl | Kind::FixedRawUrl => true,
             Kind::Ordinary | Kind::Forbidden | Kind::Unread | Kind::Raw => false,
             Kind::BeforeDeclaration | Kind::DeclarationName | Kind::AfterDeclarationName => false,
             Kind::DeclarationValue | Kind::Important | Kind::OpaqueStyle => false,
@@ -473,13 +497,11 @@ impl<A: Allocator> Reader<A> {
         ensures { result ≡ standing (tokenizer_of self.now) }
     {
         match (self.phase, self.kind) {
-            (Phase::In(_), _) if self.content.element == OpenElement::NoScript => Standing::Barred,
-            (Phase::In(place), Kind::Ordinary) => Standing::Stands(place),
-            (Phase::In(place), Kind::Url) => Standing::InUrl(place),
-            (Phase::In(place), Kind::Link) => Standing::InLink(place),
-            (Phase::In(place), Kind::DeclarationValue) => in_declaration(place),
+            (Phase::In(place), kind) => {
+                in_content(self.content.element, unless_forbidden(kind, place))
+            }
             (Phase::BeforeValue, Kind::Ordinary) => Standing::Stands(SlotPlace::Unquoted),
-            (Phase::In(_) | Phase::BeforeValue, _) => Standing::Barred,
+            (Phase::BeforeValue, _) => Standing::Barred,
             (Phase::InCode(code), _) if is_opaque(code) => Standing::Barred,
             (Phase::InCode(Code::Plain), Kind::Ordinary) if is_script(self.content.element) => {
                 Standing::InScript

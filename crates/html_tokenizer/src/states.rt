@@ -172,6 +172,8 @@ pub(crate) enum Kind {
     Link,
     Url,
     FixedUrl,
+    RawUrl,
+    FixedRawUrl,
     ScriptType,
     Encoding,
     Pragma,

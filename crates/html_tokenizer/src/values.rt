@@ -7,7 +7,7 @@ ghost use Rattle.html_tokenizer.specs.Tokenizer.Phases.{attribute_in, moved, sta
 ghost use Rattle.html_tokenizer.specs.Tokenizer.Transitions.{goes, keeps};
 ghost use Rattle.html_tokenizer.specs.Tokenizer.Values.{before_value_byte, begins_character, ended, quoted_byte, text_byte, unquoted_byte, unquoted_value_byte};
 
-use crate::attributes::{content_after, reference_read, value_byte_read};
+use crate::attributes::{content_after, may_end_raw, reference_read, value_byte_read};
 use crate::elements::Content;
 use crate::slot_place::SlotPlace;
 use crate::states::{Kind, Move, Phase, Word, in_value, refuses, to};
@@ -75,6 +75,8 @@ pub(crate) fn quoted_byte(
         ended(Phase::AfterValue, content_after(content, kind, word))
     } else if byte == b'&' {
         begins_character(place, content, kind)
+    } else if may_end_raw(kind, byte) {
+        refuses()
     } else {
         keeps(place, content, kind, word, byte)
     }

@@ -30,7 +30,7 @@ module _ {p : SlotPlace} {content : Content} {mark : ℕ} (value : ReadsMarked O
   at_byte b no_reference =
       ⊎_elim
       (λ (is : (b == mark) ≡ true). closes (eqb-true b mark is) refl (λ bytes. rw is refl))
-      (λ (no_mark : (b == mark) ≡ false). kept (λ bytes. rw (no_mark, no_reference) refl) (value.kept b no_mark no_reference))
+      (λ (no_mark : (b == mark) ≡ false). kept (λ bytes. rw (no_mark, no_reference) refl) (value.kept b no_mark no_reference refl))
       (cases_Bool (b == mark))
 
   marked : ReadsValue (In p) Plain p content mark never (marked_step mark)

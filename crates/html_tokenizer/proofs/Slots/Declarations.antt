@@ -52,7 +52,7 @@ pub style_text_stays : (p : SlotPlace) (content : Content) (text : List ℕ) →
 style_text_stays p content [] quoted all = passes_none
 style_text_stays p content (b ∷ text) quoted all =
     let parts = and_parts (is_style_byte b) (list_all is_style_byte text) all in
-    passes_byte (byte_kept p content (Declarations Value) b (style_byte_stays b parts.0) (style_remains p b quoted parts.0))
+    passes_byte (byte_kept p content (Declarations Value) b (style_byte_stays b parts.0) (style_remains p b quoted parts.0) refl)
     (style_text_stays p content text quoted parts.1)
 
 -- a byte that goes on with the value, or a `!`, leads to the next part of the declaration
@@ -60,4 +60,4 @@ pub style_byte_read : (p : SlotPlace) (content : Content) (part : StylePart) (b 
     (consume (at_value (In p) content (Declarations part)) b).next ≡ at_value (In p) content (Declarations (declarations_read part b))
 style_byte_read p content part b quoted is =
     ap (λ (x : Transition). x.next)
-    (value_consumed p content (Declarations part) b ∙ value_kept p content (Declarations part) b (goes_remains p b quoted is))
+    (value_consumed p content (Declarations part) b ∙ value_kept p content (Declarations part) b (goes_remains p b quoted is) refl)

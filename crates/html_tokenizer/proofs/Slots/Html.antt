@@ -16,8 +16,8 @@ use Rattle.html_tokenizer.specs.declared.slot_place.SlotPlace.{SlotPlace}
 use Rattle.html_tokenizer.specs.declared.slot_place.SlotPlace.TheVariants as place
 use Rattle.html_tokenizer.specs.declared.elements.Content.{Content}
 use Rattle.html_tokenizer.specs.Tokenizer.Actions.{read_byte}
-use Rattle.html_tokenizer.specs.Tokenizer.Attributes.{reference_read, value_byte_read}
-use Rattle.html_tokenizer.specs.Tokenizer.States.{Attribute, State, In, Within, BeforeValue, Ordinary, at_value}
+use Rattle.html_tokenizer.specs.Tokenizer.Attributes.{may_end_raw, reference_read, value_byte_read}
+use Rattle.html_tokenizer.specs.Tokenizer.States.{Attribute, FixedRawUrl, State, In, RawUrl, Within, BeforeValue, Ordinary, at_value}
 use Rattle.html_tokenizer.specs.Tokenizer.Tokenization.{consume, value_byte}
 use Rattle.html_tokenizer.specs.Tokenizer.Transitions.{moves}
 use Rattle.html_tokenizer.specs.Tokenizer.Values.References.{behind_word, goes_on, reference_byte}
@@ -83,18 +83,24 @@ module _ {attribute : Attribute} {state : State} {p : SlotPlace} {content : Cont
 pub record ReadsMarked (attribute : Attribute) (p : SlotPlace) (content : Content) (mark : ℕ) : Type 0 where
   pub references : ReadsReferences attribute (In p) p content
   pub no_reference : (ampersand == mark) ≡ false
-  pub kept : (b : ℕ) → (b == mark) ≡ false → (b == ampersand) ≡ false →
+  pub kept : (b : ℕ) → (b == mark) ≡ false → (b == ampersand) ≡ false → may_end_raw attribute b ≡ false →
       consume (at_value (In p) content attribute) b ≡ moves (at_value (In p) content attribute) (read_byte p b ∷ [])
 
+-- no byte but a `<` may
+pub ends_no_raw : (attribute : Attribute) (b : ℕ) → (b == less_than) ≡ false → may_end_raw attribute b ≡ false
+ends_no_raw RawUrl b other = other
+ends_no_raw FixedRawUrl b other = other
+ends_no_raw attribute b other = refl
+
 marked_stays : {attribute : Attribute} {p : SlotPlace} {content : Content} {mark : ℕ} → ReadsMarked attribute p content mark →
-    (class : Class) → IsHtml class → in_class class mark ≡ true → in_class class 0 ≡ false →
+    (class : Class) → IsHtml class → in_class class mark ≡ true → in_class class less_than ≡ true → in_class class 0 ≡ false →
     (text : List ℕ) → Stays attribute p (In p) content (encoding class text) text
-marked_stays {attribute} {p} {content} {mark} reads class html has keeps text =
+marked_stays {attribute} {p} {content} {mark} reads class html has less keeps text =
     let no : (b c : ℕ) → in_class class b ≡ false → in_class class c ≡ true → (b == c) ≡ false =
     λ b c kept replaced. ne_eqb b c (kept_is_other class b c kept replaced) in
     subst (Stays attribute p (In p) content (encoding class text)) (read_back-text class keeps text)
     (encoding_reads (pieces_stay reads.references html
-    (λ b kept. reads.kept b (no b mark kept has) (no b ampersand kept (in_class-ampersand class html))))
+    (λ b kept. reads.kept b (no b mark kept has) (no b ampersand kept (in_class-ampersand class html)) (ends_no_raw attribute b (no b less_than kept less))))
     passes_none (λ first v second w. passes_texts (read_byte p) v w) text)
 
 module _ {attribute : Attribute} (remains : Remains attribute) (content : Content) where
@@ -109,7 +115,7 @@ module _ {attribute : Attribute} (remains : Remains attribute) (content : Conten
   text_reads = record {
     references = record { begins = rw remains.references refl; within = read_within place.Text };
     no_reference = refl;
-    kept = λ b no_mark no_reference. rw (no_mark, no_reference, remains.bytes b) refl;
+    kept = λ b no_mark no_reference no_end. rw (no_mark, no_reference, remains.bytes b) refl;
   }
 
   pub double_reads : ReadsMarked attribute place.DoubleQuoted content double_quote
@@ -117,7 +123,7 @@ module _ {attribute : Attribute} (remains : Remains attribute) (content : Conten
   double_reads = record {
     references = record { begins = rw remains.references refl; within = read_within place.DoubleQuoted };
     no_reference = refl;
-    kept = λ b no_mark no_reference. rw (no_mark, no_reference, remains.bytes b) refl;
+    kept = λ b no_mark no_reference no_end. rw (no_mark, no_reference, no_end, remains.bytes b) refl;
   }
 
   pub single_reads : ReadsMarked attribute place.SingleQuoted content single_quote
@@ -125,7 +131,7 @@ module _ {attribute : Attribute} (remains : Remains attribute) (content : Conten
   single_reads = record {
     references = record { begins = rw remains.references refl; within = read_within place.SingleQuoted };
     no_reference = refl;
-    kept = λ b no_mark no_reference. rw (no_mark, no_reference, remains.bytes b) refl;
+    kept = λ b no_mark no_reference no_end. rw (no_mark, no_reference, no_end, remains.bytes b) refl;
   }
 
   pub unquoted_references : ReadsReferences attribute (In place.Unquoted) place.Unquoted content
@@ -133,15 +139,15 @@ module _ {attribute : Attribute} (remains : Remains attribute) (content : Conten
   unquoted_references = record { begins = rw remains.references refl; within = read_within place.Unquoted }
 
   pub double_stays_in : (text : List ℕ) → Stays attribute place.DoubleQuoted (In place.DoubleQuoted) content (encoding class.DoubleQuotedAttribute text) text
-  double_stays_in text = marked_stays double_reads class.DoubleQuotedAttribute refl refl refl text
+  double_stays_in text = marked_stays double_reads class.DoubleQuotedAttribute refl refl refl refl text
 
   pub single_stays_in : (text : List ℕ) → Stays attribute place.SingleQuoted (In place.SingleQuoted) content (encoding class.SingleQuotedAttribute text) text
-  single_stays_in text = marked_stays single_reads class.SingleQuotedAttribute refl refl refl text
+  single_stays_in text = marked_stays single_reads class.SingleQuotedAttribute refl refl refl refl text
 
 -- the same of an ordinary attribute
 module _ (content : Content) (text : List ℕ) where
   pub text_stays : Stays Ordinary place.Text (In place.Text) content (encoding class.Text text) text
-  text_stays = marked_stays (text_reads ordinary_remains content) class.Text refl refl refl text
+  text_stays = marked_stays (text_reads ordinary_remains content) class.Text refl refl refl refl text
 
   pub double_stays : Stays Ordinary place.DoubleQuoted (In place.DoubleQuoted) content (encoding class.DoubleQuotedAttribute text) text
   double_stays = double_stays_in ordinary_remains content text
@@ -160,7 +166,7 @@ pub record ReadsUnquoted (state : State) (content : Content) : Type 0 where
 pub unquoted_reads : (content : Content) → ReadsUnquoted (In place.Unquoted) content
 unquoted_reads content = record {
   references = unquoted_references ordinary_remains content;
-  kept = λ b remains. byte_kept place.Unquoted content Ordinary b refl remains;
+  kept = λ b remains. byte_kept place.Unquoted content Ordinary b refl remains refl;
 }
 
 -- but for white space, quotes and `>` the first byte of a value without quotes is read as another one
@@ -176,7 +182,7 @@ first_reads content = record {
   references = record { begins = refl; within = λ word b. refl };
   kept = λ b remains.
       first_as_other content Ordinary b (grind (arith, nat_tests)) (grind (arith, nat_tests)) (grind (arith, nat_tests)) (grind (arith, nat_tests))
-      ∙ byte_kept place.Unquoted content Ordinary b refl remains;
+      ∙ byte_kept place.Unquoted content Ordinary b refl remains refl;
 }
 
 unquoted_pieces : {state : State} {content : Content} → ReadsUnquoted state content → ReadsPieces class.UnquotedAttribute (Stays Ordinary place.Unquoted state content)

@@ -5,7 +5,7 @@ use Rattle.std.specs.List.{list_all}
 use Rattle.std.proofs.lemmas.Bool.{and_parts, cases_Bool, false≢true, or_parts, true≢false}
 use Rattle.std.proofs.lemmas.Bool.Decides.{nat_tests}
 use Rattle.std.proofs.lemmas.List.Folds.{list_all-append}
-use Rattle.hesc_specs.specs.Text.Ascii.{ampersand, equals_sign, greater_than, number_sign, semicolon}
+use Rattle.hesc_specs.specs.Text.Ascii.{ampersand, double_quote, equals_sign, greater_than, number_sign, semicolon, single_quote}
 use Rattle.hesc_grammars.specs.Html.{is_unquoted_error}
 use Rattle.html_entities.proofs.References.{same_value}
 use Rattle.html_tokenizer.specs.declared.elements.Content.{Content}
@@ -13,10 +13,12 @@ use Rattle.html_tokenizer.specs.declared.slot_place.SlotPlace.{SlotPlace}
 use Rattle.html_tokenizer.specs.declared.slot_place.SlotPlace.TheVariants.{DoubleQuoted, SingleQuoted, Unquoted}
 use Rattle.html_tokenizer.specs.Standing.{is_refused}
 use Rattle.html_tokenizer.specs.Tokenizer.Actions.{ValueByte, read_byte}
+use Rattle.html_tokenizer.specs.Tokenizer.Attributes.{may_end_raw}
 use Rattle.html_tokenizer.specs.Tokenizer.States.{Attribute, In, at_value}
 use Rattle.html_tokenizer.specs.Tokenizer.Tags.{is_space}
 use Rattle.html_tokenizer.specs.Tokenizer.Tokenization.{value_byte}
 use Rattle.html_tokenizer.specs.Tokenizer.Transitions.{Transition, moves, refuses}
+use Rattle.html_tokenizer.specs.Tokenizer.Values.{quoted_byte}
 use Rattle.html_tokenizer.specs.Tokenizer.Values.References.{begins_with_legacy, flushes, goes_on, is_legacy, legacy_end, named_characters, reference_byte, unnamed_end}
 use Rattle.html_tokenizer.specs.UrlValues.{ends_value, is_url}
 use Rattle.html_tokenizer.proofs.Slots.Html.{ReadsReferences, Remains, double_reads, single_reads, unquoted_references}
@@ -39,6 +41,15 @@ amp_named = same_value (codes "amp") (codes "&") refl
 url_remains : (attribute : Attribute) → is_url attribute ≡ true → Remains attribute
 url_remains attribute is = record { bytes = λ b. byte_settled attribute b is; references = reference_settled attribute is }
 
+quoted_kept : (mark : ℕ) (p : SlotPlace) (content : Content) (attribute : Attribute) (b : ℕ) → is_url attribute ≡ true →
+    (b == mark) ≡ false → (b == ampersand) ≡ false → is_refused (quoted_byte mark p content attribute b).next.state ≡ false →
+    quoted_byte mark p content attribute b ≡ moves (at_value (In p) content attribute) (read_byte p b ∷ [])
+quoted_kept mark p content attribute b is inner no_reference unrefused =
+    ⊎_elim
+    (λ (ends : may_end_raw attribute b ≡ true). absurd (true≢false (rw (inner, no_reference, ends) at unrefused)))
+    (λ (none : may_end_raw attribute b ≡ false). rw (inner, no_reference, none, byte_settled attribute b is) refl)
+    (cases_Bool (may_end_raw attribute b))
+
 unquoted_kept : (content : Content) (attribute : Attribute) (b : ℕ) → is_url attribute ≡ true →
     ends_value Unquoted b ≡ false → (b == ampersand) ≡ false → is_refused (value_byte Unquoted content attribute b).next.state ≡ false →
     value_byte Unquoted content attribute b ≡ moves (at_value (In Unquoted) content attribute) (ValueByte b ∷ [])
@@ -60,13 +71,13 @@ pub record ReadsUrl (p : SlotPlace) (content : Content) (attribute : Attribute) 
 pub reads_url : (p : SlotPlace) (content : Content) (attribute : Attribute) → is_value_place p ≡ true → is_url attribute ≡ true → ReadsUrl p content attribute
 reads_url DoubleQuoted content attribute place is = record {
   references = (double_reads (url_remains attribute is) content).references;
-  kept = λ b inner no_reference unrefused. rw (inner, no_reference, byte_settled attribute b is) refl;
+  kept = λ b. quoted_kept double_quote DoubleQuoted content attribute b is;
   legacy = λ word b again. refl;
   reads = refl;
 }
 reads_url SingleQuoted content attribute place is = record {
   references = (single_reads (url_remains attribute is) content).references;
-  kept = λ b inner no_reference unrefused. rw (inner, no_reference, byte_settled attribute b is) refl;
+  kept = λ b. quoted_kept single_quote SingleQuoted content attribute b is;
   legacy = λ word b again. refl;
   reads = refl;
 }

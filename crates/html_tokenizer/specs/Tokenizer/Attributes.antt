@@ -1,17 +1,19 @@
 -- What the names of attributes, and the values of some of them, mean to the tokenizer.
 pub mod Encodings
 pub mod StyleParts
-use Rattle.std.specs.Prelude.{ℕ, Bool, true, false, ◌||◌, not, List, [], ◌∷◌, ◌++◌, ◌+◌, ◌-◌, ◌==◌, Option, Some, None, if◌then◌else◌, bytes_eq, codes}
+use Rattle.std.specs.Prelude.{ℕ, Bool, true, false, ◌&&◌, ◌||◌, not, List, [], ◌∷◌, ◌++◌, ◌+◌, ◌-◌, ◌==◌, Option, Some, None, if◌then◌else◌, bytes_eq, codes}
 use Rattle.std.specs.Char.{to_ascii_lowercase}
+use Rattle.std.specs.List.{list_all}
 use Rattle.hesc_specs.specs.Text.Ascii.{less_than}
 use Rattle.hesc_specs.specs.Text.Words.{begins}
 use Rattle.html_tokenizer.specs.declared.elements.Content.{Content}
 use Rattle.html_tokenizer.specs.declared.states.StylePart.TheVariants as style
+use Rattle.html_tokenizer.specs.Declarations.{is_word_byte}
 use Rattle.html_tokenizer.specs.declared.elements.OpenElement.{OpenElement}
-use Rattle.html_tokenizer.specs.declared.elements.OpenElement.TheVariants.{Normal, ResourceTag, Script, TypedScript, DataBlock, JsonBlock, Meta, MetaContent, MetaPragma, MetaType, LinkTag, EmbedTag, SvgEmbedTag, MathEmbedTag, SelectEmbedTag, NoScript, NoScriptStyle, NoScriptFrame}
+use Rattle.html_tokenizer.specs.declared.elements.OpenElement.TheVariants.{Normal, ResourceTag, Script, TypedScript, DataBlock, JsonBlock, Meta, MetaContent, MetaPragma, MetaType, LinkTag, EmbedTag, SvgAnimationTag, SvgEmbedTag, MathEmbedTag, SelectEmbedTag, NoScript, NoScriptStyle, NoScriptFrame}
 use Rattle.html_tokenizer.specs.Tokenizer.Attributes.StyleParts.{declarations_read}
 use Rattle.html_tokenizer.specs.Tokenizer.Attributes.Encodings.{is_utf_8, names_no_other}
-use Rattle.html_tokenizer.specs.Tokenizer.States.{Tokenizer, Attribute, Ordinary, Forbidden, Declarations, Link, Url, FixedUrl, ScriptType, Encoding, Pragma, PageType, Relation, Unread, Raw, BeforeValue, at_value, refused}
+use Rattle.html_tokenizer.specs.Tokenizer.States.{Tokenizer, Attribute, Ordinary, Forbidden, Declarations, Link, Url, FixedUrl, RawUrl, FixedRawUrl, ScriptType, Encoding, Pragma, PageType, Relation, Unread, Raw, BeforeValue, at_value, refused}
 use Rattle.html_tokenizer.specs.Tokenizer.Elements.{with_element}
 
 -- event handlers and pages
@@ -119,12 +121,19 @@ meta_value pragma described content name =
 
 -- in a `noscript`: a `meta` there would name an encoding, or have a header, where no scripts run alone
 abbrev pub raw_value : Content → List ℕ → Tokenizer
-raw_value content name = if is_charset name || is_http_equiv name then refused else at_value BeforeValue content Raw
+raw_value content name =
+    if is_charset name || is_http_equiv name then refused
+    else at_value BeforeValue content (if holds_url name then RawUrl else Raw)
 
 -- of a `link`
 abbrev pub resource_value : Content → List ℕ → Tokenizer
 resource_value content name =
     if bytes_eq name (codes "rel") then at_value BeforeValue content (Relation []) else plain_value content name
+
+-- of an animation in an `svg`: what it sets is fixed by markup
+abbrev pub animation_value : Content → List ℕ → Tokenizer
+animation_value content name =
+    if bytes_eq name (codes "attributename") then at_value BeforeValue content (Pragma []) else forbidden_value content
 
 -- of a script behind its type, which is the one that counts: 13.2.5.33 Attribute name state
 abbrev pub typed_value : Content → List ℕ → Tokenizer
@@ -159,6 +168,7 @@ value_in EmbedTag content name = value_but_of (codes "type") content name
 value_in SvgEmbedTag content name = value_but_of (codes "type") content name
 value_in MathEmbedTag content name = value_but_of (codes "type") content name
 value_in SelectEmbedTag content name = value_but_of (codes "type") content name
+value_in SvgAnimationTag content name = animation_value content name
 value_in LinkTag content name = at_value BeforeValue content (followed (attribute_of name))
 value_in ResourceTag content name = resource_value content name
 value_in NoScript content name = raw_value content name
@@ -175,11 +185,18 @@ is_cache_header name =
     bytes_eq name (codes "cache-control") || bytes_eq name (codes "expires") || bytes_eq name (codes "last-modified") ||
     bytes_eq name (codes "pragma")
 
+-- SVG 1.1, 19.2.5 Attributes to identify the target attribute or property for an animation: with the values that the tag fixes it sets one of these
+-- in place of what a text may say, and they are no code. Not so a `href`, by which a fixed value may take the place of another URL and run, also
+-- with a prefix or white space around it; nor an event handler
+abbrev pub is_set_safely : List ℕ → Bool
+is_set_safely name = list_all is_word_byte name && not (begins (codes "on") name || bytes_eq name (codes "href"))
+
 -- after the value of an `http-equiv`: 4.2.5.3 Pragma directives. Behind a `content`, in which a slot may have stood,
 -- only those that user agents ignore, or are required to; behind one that they ignore a slot may stand in the `content`
 abbrev pub content_after_pragma : OpenElement → Content → List ℕ → Option Content
 content_after_pragma MetaContent content name =
     if bytes_eq name (codes "x-ua-compatible") || is_cache_header name then Some (with_element content MetaPragma) else None
+content_after_pragma SvgAnimationTag content name = if is_set_safely name then Some content else None
 content_after_pragma other content name =
     if bytes_eq name (codes "content-type") then Some (with_element content MetaType)
     else (if is_cache_header name then Some (with_element content MetaContent)
@@ -210,6 +227,8 @@ value_byte_read (Declarations part) b = Declarations (declarations_read part b)
 value_byte_read Link b = Link
 value_byte_read Url b = Url
 value_byte_read FixedUrl b = FixedUrl
+value_byte_read RawUrl b = RawUrl
+value_byte_read FixedRawUrl b = FixedRawUrl
 value_byte_read (ScriptType type) b = ScriptType (type ++ to_ascii_lowercase b ∷ [])
 value_byte_read (Encoding label) b = Encoding (label ++ to_ascii_lowercase b ∷ [])
 value_byte_read (Pragma name) b = Pragma (name ++ to_ascii_lowercase b ∷ [])
@@ -218,6 +237,12 @@ value_byte_read (Relation relation) b = Relation (relation ++ to_ascii_lowercase
 value_byte_read Unread b = Unread
 value_byte_read Raw b = if b == less_than then Unread else Raw
 
+-- a byte with which the end tag of a `noscript` may begin, where scripts run (13.2.5.12): refused in a URL at once, since a slot may follow
+abbrev pub may_end_raw : Attribute → ℕ → Bool
+may_end_raw RawUrl b = b == less_than
+may_end_raw FixedRawUrl b = b == less_than
+may_end_raw other b = false
+
 -- in a reference or an escape, whose character the profile does not add to what it holds of the value
 abbrev pub reference_read : Attribute → Attribute
 reference_read Ordinary = Ordinary
@@ -225,6 +250,8 @@ reference_read (Declarations part) = Declarations style.Opaque
 reference_read Link = Link
 reference_read Url = Url
 reference_read FixedUrl = FixedUrl
+reference_read RawUrl = RawUrl
+reference_read FixedRawUrl = FixedRawUrl
 reference_read (Encoding label) = Unread
 reference_read (Pragma name) = Unread
 reference_read (PageType value) = Unread
@@ -238,4 +265,5 @@ fixed Ordinary = Forbidden
 fixed (Declarations part) = Declarations style.Opaque
 fixed Link = FixedUrl
 fixed Url = FixedUrl
+fixed RawUrl = FixedRawUrl
 fixed other = other

@@ -6,7 +6,7 @@ use Rattle.html_tokenizer.specs.declared.slot_place.SlotPlace.TheVariants as pla
 use Rattle.html_tokenizer.specs.declared.states.Code.TheVariants.{Front, Json, Plain, Opaque}
 use Rattle.html_tokenizer.specs.declared.elements.Content.{Content}
 use Rattle.html_tokenizer.specs.declared.elements.OpenElement.{OpenElement}
-use Rattle.html_tokenizer.specs.declared.elements.OpenElement.TheVariants.{Normal, Title, Textarea, Script, TypedScript, DataBlock, JsonBlock, Style, Frame, Meta, MetaContent, MetaPragma, MetaType, LinkTag, ResourceTag, EmbedTag, SvgEmbedTag, MathEmbedTag, SelectEmbedTag, SvgTag, Svg, SvgTitle, SvgStyle, MathTag, Math, MathMi, MathMo, MathMn, MathMs, MathMtext, Select, NoScript, NoScriptStyle, NoScriptFrame}
+use Rattle.html_tokenizer.specs.declared.elements.OpenElement.TheVariants.{Normal, Title, Textarea, Script, TypedScript, DataBlock, JsonBlock, Style, Frame, Meta, MetaContent, MetaPragma, MetaType, LinkTag, ResourceTag, EmbedTag, SvgEmbedTag, MathEmbedTag, SelectEmbedTag, SvgTag, SvgAnimationTag, Svg, SvgDesc, SvgTitle, SvgStyle, MathTag, Math, MathMi, MathMo, MathMn, MathMs, MathMtext, Select, NoScript, NoScriptStyle, NoScriptFrame}
 use Rattle.html_tokenizer.specs.Tokenizer.Elements.Restricted.{is_left_out, runs_by_type, in_svg, in_math, in_select, in_noscript}
 use Rattle.html_tokenizer.specs.Tokenizer.States as state
 use Rattle.html_tokenizer.specs.Tokenizer.States.{State}
@@ -92,6 +92,7 @@ inside_element LinkTag = Normal
 inside_element ResourceTag = Normal
 inside_element EmbedTag = Normal
 inside_element SvgEmbedTag = Svg
+inside_element SvgAnimationTag = Svg
 inside_element MathEmbedTag = Math
 inside_element SelectEmbedTag = Select
 inside_element SvgTag = Svg
@@ -128,12 +129,13 @@ holds_markup NoScript = true
 holds_markup other = holds_comments other
 
 -- after the `/>` of a start tag, if it is read there: 13.2.6.5; a `title` or `style` that closes itself in an `svg`
--- would be open in HTML
+-- would be open in HTML, where a browser has left the `svg`, and its content would be text
 abbrev pub beside : OpenElement → Option OpenElement
 beside SvgTag = Some Normal
 beside MathTag = Some Normal
 beside SvgTitle = None
 beside SvgStyle = None
+beside SvgDesc = Some Svg
 beside MathMi = Some Math
 beside MathMo = Some Math
 beside MathMn = Some Math
@@ -145,6 +147,7 @@ beside other = Some (inside_element other)
 -- template. The content of one element ends at the end tag of that element alone
 abbrev pub ends_content : OpenElement → List ℕ → Bool
 ends_content SvgTitle name = bytes_eq name (codes "title")
+ends_content SvgDesc name = bytes_eq name (codes "desc")
 ends_content SvgStyle name = bytes_eq name (codes "style")
 ends_content MathMi name = bytes_eq name (codes "mi")
 ends_content MathMo name = bytes_eq name (codes "mo")
@@ -160,6 +163,7 @@ ends_content other name = true
 abbrev pub around : OpenElement → List ℕ → OpenElement
 around Svg name = if bytes_eq name (codes "svg") then Normal else Svg
 around SvgTitle name = Svg
+around SvgDesc name = Svg
 around SvgStyle name = Svg
 around Math name = if bytes_eq name (codes "math") then Normal else Math
 around MathMi name = Math

@@ -89,9 +89,13 @@ pub data Attribute : Type 0 where
   Link : Attribute
   Url : Attribute
   FixedUrl : Attribute
+  -- a URL in a `noscript`, whose bytes are raw text where scripts run; one that takes no slot any more
+  RawUrl : Attribute
+  FixedRawUrl : Attribute
   -- the type of a script, and its bytes so far
   ScriptType : List ℕ → Attribute
-  -- of a `meta`: its `charset`, its `http-equiv`, its `content` where that is the type of the page, and their bytes so far
+  -- of a `meta`: its `charset`, its `http-equiv`, its `content` where that is the type of the page, and their bytes so far; as the second also
+  -- the `attributeName` of an animation
   Encoding : List ℕ → Attribute
   Pragma : List ℕ → Attribute
   PageType : List ℕ → Attribute
@@ -99,7 +103,7 @@ pub data Attribute : Type 0 where
   Relation : List ℕ → Attribute
   -- one of these three, with a reference in it, or the next, with a `<` in it
   Unread : Attribute
-  -- in a `noscript`, whose bytes are raw text where scripts run
+  -- another value in a `noscript`
   Raw : Attribute
 
 pub record Tokenizer : Type 0 where

@@ -11,7 +11,7 @@ use Rattle.html_tokenizer.specs.declared.slot_place.SlotPlace.{SlotPlace}
 use Rattle.html_tokenizer.specs.declared.slot_place.SlotPlace.TheVariants.{Text, DoubleQuoted, SingleQuoted, Unquoted}
 use Rattle.html_tokenizer.specs.declared.elements.Content.{Content}
 use Rattle.html_tokenizer.specs.Tokenizer.Actions.{EmitByte, read_byte}
-use Rattle.html_tokenizer.specs.Tokenizer.Attributes.{content_after, reference_read}
+use Rattle.html_tokenizer.specs.Tokenizer.Attributes.{content_after, may_end_raw, reference_read}
 use Rattle.html_tokenizer.specs.Tokenizer.States as state
 use Rattle.html_tokenizer.specs.Tokenizer.States.{Attribute, Ordinary, at_value}
 use Rattle.html_tokenizer.specs.Tokenizer.Tags.{is_space, opened}
@@ -54,7 +54,8 @@ abbrev pub quoted_byte : ℕ → SlotPlace → Content → Attribute → ℕ →
 quoted_byte mark p content attribute b =
     if b == mark then ended (content_after content attribute) (λ content. goes state.AfterValue content [])
     else (if b == ampersand then begins_character p content attribute
-    else keeps p content attribute b)
+    else (if may_end_raw attribute b then refuses
+    else keeps p content attribute b))
 
 -- a byte where a value without quotes may begin or go on
 abbrev pub unquoted_byte : Content → Attribute → ℕ → Transition

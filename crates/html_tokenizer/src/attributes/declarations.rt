@@ -7,15 +7,25 @@ ghost use Rattle.html_tokenizer.specs.Tokenizer.Attributes.StyleParts.{after_nam
 use crate::states::StylePart;
 use crate::tags::is_space;
 
-fn is_word_byte(byte: u8) -> bool
+/// Whether the byte is one of a word.
+#[inline(always)]
+pub(crate) fn is_word_byte(byte: u8) -> bool
     ensures { result ≡ is_word_byte byte }
 {
     byte.is_ascii_alphanumeric() || byte == b'-' || byte == b'_'
 }
 
+/// Whether the bytes are of words.
+pub(crate) fn is_word(bytes: &[u8]) -> bool
+    ensures { result ≡ list_all is_word_byte bytes.now }
+{
+    bytes.iter().all(|byte| is_word_byte(*byte))
+}
+
 /// Whether the byte is one of words, white space, numbers, hashes and commas, of which a slot's text in a declaration is.
 ///
 /// Of `b'%'` it is `true`, and of `b'('` it is `false`.
+#[inline]
 pub fn is_style_byte(byte: u8) -> bool
     ensures { result ≡ is_style_byte byte }
 {

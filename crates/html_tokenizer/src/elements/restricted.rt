@@ -1,6 +1,6 @@
 //! Which elements are taken in the contents of `svg`, `math`, `select` and `noscript`.
 ghost use Rattle.std.specs.Prelude.{◌≡◌};
-ghost use Rattle.html_tokenizer.specs.Tokenizer.Elements.Restricted.{in_math, in_noscript, in_select, in_svg, is_left_out, is_left_out_of_svg, is_not_foreign, is_read_apart, is_text_alone, runs_by_type};
+ghost use Rattle.html_tokenizer.specs.Tokenizer.Elements.Restricted.{in_math, in_noscript, in_select, in_svg, is_animation, is_left_out, is_left_out_of_svg, is_not_foreign, is_read_apart, is_text_alone, runs_by_type};
 
 use crate::elements::OpenElement;
 
@@ -45,13 +45,16 @@ fn is_not_foreign(name: &[u8]) -> bool
 fn is_left_out_of_svg(name: &[u8]) -> bool
     ensures { result ≡ is_left_out_of_svg name.now }
 {
-    name == b"foreignobject".as_slice()
-        || name == b"desc".as_slice()
-        || name == b"animate".as_slice()
+    name == b"foreignobject".as_slice() || name == b"handler".as_slice()
+}
+
+fn is_animation(name: &[u8]) -> bool
+    ensures { result ≡ is_animation name.now }
+{
+    name == b"animate".as_slice()
         || name == b"animatemotion".as_slice()
         || name == b"animatetransform".as_slice()
         || name == b"set".as_slice()
-        || name == b"handler".as_slice()
 }
 
 pub(crate) fn in_svg(name: &[u8]) -> Option<OpenElement>
@@ -59,10 +62,14 @@ pub(crate) fn in_svg(name: &[u8]) -> Option<OpenElement>
 {
     if name == b"title".as_slice() {
         Some(OpenElement::SvgTitle)
+    } else if name == b"desc".as_slice() {
+        Some(OpenElement::SvgDesc)
     } else if name == b"style".as_slice() {
         Some(OpenElement::SvgStyle)
     } else if is_not_foreign(name) || is_left_out_of_svg(name) {
         None
+    } else if is_animation(name) {
+        Some(OpenElement::SvgAnimationTag)
     } else if runs_by_type(name) {
         Some(OpenElement::SvgEmbedTag)
     } else {

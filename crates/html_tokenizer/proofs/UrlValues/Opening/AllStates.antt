@@ -65,8 +65,8 @@ others_open_none (CodeEndTag kind word) content attribute b name is = code_end_o
 others_open_none (CodeWord kind word) content attribute b name is = code_word_opens_none kind content word b
 others_open_none other content attribute b name is = grind arith
 
-raw_is_none : (content : Content) (name : List ℕ) → is_url (raw_value content name).attribute ≡ false
-raw_is_none content name = grind arith
+raw_begins : (content : Content) (name : List ℕ) → is_url (raw_value content name).attribute ≡ true → (raw_value content name).state ≡ BeforeValue
+raw_begins content name is = grind arith
 
 but_of_begins : (barred : List ℕ) (content : Content) (name : List ℕ) → (value_but_of barred content name).state ≡ BeforeValue
 but_of_begins barred content name = grind arith
@@ -75,7 +75,7 @@ value_begins : (element : OpenElement) (content : Content) (name : List ℕ) →
     (value_in element content name).state ≡ BeforeValue
 value_begins Script content name is = grind (arith, but_of_begins (codes "for") content name)
 value_begins other content name is =
-    grind (arith, but_of_begins (codes "for") content name, but_of_begins (codes "type") content name, raw_is_none content name)
+    grind (arith, but_of_begins (codes "for") content name, but_of_begins (codes "type") content name, raw_begins content name)
 
 name_opens : (content : Content) (name : List ℕ) (b : ℕ) (other : Transition) → HoldsNone other →
     is_url (if b == equals_sign then moves (value_of content name) [] else other).next.attribute ≡ true →

@@ -5,7 +5,7 @@ use Rattle.html_tokenizer.specs.declared.states.Code.TheVariants as code
 use Rattle.html_tokenizer.specs.declared.slot_place.SlotPlace.{SlotPlace}
 use Rattle.html_tokenizer.specs.Tokenizer.Attributes.{content_after, reference_read, value_byte_read}
 use Rattle.html_tokenizer.specs.Tokenizer.Code.{less_byte}
-use Rattle.html_tokenizer.specs.Tokenizer.States.{AfterValue, Attribute, BeforeName, FixedUrl, Link, Raw, Url}
+use Rattle.html_tokenizer.specs.Tokenizer.States.{AfterValue, Attribute, BeforeName, FixedRawUrl, FixedUrl, Link, Raw, RawUrl, Url}
 use Rattle.html_tokenizer.specs.Tokenizer.Transitions.{Transition, goes}
 use Rattle.html_tokenizer.specs.declared.slot_place.SlotPlace.TheVariants.{Text, DoubleQuoted, SingleQuoted, Unquoted, ScriptSingle, ScriptDouble, StyleSingle, StyleDouble}
 use Rattle.hesc_grammars.specs.References.{body_character}
@@ -22,6 +22,8 @@ pub byte_opens_none : (attribute : Attribute) (b : ℕ) → is_url attribute ≡
 byte_opens_none Url b is = is
 byte_opens_none Link b is = is
 byte_opens_none FixedUrl b is = is
+byte_opens_none RawUrl b is = is
+byte_opens_none FixedRawUrl b is = is
 byte_opens_none Raw b is = grind arith
 byte_opens_none other b is = refl
 
@@ -29,6 +31,8 @@ pub reference_opens_none : (attribute : Attribute) → is_url attribute ≡ fals
 reference_opens_none Url is = is
 reference_opens_none Link is = is
 reference_opens_none FixedUrl is = is
+reference_opens_none RawUrl is = is
+reference_opens_none FixedRawUrl is = is
 reference_opens_none other is = refl
 
 ended_opens_none : (content : Option Content) (next : Content → Transition) → ((inner : Content) → OpensNone (next inner)) →

@@ -7,7 +7,7 @@ use Rattle.html_tokenizer.specs.declared.elements.Content.{Content}
 use Rattle.html_tokenizer.specs.declared.slot_place.SlotPlace.{SlotPlace}
 use Rattle.html_tokenizer.specs.declared.slot_place.SlotPlace.TheVariants.{DoubleQuoted, SingleQuoted, Unquoted}
 use Rattle.html_tokenizer.specs.Standing.{is_refused, before_value, in_content, in_declaration, is_same, standing, standing_in, takes_json, takes_literal, unless_forbidden}
-use Rattle.html_tokenizer.specs.Tokenizer.States.{Attribute, BeforeValue, Declarations, In, Refused, State, Tokenizer, at_value, InCode, Link, Ordinary, Url, Within}
+use Rattle.html_tokenizer.specs.Tokenizer.States.{Attribute, BeforeValue, Declarations, In, Refused, State, Tokenizer, at_value, InCode, Link, Ordinary, RawUrl, Url, Within}
 use Rattle.html_tokenizer.specs.Tokenizer.Tags.{is_space}
 use Rattle.html_tokenizer.specs.Tokenizer.Tokenization.{consume, state_after}
 use Rattle.html_tokenizer.specs.Tokenizer.Transitions.{Transition}
@@ -165,11 +165,13 @@ declaration_none p part q = refl
 
 forbids_none : (p q : SlotPlace) (attribute : Attribute) → in_url p (unless_forbidden attribute q) ≡ true → UrlAt p q attribute
 forbids_none p q Url is = record { url = refl; same = is }
+forbids_none p q RawUrl is = record { url = refl; same = is }
 forbids_none p q Link is = record { url = refl; same = is }
 forbids_none p q (Declarations part) is = absurd (true≢false (sym is ∙ declaration_none p part q))
 forbids_none p q other is = absurd (false≢true is)
 
 within_content : (p : SlotPlace) (element : OpenElement) (s : Standing) → in_url p (in_content element s) ≡ true → in_url p s ≡ true
+within_content p NoScript (InUrl q) is = is
 within_content p NoScript s is = absurd (false≢true is)
 within_content p other s is = is
 

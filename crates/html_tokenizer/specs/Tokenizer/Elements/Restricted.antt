@@ -1,7 +1,7 @@
 -- Which elements are taken in the contents of `svg`, `math`, `select` and `noscript`.
 use Rattle.std.specs.Prelude.{ℕ, Bool, true, false, ◌||◌, List, Option, Some, None, if◌then◌else◌, bytes_eq, codes}
 use Rattle.html_tokenizer.specs.declared.elements.OpenElement.{OpenElement}
-use Rattle.html_tokenizer.specs.declared.elements.OpenElement.TheVariants.{Svg, SvgEmbedTag, SvgTitle, SvgStyle, Math, MathEmbedTag, MathMi, MathMo, MathMn, MathMs, MathMtext, Select, SelectEmbedTag, NoScript, NoScriptStyle, NoScriptFrame}
+use Rattle.html_tokenizer.specs.declared.elements.OpenElement.TheVariants.{Svg, SvgAnimationTag, SvgDesc, SvgEmbedTag, SvgTitle, SvgStyle, Math, MathEmbedTag, MathMi, MathMo, MathMn, MathMs, MathMtext, Select, SelectEmbedTag, NoScript, NoScriptStyle, NoScriptFrame}
 
 -- elements whose content the tree construction reads in ways of its own (13.2.6), which this profile leaves out
 abbrev pub is_left_out : List ℕ → Bool
@@ -26,23 +26,28 @@ is_read_apart name =
 abbrev pub is_not_foreign : List ℕ → Bool
 is_not_foreign name = is_read_apart name || bytes_eq name (codes "meta") || bytes_eq name (codes "annotation-xml")
 
--- elements of an `svg` with content in HTML, and those that set an attribute of another element or run
+-- elements of an `svg` with content in HTML, and those that run
 abbrev pub is_left_out_of_svg : List ℕ → Bool
-is_left_out_of_svg name =
-    bytes_eq name (codes "foreignobject") || bytes_eq name (codes "desc") || bytes_eq name (codes "animate") ||
-    bytes_eq name (codes "animatemotion") || bytes_eq name (codes "animatetransform") ||
-    bytes_eq name (codes "set") || bytes_eq name (codes "handler")
+is_left_out_of_svg name = bytes_eq name (codes "foreignobject") || bytes_eq name (codes "handler")
+
+-- SVG 1.1, 19.2.12 to 19.2.16: those that set an attribute of another element
+abbrev pub is_animation : List ℕ → Bool
+is_animation name =
+    bytes_eq name (codes "animate") || bytes_eq name (codes "animatemotion") ||
+    bytes_eq name (codes "animatetransform") || bytes_eq name (codes "set")
 
 -- 13.2.6.5 The rules for parsing tokens in foreign content: an element of HTML, as `p`, makes a browser leave the
 -- `svg`, and so does the end of an element around it. No matter, since what is taken here is read alike in both:
--- the text of a `title` and a `style` is the same there and in HTML
+-- the text of a `title`, a `desc` and a `style` is the same there and in HTML
 abbrev pub in_svg : List ℕ → Option OpenElement
 in_svg name =
     if bytes_eq name (codes "title") then Some SvgTitle
+    else (if bytes_eq name (codes "desc") then Some SvgDesc
     else (if bytes_eq name (codes "style") then Some SvgStyle
     else (if is_not_foreign name || is_left_out_of_svg name then None
+    else (if is_animation name then Some SvgAnimationTag
     else (if runs_by_type name then Some SvgEmbedTag
-    else Some Svg)))
+    else Some Svg)))))
 
 -- the same of a `math`. The MathML text integration points (13.2.6) have text alone, since behind an element in
 -- them a browser passes over the end tag `math`
