@@ -22,7 +22,7 @@ use Rattle.html_tokenizer.specs.declared.elements.OpenElement.{OpenElement}
 use Rattle.html_tokenizer.specs.Tokenizer.Actions.{read_byte}
 use Rattle.html_tokenizer.specs.Tokenizer.Code.{is_script}
 use Rattle.html_tokenizer.specs.Tokenizer.States as state
-use Rattle.html_tokenizer.specs.Tokenizer.States.{State, Attribute, Ordinary, Declarations, Url, Tokenizer, In, BeforeValue, Refused, InCode, at, at_value, refused, data_state}
+use Rattle.html_tokenizer.specs.Tokenizer.States.{State, Attribute, Ordinary, Declarations, RawUrl, Url, Tokenizer, In, BeforeValue, Refused, InCode, at, at_value, refused, data_state}
 use Rattle.html_tokenizer.specs.declared.reader.Standing.{Standing}
 use Rattle.html_tokenizer.specs.declared.reader.Standing.TheVariants.{Barred, InDeclaration, InLink, InUrl, Stands}
 use Rattle.html_tokenizer.specs.Standing.{in_code, in_content, in_declaration, is_same, unless_forbidden, standing_in, standing}
@@ -35,12 +35,12 @@ use Rattle.html_template.specs.Templates.{Chunk, Markup, Slot, after_slot, encod
 use Rattle.html_tokenizer.specs.Tokenizer.Tokenization.{state_after}
 use Rattle.html_tokenizer.proofs.Slots.Html.{Remains, text_stays, double_stays, double_stays_in, single_stays, single_stays_in, unquoted_stays, first_stays}
 use Rattle.html_tokenizer.proofs.UrlValues.Attributes.{byte_settled, reference_settled}
-use Rattle.html_tokenizer.proofs.UrlValues.Slots.Components.{component_stays, is_component_byte}
+use Rattle.html_tokenizer.proofs.UrlValues.Slots.Components.{component_stays, is_written_byte}
 use Rattle.html_tokenizer.proofs.Passing.{Passes, passes_itself, passes_both, stays_refused}
 use Rattle.html_tokenizer.proofs.Slots.Scripts.{json_passes, literal_passes, script_stays, script_single_reads, script_double_reads}
 use Rattle.url.proofs.InputLemmas.{list_all_from_All}
-use Rattle.html_urls.proofs.Components.{component_bytes}
-use Rattle.html_urls.specs.Components.{component}
+use Rattle.html_urls.proofs.Components.{written_bytes}
+use Rattle.html_urls.specs.Components.{component_at}
 use Rattle.html_urls.specs.declared.base.BehindBase.{BehindBase}
 use Rattle.html_urls.specs.declared.parts.UrlSlot.{UrlSlot}
 use Rattle.html_json.specs.Encoding.{json_encoding}
@@ -123,6 +123,8 @@ pub part_in_url : (slot : UrlSlot) (p : SlotPlace) (state : State) (content : Co
     suits (UrlPart slot) p (standing_in state content attribute) ≡ true → IsInUrl p state attribute
 part_in_url slot p (In q) content Url may =
     record { state_is = ap In (sym (same_place p q (in_any (UrlPart slot) p content.element (InUrl q) may))); attribute_is = refl }
+part_in_url slot p (In q) content RawUrl may =
+    record { state_is = ap In (sym (same_place p q (in_any (UrlPart slot) p content.element (InUrl q) may))); attribute_is = refl }
 part_in_url slot p (In q) content state.Link may =
     record { state_is = ap In (sym (same_place p q (in_any (UrlPart slot) p content.element (InLink q) may))); attribute_is = refl }
 part_in_url slot p (In q) content (Declarations part) may =
@@ -155,6 +157,9 @@ link_in_url p elsewhere content attribute may = absurd (no may)
 own_in_url : (p : SlotPlace) (state : State) (content : Content) (attribute : Attribute) →
     suits OwnPath p (standing_in state content attribute) ≡ true → IsInQuotes p state attribute
 own_in_url p (In q) content Url may =
+    let parts = and_parts (is_quoted p) (is_same p q) (in_any OwnPath p content.element (InUrl q) may) in
+    record { state_is = ap In (sym (same_place p q parts.1)); attribute_is = refl; quoted = parts.0 }
+own_in_url p (In q) content RawUrl may =
     let parts = and_parts (is_quoted p) (is_same p q) (in_any OwnPath p content.element (InUrl q) may) in
     record { state_is = ap In (sym (same_place p q parts.1)); attribute_is = refl; quoted = parts.0 }
 own_in_url p (In q) content (Declarations part) may =
@@ -268,8 +273,8 @@ slot_passes p Text state content attribute text may full utf8 = text_passes p st
 slot_passes p (UrlPart slot) state content attribute text may full utf8 =
     let here = part_in_url slot p state content attribute may in
     rw here.state_is
-    (component_stays p content attribute (component text) (λ b. byte_settled attribute b here.attribute_is)
-    (list_all_from_All is_component_byte (component text) (component_bytes text)))
+    (component_stays p content attribute (component_at slot.place text) (λ b. byte_settled attribute b here.attribute_is)
+    (list_all_from_All is_written_byte (component_at slot.place text) (written_bytes slot.place text)))
 slot_passes p Link state content attribute text may full utf8 =
     let here = link_in_url p state content attribute may in
     rw here.state_is (quoted_passes p content attribute text here.quoted here.attribute_is)

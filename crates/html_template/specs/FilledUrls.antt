@@ -42,7 +42,7 @@ url_texts (Slot p kind ∷ chunks) (text ∷ texts) = url_text kind text ++ url_
 abbrev pub slots_in : List Given → ℕ
 slots_in [] = 0
 slots_in (part.Markup bytes ∷ parts) = slots_in parts
-slots_in (part.Slot ∷ parts) = suc (slots_in parts)
+slots_in (part.Slot at ∷ parts) = suc (slots_in parts)
 
 -- the URLs, where each takes as many of the texts as it has slots
 abbrev pub filled_urls : List TemplateUrl → List (List ℕ) → List (List ℕ)
@@ -122,8 +122,8 @@ open_at_slot held kind.Text = Value []
 open_at_slot held kind.Literal = Value []
 open_at_slot held kind.Json = Value []
 open_at_slot held kind.StyleValue = Value []
-open_at_slot (Value value) (kind.UrlPart slot) = Slotted Parts (part.Markup value ∷ part.Slot ∷ [])
-open_at_slot (Slotted url_by parts) (kind.UrlPart slot) = Slotted url_by (parts ++ part.Slot ∷ [])
+open_at_slot (Value value) (kind.UrlPart slot) = Slotted Parts (part.Markup value ∷ part.Slot slot.place ∷ [])
+open_at_slot (Slotted url_by parts) (kind.UrlPart slot) = Slotted url_by (parts ++ part.Slot slot.place ∷ [])
 open_at_slot held (kind.Base behind) = Slotted (Based (kind.Base behind)) []
 open_at_slot held (kind.OwnBase behind) = Slotted (Based (kind.OwnBase behind)) []
 open_at_slot held whole = OneSlot whole

@@ -11,7 +11,7 @@ use Rattle.html_tokenizer.specs.declared.slot_place.SlotPlace.{SlotPlace}
 use Rattle.html_tokenizer.specs.Declarations.{bang, is_style_byte}
 use Rattle.html_tokenizer.specs.UrlValues.{after_last, begins_value, ends_value, url_text}
 use Rattle.html_urls.specs.Bases.{behind_base, goes_as, open_behind}
-use Rattle.html_urls.specs.OpenParts.{after_markup, after_text, ends_scheme, may_be_dots, open_of, slot_at}
+use Rattle.html_urls.specs.OpenParts.{after_markup, after_text, is_unfixed, may_be_dots, open_of, slot_at}
 use Rattle.html_urls.specs.Slots.{is_plain}
 use Rattle.html_urls.specs.declared.base.BehindBase.{BehindBase}
 use Rattle.html_urls.specs.declared.base.BehindBase.TheVariants.{Slash, Tail, Segment}
@@ -98,7 +98,7 @@ behind_part p is_ended (Some part) = url_end p is_ended part
 
 abbrev pub behind_slot : SlotPlace → OpenPart → Bool → Option (List ℕ) → Result OpenUrl PartFault
 behind_slot p part is_ended None = Err NotPlain
-behind_slot p part is_ended (Some text) = if ends_scheme part text then Err NotFixed else behind_part p is_ended (after_markup part text)
+behind_slot p part is_ended (Some text) = if is_unfixed part text then Err NotFixed else behind_part p is_ended (after_markup part text)
 
 -- a slot that is a whole URL is all of the value
 abbrev pub behind_link : SlotPlace → List ℕ → Result OpenUrl PartFault

@@ -16,7 +16,7 @@ use Rattle.html_tokenizer.specs.Tokenizer.Code.Scripts.{is_json_space}
 use Rattle.html_tokenizer.specs.Tokenizer.States.{In, Tokenizer, at_value, refused}
 use Rattle.html_json.specs.Encoding.{json_encoding}
 use Rattle.html_urls.specs.Bases.{is_base, is_own_base}
-use Rattle.html_urls.specs.Components.{component}
+use Rattle.html_urls.specs.Components.{component_at}
 use Rattle.html_urls.specs.Links.{is_link}
 use Rattle.html_urls.specs.OwnPaths.{is_own_path}
 use Rattle.html_urls.specs.Slots as urls
@@ -33,17 +33,17 @@ in_quotes bytes = double_quote ∷ (bytes ++ double_quote ∷ [])
 abbrev pub json_of : List ℕ → List ℕ
 json_of text = if list_all is_json_space text then codes "null" else text
 
--- a part of a URL is written as a component, which needs no encoding in any value; else the encoder of its place writes the text, of a string
+-- a part of a URL is written as its place has it, which needs no encoding in any value; else the encoder of its place writes the text, of a string
 -- literal between its quote marks, and JSON by its own encoder
 abbrev pub written : SlotPlace → SlotKind → List ℕ → List ℕ
-written p (UrlPart slot) text = component text
+written p (UrlPart slot) text = component_at slot.place text
 written p Literal text = in_quotes (encoded (encoder_for p) text)
 written p Json text = json_encoding (json_of text)
 written p other text = encoded (encoder_for p) text
 
 -- what the tokenizer is handed of the text
 abbrev pub handed : SlotPlace → SlotKind → List ℕ → List ℕ
-handed p (UrlPart slot) text = component text
+handed p (UrlPart slot) text = component_at slot.place text
 handed p Json text = json_encoding (json_of text)
 handed p other text = read_back (encoder_for p) text
 

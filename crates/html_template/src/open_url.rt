@@ -26,7 +26,7 @@ use crate::open_url::markup::{after_last, ends_value, plain_text, value_length};
 use crate::parts::SlotKind;
 use html_tokenizer::{SlotPlace, is_style_byte};
 use html_urls::{
-    BehindBase, OpenPart, after_markup, after_text, behind_base, ends_scheme, goes_as, may_be_dots,
+    BehindBase, OpenPart, after_markup, after_text, behind_base, goes_as, is_unfixed, may_be_dots,
     open_behind, open_of, slot_at,
 };
 use std::alloc::{AllocError, Allocator};
@@ -255,7 +255,7 @@ fn within_markup<A: Allocator>(
     let Some(text) = plain_text(alloc, &markup[..end], is_ended)? else {
         return Ok(Err(PartFault::NotPlain));
     };
-    if ends_scheme(open_part, text.as_bytes()) {
+    if is_unfixed(open_part, text.as_bytes()) {
         return Ok(Err(PartFault::NotFixed));
     }
     let after = after_markup(open_part, text.as_bytes());

@@ -21,7 +21,7 @@ use hesc_engine::engine::run_made;
 use hesc_engine::forms::made::Made;
 use html_json::{json_length, put_json};
 use html_tokenizer::is_json_space;
-use html_urls::{component_length, put_component};
+use html_urls::{component_length_at, put_component_at};
 use std::io::{self, Write};
 
 /// The page of these texts. Whether they fill the pieces is the caller's to know.
@@ -107,7 +107,7 @@ fn text_length(slot: &StoredSlot, text: &str) -> Option<usize>
     ensures fits { length (written slot.now.place slot.now.kind text.now) < 2 ^ 64 → IsSome result }
 {
     match slot.kind {
-        SlotKind::UrlPart(_) => component_length(text),
+        SlotKind::UrlPart(part) => component_length_at(part.place, text),
         SlotKind::Literal => total(&Escape(slot.class), text)?.checked_add(2),
         SlotKind::Json => json_length(json_of(text)),
         SlotKind::Text
@@ -187,7 +187,28 @@ pub fn put_text<S: Sink>(slot: &StoredSlot, text: &str, sink: &mut S) -> Result<
     ensures same_before { S.before sink.new ≡ S.before sink.old }
 {
     match slot.kind {
-        SlotKind::UrlPart(_) => put_component(text, sink),
+        SlotKind::Text => put_escaped(slot.class, text, sink),
+        _ => put_kind(slot, text, sink),
+    }
+}
+
+// The same of a slot of any kind. It is called, so that a text that is escaped makes no room for the others.
+#[inline(never)]
+fn put_kind<S: Sink>(slot: &StoredSlot, text: &str, sink: &mut S) -> Result<(), S::Fault>
+    ensures ok_taken { OnOk result (S.taken sink.new
+        ≡ S.taken sink.old ++ written slot.now.place slot.now.kind text.now) }
+    ensures ok_failures { OnOk result (S.failures sink.new ≡ S.failures sink.old) }
+    ensures err_taken { OnErr result (TookBeginning (S.taken sink.old) (S.taken sink.new)
+        (written slot.now.place slot.now.kind text.now)) }
+    ensures fits { length (written slot.now.place slot.now.kind text.now) ≤ S.room sink.old
+        → IsOk result }
+    ensures room { OnOk result (S.room sink.old
+        ≤ S.room sink.new + length (written slot.now.place slot.now.kind text.now)) }
+    ensures same_reference { S.reference sink.new ≡ S.reference sink.old }
+    ensures same_before { S.before sink.new ≡ S.before sink.old }
+{
+    match slot.kind {
+        SlotKind::UrlPart(part) => put_component_at(part.place, text, sink),
         SlotKind::Literal => put_literal(slot.class, text, sink),
         SlotKind::Json => put_json(json_of(text), sink),
         _ => put_escaped(slot.class, text, sink),

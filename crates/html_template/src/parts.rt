@@ -15,7 +15,8 @@ pub enum Part<'a> {
 pub enum SlotKind {
     /// A text, which is encoded for its place.
     Text,
-    /// The value of a part of a URL, which is written as a component.
+    /// The value of a part of a URL, which is written as a component, in an opaque path as an address or a
+    /// number.
     UrlPart(UrlSlot),
     /// A whole URL that its element only shows or follows. It has to be a link, and is encoded for its place.
     Link,

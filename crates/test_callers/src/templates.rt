@@ -6,6 +6,7 @@ use test_support::{Trouble, WeakWriter, Weakness};
 use uses::asset_page::{AssetTemplate, Assets};
 use uses::bar::{Bar, BarTemplate};
 use uses::breadcrumbs::{Breadcrumbs, Crumb};
+use uses::data_block::DataBlock;
 use uses::form_page::{Draft, FormTemplate};
 use uses::home_page::{Stranger, StrangerTemplates};
 use uses::item_links::{self, ItemLinks};
@@ -301,6 +302,21 @@ fn a_script_starts_with_any_values(rt: HostRuntime) -> Result<(), Fail> {
     assert!(rt;
         page.as_str()
             == "<script>var user = \"a\\\"b\"; show(JSON.parse(\"{\\\"c\\\": \\\"\\x3C/script>\\\"}\"));</script>"
+    );
+    Ok(())
+}
+
+#[test]
+fn any_text_stands_in_a_data_block(rt: HostRuntime) -> Result<(), Fail> {
+    let Ok(block) = DataBlock::new(rt.alloc()) else {
+        assert!(rt; false);
+        return Ok(());
+    };
+    let mut page = String::new(rt.alloc());
+    assert!(rt; block.append(&mut page, "{\"name\": \"</script><!--\"}") == Ok(()));
+    assert!(rt;
+        page.as_str()
+            == "<script type=\"application/ld+json\">{\"name\": \"\\u003C/script>\\u003C!--\"}</script>"
     );
     Ok(())
 }

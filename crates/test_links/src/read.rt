@@ -17,13 +17,15 @@ pub fn read_on(alloc: Global, page: &Url, reference: &str) -> Result<Read, Alloc
     }
 }
 
-// The scheme and the authority, and then each segment, pair and fragment, decoded.
+// The scheme and the authority, and then each segment or the opaque path, each pair and the fragment, decoded.
 fn reading_of(alloc: Global, url: &Url) -> Result<String, AllocError> {
     let mut read = format!(in alloc; "{} {}\n", url.scheme(), url.authority())?;
     if let Some(segments) = url.path_segments() {
         for segment in segments {
             add_decoded(alloc, &mut read, "/", segment)?;
         }
+    } else {
+        add_decoded(alloc, &mut read, ":", url.path())?;
     }
     for pair in url.query_pairs().into_owned() {
         let (name, value) = pair?;

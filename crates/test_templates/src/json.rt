@@ -1,8 +1,8 @@
 //! JSON for a script of a page, in each form.
-use hesc_engine::Counter;
+use hesc_engine::{Counter, StackSink};
 use html_json::{
     append_json, append_json_to_vec, encode_json, encode_json_to_string, encode_json_to_vec,
-    encode_json_to_writer, json_length, laws as json_laws, put_json,
+    encode_json_to_writer, json_length, laws as json_laws, put_json, put_json_string,
 };
 use html_template::laws as template_laws;
 use html_template_source::NamedTemplate;
@@ -46,6 +46,21 @@ fn json_is_encoded(rt: HostRuntime) -> Result<(), Fail> {
         assert!(rt; counter.count() == encoding.len(), "{text:?}");
     }
     Ok(())
+}
+
+#[test]
+fn text_is_a_string(rt: HostRuntime) {
+    for (text, string) in [
+        ("", "\"\""),
+        ("a\"<", "\"a\\\"\\u003C\""),
+        ("\\/</script>", "\"\\\\/\\u003C/script>\""),
+        ("\u{8}\t\n\u{c}\r\u{1f}", "\"\\b\\t\\n\\f\\r\\u001f\""),
+        ("\u{7f}\u{2028}\u{1F600}'&", "\"\u{7f}\u{2028}\u{1F600}'&\""),
+    ] {
+        let mut sink = StackSink::<64>::new();
+        assert!(rt; put_json_string(text, &mut sink).is_ok());
+        assert!(rt; sink.as_str() == string, "{text:?}");
+    }
 }
 
 #[test]

@@ -36,8 +36,25 @@ fn every_request_of_new_is_refused_in_turn(rt: HostRuntime) -> Result<(), Fail> 
 }
 
 static TEXTS: [&str; PLACES] = [
-    "<", "&", "\"", "'", " ", "'", "\"", "\\", "</style>", "\"", "</title>", "'", "</svg>",
-    "</mi>", "&", "<", "<!--",
+    "<",
+    "&",
+    "\"",
+    "'",
+    " ",
+    "'",
+    "\"",
+    "\\",
+    "</style>",
+    "\"",
+    "</title>",
+    "</desc>",
+    "'",
+    "</svg>",
+    "</mi>",
+    "&",
+    "<",
+    "</noscript>",
+    "<!--",
 ];
 
 #[test]

@@ -7,7 +7,7 @@ use std::process::Abort;
 use std::test::Fail;
 
 /// How many slots the page has.
-pub const PLACES: usize = 17;
+pub const PLACES: usize = 19;
 
 /// The markup before each slot, and the place that the slot stands in.
 pub static SLOTS: [(&str, Place); PLACES] = [
@@ -25,7 +25,8 @@ pub static SLOTS: [(&str, Place); PLACES] = [
     ("'; y: \"", Place::StyleDouble),
     ("\" }</style><svg viewBox=\"", Place::DoubleAttribute),
     ("\"><title>", Place::Text),
-    ("</title><use href='#", Place::SingleAttribute),
+    ("</title><desc>", Place::Text),
+    ("</desc><use href='#", Place::SingleAttribute),
     ("'/><text>", Place::Text),
     ("</text></svg><math><mi>", Place::Text),
     (
@@ -34,7 +35,11 @@ pub static SLOTS: [(&str, Place); PLACES] = [
     ),
     ("\">", Place::Text),
     (
-        "</option></select><script type=\"application/json\">",
+        "</option></select><noscript><img src=\"/p?id=",
+        Place::DoubleAttribute,
+    ),
+    (
+        "\"></noscript><script type=\"application/json\">",
         Place::ScriptBody,
     ),
 ];
@@ -54,10 +59,13 @@ pub fn parts(alloc: Global) -> Result<Vec<Part<'static>>, AllocError> {
 }
 
 /// The slot that stands in a URL.
-pub const IN_URL: usize = 11;
+pub const IN_URL: usize = 12;
+
+// The one in a `noscript`.
+const IN_RAW_URL: usize = 17;
 
 // The slot for JSON.
-const IN_DATA: usize = 16;
+const IN_DATA: usize = 18;
 
 // What a data block has of a text: `null` for white space alone, and an escape for each `<`.
 fn json_of(alloc: Global, text: &str) -> Result<String, AllocError> {
@@ -87,7 +95,7 @@ fn read_back(alloc: Global, number: usize, place: Place, text: &str) -> Result<S
         Place::UnquotedAttribute(_) | Place::StyleSingle | Place::StyleDouble
     );
     let mut read = String::new(alloc);
-    if number == IN_URL {
+    if number == IN_URL || number == IN_RAW_URL {
         append_component(&mut read, text)?;
         return Ok(read);
     }
@@ -147,7 +155,7 @@ pub fn stay(alloc: Global, template: &Template, texts: &[&str]) -> Result<bool, 
 }
 
 const PLAIN: &str =
-    "<!DOCTYPE html><title>a < b</b>a</title><textarea></title> < </textarea><p>a</p><p title=\"a\"><p title='a'><p class=a title=a><script>f('</b>a', \"</SCRIPTS>a\");</script><style>p { x: '</script>a'; y: \"a\" }</style><svg viewBox=\"a\"><title>a</title><use href='#a'/><text>a</text></svg><math><mi>a</mi></math><select><option value=\"a\">a</option></select><script type=\"application/json\">a</script>";
+    "<!DOCTYPE html><title>a < b</b>a</title><textarea></title> < </textarea><p>a</p><p title=\"a\"><p title='a'><p class=a title=a><script>f('</b>a', \"</SCRIPTS>a\");</script><style>p { x: '</script>a'; y: \"a\" }</style><svg viewBox=\"a\"><title>a</title><desc>a</desc><use href='#a'/><text>a</text></svg><math><mi>a</mi></math><select><option value=\"a\">a</option></select><noscript><img src=\"/p?id=a\"></noscript><script type=\"application/json\">a</script>";
 
 #[test]
 fn a_page_is_told_from_others(rt: HostRuntime) -> Result<(), Fail> {

@@ -10,8 +10,25 @@ use std::test::Fail;
 use test_support::{Trouble, WeakWriter, Weakness};
 
 static TEXTS: [&str; PLACES] = [
-    "a<b", "&amp;", "\"", "'", "a b", "';", "\"\\", "</style>", "\u{20AC}", "\"x", "</title>",
-    "a/b", "</svg>", "", "&\"", "<b>", "[\"<\"]",
+    "a<b",
+    "&amp;",
+    "\"",
+    "'",
+    "a b",
+    "';",
+    "\"\\",
+    "</style>",
+    "\u{20AC}",
+    "\"x",
+    "</title>",
+    "</desc>",
+    "a/b",
+    "</svg>",
+    "",
+    "&\"",
+    "<b>",
+    "</noscript>",
+    "[\"<\"]",
 ];
 
 // Takes all of a piece at a call.

@@ -10,7 +10,7 @@ use Rattle.html_tokenizer.specs.UrlValues.{urls_from}
 use Rattle.html_urls.specs.Bases.{goes_on_so, open_behind}
 use Rattle.html_urls.specs.Shapes.{front_of}
 use Rattle.html_urls.specs.Slots as part
-use Rattle.html_urls.specs.Slots.{FillSlots, Given, later_slots, url_of}
+use Rattle.html_urls.specs.Slots.{FillSlots, Given, later_slots, placed, url_of}
 use Rattle.html_urls.specs.declared.base.BehindBase.{BehindBase}
 use Rattle.html_urls.specs.declared.open_part.OpenPart.{OpenPart}
 use Rattle.html_urls.specs.declared.parts.UrlSlot.{UrlSlot}
@@ -68,6 +68,7 @@ pub record EndsParts (t : Tokenizer) (text : List ℕ) (chunks : List Chunk) : T
 pub record GoesOn (part : OpenPart) (t : Tokenizer) (chunks : List Chunk) : Type 0 where
   pub parts : List Given
   pub slots : List UrlSlot
+  pub stand : placed slots parts ≡ parts
   pub fixed : (number : ℕ) → later_slots number part parts ≡ Ok slots
   pub later : List TemplateUrl
   pub told : (url_by : List Given → TemplateUrl) (before : List Given) → urls_behind t (Slotted url_by before) chunks ≡ url_by (before ++ parts) ∷ later

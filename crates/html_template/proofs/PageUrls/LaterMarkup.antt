@@ -12,7 +12,7 @@ use Rattle.html_template.specs.OpenUrls.{after_base, behind_base_text, behind_pa
 use Rattle.html_tokenizer.specs.declared.slot_place.SlotPlace.{SlotPlace}
 use Rattle.html_tokenizer.specs.UrlValues.{url_text}
 use Rattle.html_urls.specs.Bases.{goes_as, open_behind}
-use Rattle.html_urls.specs.OpenParts.{after_markup, ends_scheme, may_be_dots}
+use Rattle.html_urls.specs.OpenParts.{after_markup, is_unfixed, may_be_dots}
 use Rattle.html_urls.specs.Slots.{is_plain}
 use Rattle.html_urls.specs.declared.base.BehindBase.{BehindBase}
 use Rattle.html_urls.specs.declared.base.BehindBase.TheVariants.{Segment}
@@ -48,12 +48,12 @@ pub record BehindSlot (p : SlotPlace) (part : OpenPart) (ended : Bool) (markup :
   pub text : List ℕ
   pub adds : AddsText ended markup text
   pub after : OpenPart
-  pub scheme : ends_scheme part text ≡ false
+  pub scheme : is_unfixed part text ≡ false
   pub opened : after_markup part text ≡ Some after
   pub told : url_end p ended after ≡ Ok url
 
 behind_after : (p : SlotPlace) (part : OpenPart) (ended : Bool) (markup text : List ℕ) (url : OpenUrl) (after : Option OpenPart) →
-    AddsText ended markup text → ends_scheme part text ≡ false → after_markup part text ≡ after → behind_part p ended after ≡ Ok url → BehindSlot p part ended markup url
+    AddsText ended markup text → is_unfixed part text ≡ false → after_markup part text ≡ after → behind_part p ended after ≡ Ok url → BehindSlot p part ended markup url
 behind_after p part ended markup text url None adds scheme opened told = absurd (cc)
 behind_after p part ended markup text url (Some after) adds scheme opened told =
     record { text = text; adds = adds; after = after; scheme = scheme; opened = opened; told = told }
@@ -62,7 +62,7 @@ behind_read : (p : SlotPlace) (part : OpenPart) (ended : Bool) (markup : List �
     plain_text ended markup ≡ read → behind_slot p part ended read ≡ Ok url → BehindSlot p part ended markup url
 behind_read p part ended markup url None is told = absurd (cc)
 behind_read p part ended markup url (Some text) is told =
-    elim (cases_Bool (ends_scheme part text)) [
+    elim (cases_Bool (is_unfixed part text)) [
       | inl ends ↦ let clash : Err NotFixed ≡ as_told url = rw ends at told in
           absurd (cc)
       | inr other ↦ behind_after p part ended markup text url (after_markup part text) (adds_text ended markup text is) other refl (rw other at told)

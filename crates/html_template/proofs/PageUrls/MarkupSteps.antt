@@ -28,7 +28,7 @@ use Rattle.html_tokenizer.proofs.UrlValues.Slots.Refusals.{not_refused}
 use Rattle.html_tokenizer.proofs.UrlValues.Slots.Tame.{IsTame}
 use Rattle.html_tokenizer.proofs.UrlValues.Staying.{StaysUrl, stays_none}
 use Rattle.html_urls.specs.Bases.{goes_as, goes_on_so, open_behind}
-use Rattle.html_urls.specs.OpenParts.{after_markup, ends_scheme, may_be_dots}
+use Rattle.html_urls.specs.OpenParts.{after_markup, is_unfixed, may_be_dots}
 use Rattle.html_urls.specs.Shapes.{front_of}
 use Rattle.html_urls.specs.Slots as part
 use Rattle.html_urls.specs.Slots.{are_plain, ends_in_escape, is_plain, no_parts}
@@ -36,6 +36,7 @@ use Rattle.html_urls.specs.declared.base.BehindBase.{BehindBase}
 use Rattle.html_urls.specs.declared.base.BehindBase.TheVariants.{Slash, Segment}
 use Rattle.html_urls.specs.declared.open_part.OpenPart.{OpenPart}
 use Rattle.html_urls.specs.declared.open_part.OpenPart.TheVariants.{NewSegment}
+use Rattle.html_urls.proofs.Filled.Told.{placed_markup}
 use Rattle.html_urls.proofs.Bases.GoesAs.{goes_alone, goes_more, slash_alone, slash_goes}
 use Rattle.html_template.proofs.PageUrls.Filled.{EndsBehind, EndsParts, GoesBehind, GoesOn, IsFilled, ends_more, fixed_before}
 use Rattle.html_template.proofs.PageUrls.EndedUrls.{ends_in, parts_end}
@@ -67,8 +68,8 @@ outside_goes t markup bytes chunks tame goes = λ value from.
 plain_anywhere : (text : List ℕ) (is_last : Bool) → is_plain text false ≡ true → is_plain text is_last ≡ true
 plain_anywhere text is_last plain = grind (arith, nat_tests)
 
--- behind a base no first segment is open
-behind_no_scheme : (behind : BehindBase) (text : List ℕ) → ends_scheme (open_behind behind) text ≡ false
+-- behind a base neither a first segment nor an opaque path is open
+behind_no_scheme : (behind : BehindBase) (text : List ℕ) → is_unfixed (open_behind behind) text ≡ false
 behind_no_scheme behind text = grind (arith, nat_tests)
 
 module _ (p : SlotPlace) (content : Content) (attribute : Attribute) (place : is_value_place p ≡ true) (url : is_url attribute ≡ true) where
@@ -77,11 +78,12 @@ module _ (p : SlotPlace) (content : Content) (attribute : Attribute) (place : is
 
   -- ---- in a part of it
 
-  goes_within : (open_part after : OpenPart) (raw text : List ℕ) (there : Tokenizer) (chunks : List Chunk) → is_plain text false ≡ true → ends_scheme open_part text ≡ false → after_markup open_part text ≡ Some after →
+  goes_within : (open_part after : OpenPart) (raw text : List ℕ) (there : Tokenizer) (chunks : List Chunk) → is_plain text false ≡ true → is_unfixed open_part text ≡ false → after_markup open_part text ≡ Some after →
       StaysUrl here raw text there → GoesOn after there chunks → GoesOn open_part here (Markup raw ∷ chunks)
   goes_within open_part after raw text there chunks plain scheme opened stays behind = record {
     parts = part.Markup text ∷ behind.parts;
     slots = behind.slots;
+    stand = placed_markup behind.slots text behind.parts ∙ ap (λ l. part.Markup text ∷ l) behind.stand;
     fixed = λ number. rw (plain_anywhere text (no_parts behind.parts) plain, scheme, opened) (behind.fixed (number + 1));
     later = behind.later;
     told = λ url_by before.
@@ -93,11 +95,12 @@ module _ (p : SlotPlace) (content : Content) (attribute : Attribute) (place : is
         (behind.ends (value ++ text) texts full utf8);
   }
 
-  ends_within : (open_part after : OpenPart) (text : List ℕ) (chunks : List Chunk) → is_plain text true ≡ true → ends_scheme open_part text ≡ false → after_markup open_part text ≡ Some after →
+  ends_within : (open_part after : OpenPart) (text : List ℕ) (chunks : List Chunk) → is_plain text true ≡ true → is_unfixed open_part text ≡ false → after_markup open_part text ≡ Some after →
       may_be_dots after ≡ false → EndsParts here text chunks → GoesOn open_part here chunks
   ends_within open_part after text chunks plain scheme opened none ends = record {
     parts = part.Markup text ∷ [];
     slots = [];
+    stand = refl;
     fixed = λ number. rw (plain, scheme, opened, none) refl;
     later = ends.end.later;
     told = ends.told;

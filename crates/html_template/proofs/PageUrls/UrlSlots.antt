@@ -19,15 +19,15 @@ use Rattle.html_tokenizer.proofs.Passing.{Passes}
 use Rattle.html_tokenizer.proofs.UrlValues.Places.{is_value_place}
 use Rattle.html_tokenizer.proofs.UrlValues.Apart.Bytes.{KeepsUrl}
 use Rattle.html_tokenizer.proofs.UrlValues.Apart.Texts.{text_in_url}
-use Rattle.html_tokenizer.proofs.UrlValues.Slots.Components.{component_added, is_component_byte}
+use Rattle.html_tokenizer.proofs.UrlValues.Slots.Components.{component_added, is_written_byte}
 use Rattle.html_tokenizer.proofs.UrlValues.Slots.Tame.{IsTame}
 use Rattle.html_tokenizer.proofs.UrlValues.Staying.{StaysUrl}
-use Rattle.html_urls.proofs.Components.{component_bytes}
+use Rattle.html_urls.proofs.Components.{written_bytes}
 use Rattle.html_urls.specs.Bases.{FillBehind}
-use Rattle.html_urls.specs.Components.{component}
+use Rattle.html_urls.specs.Components.{component_at}
 use Rattle.html_urls.specs.OpenParts.{after_text, open_of, slot_at}
 use Rattle.html_urls.specs.Slots as part
-use Rattle.html_urls.specs.Slots.{FillSlots, Given, Told, is_plain, slots_of, url_of}
+use Rattle.html_urls.specs.Slots.{FillParts, FillSlots, Given, Told, is_plain, slots_of, url_of}
 use Rattle.html_urls.specs.declared.base.BehindBase.{BehindBase}
 use Rattle.html_urls.specs.declared.base.BehindBase.TheVariants.{Segment}
 use Rattle.html_urls.specs.declared.open_part.OpenPart.{OpenPart}
@@ -44,45 +44,46 @@ module _ (t : Tokenizer) (p : SlotPlace) (slot : UrlSlot) (chunks : List Chunk) 
   abbrev part_next : Tokenizer
   part_next = at_value (In p) t.content t.attribute
 
-  component_in : (bytes : List ℕ) → StaysUrl t (component bytes) (component bytes) part_next
+  component_in : (bytes : List ℕ) → StaysUrl t (component_at slot.place bytes) (component_at slot.place bytes) part_next
   component_in bytes =
       let stands = part_in_url slot p t.state t.content t.attribute suited in
-      subst (λ s. StaysUrl (at_value s t.content t.attribute) (component bytes) (component bytes) part_next) (sym stands.state_is)
-      (component_added p t.content t.attribute (component bytes) (value_place p t tame stands) stands.attribute_is
-      (list_all_from_All is_component_byte (component bytes) (component_bytes bytes)))
+      subst (λ s. StaysUrl (at_value s t.content t.attribute) (component_at slot.place bytes) (component_at slot.place bytes) part_next) (sym stands.state_is)
+      (component_added p t.content t.attribute (component_at slot.place bytes) (value_place p t tame stands) stands.attribute_is
+      (list_all_from_All is_written_byte (component_at slot.place bytes) (written_bytes slot.place bytes)))
 
   -- the text, and then what the URL goes on with
   text_ends : (after : OpenPart) (behind : GoesOn after part_next chunks) (value text : List ℕ) (texts : List (List ℕ)) → Fill chunks texts → AllByRecursion IsUtf8 texts →
-      EndsFirst (urls_from t value (component text ++ page chunks texts)) (first_texts chunks texts)
-      (value ++ (component text ++ url_of behind.parts (take (slots_in behind.parts) (url_texts chunks texts))))
+      EndsFirst (urls_from t value (component_at slot.place text ++ page chunks texts)) (first_texts chunks texts)
+      (value ++ (component_at slot.place text ++ url_of behind.parts (take (slots_in behind.parts) (url_texts chunks texts))))
       behind.later (drop (slots_in behind.parts) (url_texts chunks texts))
   text_ends after behind value text texts full utf8 =
       let stays = component_in text in
-      ends_more value (component text) _
-      (behind_bytes t value (component text) (page chunks texts) (stays.none_ends value) stays.passes.after (stays.value value))
-      (behind.ends (value ++ component text) texts full utf8)
+      ends_more value (component_at slot.place text) _
+      (behind_bytes t value (component_at slot.place text) (page chunks texts) (stays.none_ends value) stays.passes.after (stays.value value))
+      (behind.ends (value ++ component_at slot.place text) texts full utf8)
 
   -- behind another slot of it
   module _ (open_part : OpenPart) (placed : slot_at open_part ≡ Some slot) (behind : GoesOn (after_text open_part) part_next chunks) where
     slots_fit : (texts : List (List ℕ)) → Fill (Slot p (kind.UrlPart slot) ∷ chunks) texts →
-        FillSlots (slot ∷ behind.slots) (take (slots_in (part.Slot ∷ behind.parts)) (url_texts (Slot p (kind.UrlPart slot) ∷ chunks) texts))
+        FillSlots (slot ∷ behind.slots) (take (slots_in (part.Slot slot.place ∷ behind.parts)) (url_texts (Slot p (kind.UrlPart slot) ∷ chunks) texts))
     slots_fit texts full = grind (arith, nat_tests)
 
     slots_end : (value : List ℕ) (texts : List (List ℕ)) → Fill (Slot p (kind.UrlPart slot) ∷ chunks) texts → AllByRecursion IsUtf8 texts →
         EndsFirst (urls_from t value (page (Slot p (kind.UrlPart slot) ∷ chunks) texts)) (first_texts (Slot p (kind.UrlPart slot) ∷ chunks) texts)
-        (value ++ url_of (part.Slot ∷ behind.parts) (take (slots_in (part.Slot ∷ behind.parts)) (url_texts (Slot p (kind.UrlPart slot) ∷ chunks) texts)))
-        behind.later (drop (slots_in (part.Slot ∷ behind.parts)) (url_texts (Slot p (kind.UrlPart slot) ∷ chunks) texts))
+        (value ++ url_of (part.Slot slot.place ∷ behind.parts) (take (slots_in (part.Slot slot.place ∷ behind.parts)) (url_texts (Slot p (kind.UrlPart slot) ∷ chunks) texts)))
+        behind.later (drop (slots_in (part.Slot slot.place ∷ behind.parts)) (url_texts (Slot p (kind.UrlPart slot) ∷ chunks) texts))
     slots_end value [] full utf8 = absurd full
     slots_end value (text ∷ texts) full utf8 = text_ends (after_text open_part) behind value text texts full.1 utf8.1
 
     pub later_goes : GoesOn open_part t (Slot p (kind.UrlPart slot) ∷ chunks)
     later_goes = record {
-      parts = part.Slot ∷ behind.parts;
+      parts = part.Slot slot.place ∷ behind.parts;
       slots = slot ∷ behind.slots;
+      stand = ap (λ l. part.Slot slot.place ∷ l) behind.stand;
       fixed = λ number. rw (placed, behind.fixed (number + 1)) refl;
       later = behind.later;
       told = λ url_by before.
-          rw suited (behind.told url_by (before ++ part.Slot ∷ [])) ∙ ap (λ all. url_by all ∷ behind.later) (append_assoc before (part.Slot ∷ []) behind.parts);
+          rw suited (behind.told url_by (before ++ part.Slot slot.place ∷ [])) ∙ ap (λ all. url_by all ∷ behind.later) (append_assoc before (part.Slot slot.place ∷ []) behind.parts);
       fits = slots_fit;
       ends = slots_end;
     }
@@ -90,7 +91,7 @@ module _ (t : Tokenizer) (p : SlotPlace) (slot : UrlSlot) (chunks : List Chunk) 
     -- behind the first markup of it
     module _ (front : List ℕ) (plain : is_plain front false ≡ true) (opened : open_of front ≡ Some open_part) where
       abbrev parts : List Given
-      parts = part.Markup front ∷ part.Slot ∷ behind.parts
+      parts = part.Markup front ∷ part.Slot slot.place ∷ behind.parts
 
       parts_told : slots_of parts ≡ Ok (slot ∷ behind.slots)
       parts_told = rw (plain, opened, placed, behind.fixed 2) refl
@@ -103,14 +104,18 @@ module _ (t : Tokenizer) (p : SlotPlace) (slot : UrlSlot) (chunks : List Chunk) 
           let end = slots_end front texts full utf8 in
           record {
             same = end.same ∙ ap (λ others. url_of parts (take (slots_in parts) found) ∷ others) end.filled.same;
-            full = (subst (λ (told : Told). IsOkAnd told (λ slots. FillSlots slots (take (slots_in parts) found))) (sym parts_told) (slots_fit texts full), end.filled.full);
+            full = (
+              subst (λ (told : Told). IsOkAnd told (FillParts parts (take (slots_in parts) found))) (sym parts_told)
+                  (slots_fit texts full, ap (λ l. part.Markup front ∷ part.Slot slot.place ∷ l) behind.stand),
+              end.filled.full,
+            );
             whole_same = end.filled.whole_same;
           }
 
       pub first_goes : (value : List ℕ) → value ≡ front → HasLater t value (Slot p (kind.UrlPart slot) ∷ chunks)
       first_goes value is =
           subst (λ (x : List ℕ). HasLater t x (Slot p (kind.UrlPart slot) ∷ chunks)) (sym is)
-          (record { urls = Parts parts ∷ behind.later; told = rw suited (behind.told Parts (part.Markup front ∷ part.Slot ∷ [])); filled = parts_filled })
+          (record { urls = Parts parts ∷ behind.later; told = rw suited (behind.told Parts (part.Markup front ∷ part.Slot slot.place ∷ [])); filled = parts_filled })
 
   -- behind a base that ends in `/`
   pub slot_behind : slot_at NewSegment ≡ Some slot → GoesOn (after_text NewSegment) part_next chunks → GoesBehind Segment t (Slot p (kind.UrlPart slot) ∷ chunks)
@@ -164,7 +169,7 @@ module _ (t : Tokenizer) (p : SlotPlace) (chunks : List Chunk) (tame : IsTame t)
   -- the same of a base, and of what the URL goes on with
   fill_behind : (behind : BehindBase) (on : GoesBehind behind whole_next chunks) (texts : List (List ℕ)) → Fill chunks texts →
       FillBehind behind on.on.parts (take (slots_in on.on.parts) (url_texts chunks texts))
-  fill_behind behind on texts full = rw (on.goes, on.on.fixed 0) (on.on.fits texts full)
+  fill_behind behind on texts full = rw (on.goes, on.on.fixed 0) (on.on.fits texts full, on.on.stand)
 
   base_text_filled : (kind : SlotKind) (behind : BehindBase) (text bytes : List ℕ) (texts : List (List ℕ)) (on : GoesBehind behind whole_next chunks) →
       IsInQuotes p t.state t.attribute → Passes t bytes (map (read_byte p) (read_back (encoder_for p) text)) whole_next → MayBegin kind text →

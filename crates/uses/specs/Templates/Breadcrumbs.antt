@@ -19,7 +19,7 @@ crumb_pieces =
 
 -- its URLs: one, of markup and the segment
 abbrev pub crumb_urls : List TemplateUrl
-crumb_urls = Parts (url.Markup (codes "/") ∷ url.Slot ∷ url.Markup [] ∷ []) ∷ []
+crumb_urls = Parts (url.Markup (codes "/") ∷ url.Slot Path ∷ url.Markup [] ∷ []) ∷ []
 
 -- a crumb, byte by byte
 abbrev pub crumb_text : Crumb → List ℕ

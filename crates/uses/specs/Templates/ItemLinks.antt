@@ -21,7 +21,7 @@ item_pieces =
 
 -- its URLs: one, of the base and these parts behind it
 abbrev pub item_urls : List TemplateUrl
-item_urls = Based (Base Slash) (url.Markup (codes "/items/") ∷ url.Slot ∷ url.Markup [] ∷ []) ∷ []
+item_urls = Based (Base Slash) (url.Markup (codes "/items/") ∷ url.Slot Path ∷ url.Markup [] ∷ []) ∷ []
 
 abbrev pub item_url : Item → List ℕ
 item_url item = item.base.now ++ (codes "/items/" ++ component item.id.now)

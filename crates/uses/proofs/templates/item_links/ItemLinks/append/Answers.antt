@@ -9,4 +9,4 @@ returns-clause-head c = λ page web.
     let id = c.args.item.id.now in
     let full = rw c.args.self.now.told at c.in_ok-append.ensures.full in
     ap (λ x. head_of (parse_url page (c.args.item.base.now ++ (codes "/items/" ++ x)))) (sym (append-nil (component id)))
-    ∙ c.base_law.ensures.head page (id ∷ []) web refl (c.base_law.ensures.fills (id ∷ []) (full.1.0, tt))
+    ∙ c.base_law.ensures.head page (id ∷ []) web refl (c.base_law.ensures.fills (id ∷ []) ((full.1.0, tt), refl))
