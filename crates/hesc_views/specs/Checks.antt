@@ -6,7 +6,7 @@ use Rattle.html_template.specs.declared.parts.SlotKind.TheVariants.{Text, UrlPar
 use Rattle.html_tokenizer.specs.declared.slot_place.SlotPlace.{SlotPlace}
 use Rattle.html_tokenizer.specs.declared.slot_place.SlotPlace.TheVariants as at
 use Rattle.html_urls.specs.declared.place.UrlPlace.{UrlPlace}
-use Rattle.html_urls.specs.declared.place.UrlPlace.TheVariants.{Path, Query, Fragment}
+use Rattle.html_urls.specs.declared.place.UrlPlace.TheVariants.{Path, OpaquePath, Query, Fragment}
 use Rattle.html_view.specs.Kept.{slot_of}
 use Rattle.html_view.specs.declared.node.Times.{Times}
 use Rattle.html_view.specs.declared.node.Times.TheVariants.{Attributes, Each, Given, If, Once, Whether}
@@ -32,6 +32,7 @@ place_word at.StyleDouble = codes " style-double"
 
 abbrev pub url_word : UrlPlace → List ℕ
 url_word Path = codes " path"
+url_word OpaquePath = codes " opaque-path"
 url_word Query = codes " query"
 url_word Fragment = codes " fragment"
 

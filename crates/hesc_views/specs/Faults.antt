@@ -53,6 +53,7 @@ wrong_part part.AfterStyleValue = codes "a slot stands in this declaration; up t
 abbrev pub wrong_value : ValueFault → List ℕ
 wrong_value value.Missing = codes "no value has this name"
 wrong_value value.NotAText = codes "the value is no text"
+wrong_value value.NotJson = codes "the value has a fragment in it, of which there is no JSON"
 wrong_value value.NotAFragment = codes "the value is no fragment, as no value of JSON is; write {{name}} for its text"
 wrong_value value.NotAttributes = codes "the value is no object of attributes; this slot stands between attributes"
 wrong_value value.Repeated = codes "the list has two items or more, and this section stands once"

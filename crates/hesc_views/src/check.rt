@@ -171,6 +171,7 @@ fn kind_word(kind: SlotKind) -> &'static str
         SlotKind::StyleValue => " style-value",
         SlotKind::UrlPart(slot) => match slot.place {
             UrlPlace::Path => " path",
+            UrlPlace::OpaquePath => " opaque-path",
             UrlPlace::Query => " query",
             UrlPlace::Fragment => " fragment",
         },

@@ -219,6 +219,7 @@ fn wrong_value(fault: ValueFault) -> &'static str
     match fault {
         ValueFault::Missing => "no value has this name",
         ValueFault::NotAText => "the value is no text",
+        ValueFault::NotJson => "the value has a fragment in it, of which there is no JSON",
         ValueFault::NotAFragment => {
             "the value is no fragment, as no value of JSON is; write {{name}} for its text"
         }

@@ -12,7 +12,7 @@ use Rattle.html_template.proofs.Pieces.{sound_told}
 use Rattle.html_template.proofs.Structure.{structure_of_page}
 use Rattle.html_view.specs.Attributes.{refused_for}
 use Rattle.html_view.specs.Data as data_of
-use Rattle.html_view.specs.Data.{Datum, Fields, Flag, Fragment, ItemList, Items, Record, Stack, Text, around, bare, field, field_of, filled_stacks, first_of, first_value, given_stacks, has_items, innermost, inside, is_filled, item, item_stacks, list_stacks, look_up, member_of, no_items, once, stacks, within}
+use Rattle.html_view.specs.Data.{Datum, Fields, Flag, Fragment, ItemList, Items, Number, Record, Stack, Text, around, bare, field, field_of, filled_stacks, first_of, first_value, given_stacks, has_items, innermost, inside, is_filled, item, item_stacks, list_stacks, look_up, member_of, no_items, once, stacks, within}
 use Rattle.html_view.specs.Forms.{SameFields, SameForm, SameItems}
 use Rattle.html_view.specs.Nodes as node
 use Rattle.html_view.specs.Nodes.{Asked, Nodes, Opening, Placed, Words}
@@ -58,6 +58,9 @@ same_field word fields others same = absurd same
 same_member : (word : List ℕ) (value other : Datum) → SameForm value other → SameOption (member_of word value) (member_of word other)
 same_member word data_of.Nothing data_of.Nothing same = tt
 same_member word (Text text) (Text other) same = tt
+same_member word (Text text) (Number other) same = tt
+same_member word (Number text) (Text other) same = tt
+same_member word (Number text) (Number other) same = tt
 same_member word (Flag flag) (Flag other) same = tt
 same_member word (Fragment markup whole) (Fragment other is) same = tt
 same_member word (Items items) (Items others) same = tt
@@ -154,6 +157,15 @@ same_filled times (Some data_of.Nothing) (Some data_of.Nothing) stack others sam
 same_filled times (Some (Text text)) (Some (Text other)) stack others same around =
     same_once (is_filled text) (is_filled other) (inside times (Text text) stack) (inside times (Text other) others) same
     (same_inside times (Text text) (Text other) stack others same around)
+same_filled times (Some (Text text)) (Some (Number other)) stack others same around =
+    same_once (is_filled text) (is_filled other) (inside times (Text text) stack) (inside times (Number other) others) same
+    (same_inside times (Text text) (Number other) stack others same around)
+same_filled times (Some (Number text)) (Some (Text other)) stack others same around =
+    same_once (is_filled text) (is_filled other) (inside times (Number text) stack) (inside times (Text other) others) same
+    (same_inside times (Number text) (Text other) stack others same around)
+same_filled times (Some (Number text)) (Some (Number other)) stack others same around =
+    same_once (is_filled text) (is_filled other) (inside times (Number text) stack) (inside times (Number other) others) same
+    (same_inside times (Number text) (Number other) stack others same around)
 same_filled times (Some (Flag flag)) (Some (Flag other)) stack others same around = same_once flag other stack others same around
 same_filled times (Some (Fragment markup whole)) (Some (Fragment other is)) stack others same around =
     same_once (is_filled markup) (is_filled other) (inside times (Fragment markup whole) stack) (inside times (Fragment other is) others)
@@ -168,6 +180,9 @@ same_given : (a b : Option Datum) (stack others : Stack) → SameOption a b → 
 same_given None None stack others same around = tt
 same_given (Some data_of.Nothing) (Some data_of.Nothing) stack others same around = tt
 same_given (Some (Text text)) (Some (Text other)) stack others same around = ((same, around), tt)
+same_given (Some (Text text)) (Some (Number other)) stack others same around = ((same, around), tt)
+same_given (Some (Number text)) (Some (Text other)) stack others same around = ((same, around), tt)
+same_given (Some (Number text)) (Some (Number other)) stack others same around = ((same, around), tt)
 same_given (Some (Flag flag)) (Some (Flag other)) stack others same around = ((same, around), tt)
 same_given (Some (Fragment markup whole)) (Some (Fragment other is)) stack others same around = ((same, around), tt)
 same_given (Some (Items items)) (Some (Items more)) stack others same around = ((same, around), tt)
@@ -266,6 +281,7 @@ same_fragment slot (Some (Fragment markup whole)) b one two same told again = ab
 same_fragment slot None b one two same told again = absurd (cc)
 same_fragment slot (Some data_of.Nothing) b one two same told again = absurd (cc)
 same_fragment slot (Some (Text text)) b one two same told again = absurd (cc)
+same_fragment slot (Some (Number text)) b one two same told again = absurd (cc)
 same_fragment slot (Some (Flag flag)) b one two same told again = absurd (cc)
 same_fragment slot (Some (Items items)) b one two same told again = absurd (cc)
 same_fragment slot (Some (Record fields)) b one two same told again = absurd (cc)

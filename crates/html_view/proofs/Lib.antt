@@ -10,7 +10,10 @@ pub mod Followed
 pub mod Spelling
 pub mod Unrolling
 pub mod CutNames
+pub mod JsonTexts
 pub mod Putting
+pub mod PuttingJson
+pub mod JsonSlots
 pub mod Sections
 pub mod AskedNames
 pub mod Forms

@@ -6,7 +6,7 @@ use Rattle.std.proofs.lemmas.List.{take-append-le}
 use Rattle.hesc_specs.specs.Text.Ascii.{semicolon}
 use Rattle.html_tokenizer.specs.Declarations.{bang, is_style_byte}
 use Rattle.html_urls.specs.Bases.{goes_as, open_behind}
-use Rattle.html_urls.specs.OpenParts.{after_markup, ends_scheme}
+use Rattle.html_urls.specs.OpenParts.{after_markup, is_unfixed}
 use Rattle.html_urls.specs.declared.base.BehindBase.{BehindBase}
 use Rattle.html_urls.specs.declared.base.BehindBase.TheVariants.{Segment}
 use Rattle.html_urls.specs.declared.open_part.OpenPart.{OpenPart}
@@ -42,9 +42,9 @@ pub still_open : (p : SlotPlace) (open_part : OpenPart) (text : Option (List ℕ
 still_open p open_part None told = absurd (cc)
 still_open p open_part (Some text) told =
     ⊎_elim
-    (λ (ends : ends_scheme open_part text ≡ true). let clash : refusal NotFixed ≡ Ok Outside = rw ends at told in cc)
-    (λ (other : ends_scheme open_part text ≡ false). within (after_markup open_part text) (rw other at told))
-    (cases_Bool (ends_scheme open_part text))
+    (λ (ends : is_unfixed open_part text ≡ true). let clash : refusal NotFixed ≡ Ok Outside = rw ends at told in cc)
+    (λ (other : is_unfixed open_part text ≡ false). within (after_markup open_part text) (rw other at told))
+    (cases_Bool (is_unfixed open_part text))
   where
     within : (found : Option OpenPart) → behind_part p false found ≡ Ok Outside → ⊥
     within None told = absurd (cc)

@@ -23,7 +23,7 @@ use Rattle.html_view.specs.Data.{Datum, Stack, look_up, stacks}
 use Rattle.html_view.specs.Data as data_of
 use Rattle.html_view.specs.Nodes as node
 use Rattle.html_view.specs.Nodes.{Asked, Nodes, Opening, Placed}
-use Rattle.html_view.specs.Rendered.{Unrolled, Unrolling, fitting, flag_text, fragment_for, no_unrolling, put_front, put_markup, put_text, rendered, text_for, unrolled, unrolled_each, unrolled_section, unrolled_times}
+use Rattle.html_view.specs.Rendered.{Unrolled, Unrolling, fitting, flag_text, fragment_for, is_json, no_unrolling, plain_text_for, put_front, put_markup, put_text, rendered, text_for, unrolled, unrolled_each, unrolled_section, unrolled_times}
 use Rattle.html_view.specs.Unrolled.{AreTemplates, Stands, Unrolls, all_of, joined}
 use Rattle.html_view.specs.Ways.{on_ok}
 use Rattle.html_view.specs.declared.faults.ValueFault.{ValueFault}
@@ -87,15 +87,28 @@ fitting_fits slot text found None is told =
     subst (MayFill slot.place slot.kind) same (text_fits slot.place slot.kind text is)
 fitting_fits slot text found (Some f) is told = absurd (cc)
 
-pub text_for_fits : (slot : Placed) (value : Option Datum) (found : List ℕ) → text_for slot value ≡ Ok found → MayFill slot.place slot.kind found
-text_for_fits slot None found told = absurd (cc)
-text_for_fits slot (Some data_of.Nothing) found told = absurd (cc)
-text_for_fits slot (Some (data_of.Text text)) found told = fitting_fits slot text found (text_fault slot.place slot.kind text) refl told
-text_for_fits slot (Some (data_of.Flag flag)) found told =
+plain_fits : (slot : Placed) (value : Option Datum) (found : List ℕ) → plain_text_for slot value ≡ Ok found → MayFill slot.place slot.kind found
+plain_fits slot None found told = absurd (cc)
+plain_fits slot (Some data_of.Nothing) found told = absurd (cc)
+plain_fits slot (Some (data_of.Text text)) found told = fitting_fits slot text found (text_fault slot.place slot.kind text) refl told
+plain_fits slot (Some (data_of.Number text)) found told = fitting_fits slot text found (text_fault slot.place slot.kind text) refl told
+plain_fits slot (Some (data_of.Flag flag)) found told =
     fitting_fits slot (flag_text flag) found (text_fault slot.place slot.kind (flag_text flag)) refl told
-text_for_fits slot (Some (data_of.Fragment markup whole)) found told = absurd (cc)
-text_for_fits slot (Some (data_of.Items items)) found told = absurd (cc)
-text_for_fits slot (Some (data_of.Record fields)) found told = absurd (cc)
+plain_fits slot (Some (data_of.Fragment markup whole)) found told = absurd (cc)
+plain_fits slot (Some (data_of.Items items)) found told = absurd (cc)
+plain_fits slot (Some (data_of.Record fields)) found told = absurd (cc)
+
+-- a slot for JSON takes any text
+json_fits : (p : SlotPlace) (slot_kind : SlotKind) (text : List ℕ) → is_json slot_kind ≡ true → MayFill p slot_kind text
+json_fits p kind.Json text is = tt
+json_fits p other text is = absurd (cc)
+
+pub text_for_fits : (slot : Placed) (value : Option Datum) (found : List ℕ) → text_for slot value ≡ Ok found → MayFill slot.place slot.kind found
+text_for_fits slot value found told =
+    ⊎_elim
+    (λ (json : is_json slot.kind ≡ true). json_fits slot.place slot.kind found json)
+    (λ (plain : is_json slot.kind ≡ false). plain_fits slot value found (rw plain at told))
+    (cases_Bool (is_json slot.kind))
 
 -- a fragment is whole
 fragment_whole : (slot : Asked) (value : Option Datum) (found : List ℕ) → fragment_for slot value ≡ Ok found → IsWhole found
@@ -105,6 +118,7 @@ fragment_whole slot (Some (data_of.Fragment markup whole)) found told =
     let same : markup ≡ found = cc in
     subst IsWhole same whole
 fragment_whole slot (Some (data_of.Text text)) found told = absurd (cc)
+fragment_whole slot (Some (data_of.Number text)) found told = absurd (cc)
 fragment_whole slot (Some (data_of.Flag flag)) found told = absurd (cc)
 fragment_whole slot (Some (data_of.Items items)) found told = absurd (cc)
 fragment_whole slot (Some (data_of.Record fields)) found told = absurd (cc)

@@ -1,7 +1,7 @@
 -- The attributes that a record may give to an element, and the nodes that write them.
 use Rattle.std.specs.Prelude.{ℕ, Bool, true, false, ◌&&◌, ◌||◌, List, [], ◌∷◌, ◌++◌, Option, Some, None, bytes_eq, codes, if◌then◌else◌}
 use Rattle.std.specs.List.{list_any}
-use Rattle.html_view.specs.Data.{Datum, Fields, Flag, Fragment, Items, Nothing, Record, Text, bare, field}
+use Rattle.html_view.specs.Data.{Datum, Fields, Flag, Fragment, Items, Nothing, Number, Record, Text, bare, field}
 use Rattle.html_view.specs.Names.{words_of}
 use Rattle.html_view.specs.Nodes as node
 use Rattle.html_view.specs.Nodes.{Asked, Nodes, Opening, Words}
@@ -40,11 +40,12 @@ flag_names =
 abbrev pub is_one : List (List ℕ) → List ℕ → Bool
 is_one names name = list_any (λ one. bytes_eq one name) names
 
--- a text for an attribute that has one, a flag for any, and nothing, which leaves it out
+-- a text or a number for an attribute that has one, a flag for any, and nothing, which leaves it out
 abbrev pub is_attribute : List ℕ → Datum → Bool
 is_attribute name Nothing = is_one text_names name || is_one flag_names name
 is_attribute name (Flag flag) = is_one text_names name || is_one flag_names name
 is_attribute name (Text text) = is_one text_names name
+is_attribute name (Number text) = is_one text_names name
 is_attribute name (Fragment markup whole) = false
 is_attribute name (Items items) = false
 is_attribute name (Record fields) = false
@@ -57,6 +58,7 @@ abbrev pub attributes_fault : Option Datum → Option ValueFault
 attributes_fault None = Some Missing
 attributes_fault (Some Nothing) = Some Missing
 attributes_fault (Some (Text text)) = Some NotAttributes
+attributes_fault (Some (Number text)) = Some NotAttributes
 attributes_fault (Some (Flag flag)) = Some NotAttributes
 attributes_fault (Some (Fragment markup whole)) = Some NotAttributes
 attributes_fault (Some (Items items)) = Some NotAttributes

@@ -7,10 +7,11 @@ use Rattle.html_view.specs.declared.node.Times.{Times}
 use Rattle.html_view.specs.declared.node.Times.TheVariants.{Each, Given, Once, Whether}
 
 mutual
-  -- nothing, a text, a flag, a fragment, a list, or named values
+  -- nothing, a text, a number as its text, a flag, a fragment, a list, or named values
   pub data Datum : Type 0 where
     Nothing : Datum
     Text : List ℕ → Datum
+    Number : List ℕ → Datum
     Flag : Bool → Datum
     Fragment : (markup : List ℕ) → IsWhole markup → Datum
     Items : ItemList → Datum
@@ -91,7 +92,7 @@ list_stacks Each items stack = item_stacks items stack
 list_stacks Once items stack = item_stacks items stack
 list_stacks other items stack = once (has_items items) stack
 
--- named values, a text and a fragment are around in the body
+-- named values, a text, a number and a fragment are around in the body
 abbrev pub inside : Times → Datum → Stack → Stack
 inside Whether value stack = stack
 inside other value stack = value ∷ stack
@@ -101,6 +102,7 @@ abbrev pub filled_stacks : Times → Option Datum → Stack → List Stack
 filled_stacks times None stack = []
 filled_stacks times (Some Nothing) stack = []
 filled_stacks times (Some (Text text)) stack = once (is_filled text) (inside times (Text text) stack)
+filled_stacks times (Some (Number text)) stack = once (is_filled text) (inside times (Number text) stack)
 filled_stacks times (Some (Flag flag)) stack = once flag stack
 filled_stacks times (Some (Fragment markup whole)) stack = once (is_filled markup) (inside times (Fragment markup whole) stack)
 filled_stacks times (Some (Items items)) stack = list_stacks times items stack

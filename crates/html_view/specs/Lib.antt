@@ -16,9 +16,11 @@ pub mod Frames
 pub mod Data
 pub mod Attributes
 pub mod JsonData
+pub mod JsonTexts
 pub mod Values
 pub mod Rendered
 pub mod Putting
+pub mod PuttingJson
 pub mod Appending
 pub mod Views
 pub mod AskedNames

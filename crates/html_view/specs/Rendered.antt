@@ -1,18 +1,21 @@
 -- What data makes of nodes: an unrolling, and the texts of its slots; or the first fault.
-use Rattle.std.specs.Prelude.{ℕ, List, [], ◌∷◌, ◌++◌, Bool, true, false, Option, Some, None, Result, Ok, Err, codes}
+use Rattle.std.specs.Prelude.{ℕ, List, [], ◌∷◌, ◌++◌, Bool, true, false, Option, Some, None, Result, Ok, Err, codes, if◌then◌else◌}
 use Rattle.html_template.specs.FillFaults.{text_fault}
 use Rattle.html_template.specs.Templates.{Chunk, Markup, page}
 use Rattle.html_template.specs.declared.faults.TextFault.{TextFault}
+use Rattle.html_template.specs.declared.parts.SlotKind.{SlotKind}
+use Rattle.html_template.specs.declared.parts.SlotKind.TheVariants.{Json}
 use Rattle.html_view.specs.Attributes.{refused_for}
 use Rattle.html_view.specs.Data.{Datum, Stack, look_up, stacks}
 use Rattle.html_view.specs.Data as data_of
+use Rattle.html_view.specs.JsonTexts.{json_text}
 use Rattle.html_view.specs.Nodes as node
 use Rattle.html_view.specs.Nodes.{Asked, Nodes, Opening, Placed}
 use Rattle.html_view.specs.Unrolled.{chunk_of}
 use Rattle.html_view.specs.Ways.{on_ok}
 use Rattle.html_view.specs.declared.faults.Position.{Position}
 use Rattle.html_view.specs.declared.faults.ValueFault.{ValueFault}
-use Rattle.html_view.specs.declared.faults.ValueFault.TheVariants.{Missing, NotAFragment, NotAText, Repeated, Unfit}
+use Rattle.html_view.specs.declared.faults.ValueFault.TheVariants.{Missing, NotAFragment, NotAText, NotJson, Repeated, Unfit}
 use Rattle.html_view.specs.declared.node.Times.{Times}
 use Rattle.html_view.specs.declared.node.Times.TheVariants.{Each}
 
@@ -44,15 +47,33 @@ fitting slot text (Some fault) = Err (slot.asked.position, Unfit fault)
 abbrev pub fitted : Placed → List ℕ → Result (List ℕ) Fault
 fitted slot text = fitting slot text (text_fault slot.place slot.kind text)
 
+-- the text of a slot that is none for JSON
+abbrev pub plain_text_for : Placed → Option Datum → Result (List ℕ) Fault
+plain_text_for slot None = Err (slot.asked.position, Missing)
+plain_text_for slot (Some data_of.Nothing) = Err (slot.asked.position, Missing)
+plain_text_for slot (Some (data_of.Text text)) = fitted slot text
+plain_text_for slot (Some (data_of.Number text)) = fitted slot text
+plain_text_for slot (Some (data_of.Flag flag)) = fitted slot (flag_text flag)
+plain_text_for slot (Some (data_of.Fragment markup whole)) = Err (slot.asked.position, NotAText)
+plain_text_for slot (Some (data_of.Items items)) = Err (slot.asked.position, NotAText)
+plain_text_for slot (Some (data_of.Record fields)) = Err (slot.asked.position, NotAText)
+
+-- that of a slot for JSON is the JSON of the data
+abbrev pub json_or_fault : Placed → Option (List ℕ) → Result (List ℕ) Fault
+json_or_fault slot (Some json) = Ok json
+json_or_fault slot None = Err (slot.asked.position, NotJson)
+
+abbrev pub json_for : Placed → Option Datum → Result (List ℕ) Fault
+json_for slot None = Err (slot.asked.position, Missing)
+json_for slot (Some value) = json_or_fault slot (json_text value)
+
+abbrev pub is_json : SlotKind → Bool
+is_json Json = true
+is_json other = false
+
 -- the text of a slot
 abbrev pub text_for : Placed → Option Datum → Result (List ℕ) Fault
-text_for slot None = Err (slot.asked.position, Missing)
-text_for slot (Some data_of.Nothing) = Err (slot.asked.position, Missing)
-text_for slot (Some (data_of.Text text)) = fitted slot text
-text_for slot (Some (data_of.Flag flag)) = fitted slot (flag_text flag)
-text_for slot (Some (data_of.Fragment markup whole)) = Err (slot.asked.position, NotAText)
-text_for slot (Some (data_of.Items items)) = Err (slot.asked.position, NotAText)
-text_for slot (Some (data_of.Record fields)) = Err (slot.asked.position, NotAText)
+text_for slot value = if is_json slot.kind then json_for slot value else plain_text_for slot value
 
 -- the markup of a slot for a fragment
 abbrev pub fragment_for : Asked → Option Datum → Result (List ℕ) Fault

@@ -3,6 +3,7 @@ pub use Rattle.html_view.specs.AskedNames.{asked_name, names_in}
 pub use Rattle.html_view.specs.Data.{Datum, Fragment, Record, bare, field}
 pub use Rattle.html_view.specs.Forms.{SameForm}
 pub use Rattle.html_view.specs.JsonData.{datum_of_json}
+pub use Rattle.html_view.specs.JsonTexts.{json_of, json_text}
 pub use Rattle.html_view.specs.Nodes.{written}
 pub use Rattle.html_view.specs.Reading.{IsSource, partials_of}
 pub use Rattle.html_view.specs.Rendered.{Unrolled, Unrolling, rendered, unrolled}

@@ -125,7 +125,7 @@ fn is_attribute(name: &str, value: Value<'_, '_>) -> bool
 {
     match value {
         Value::Null | Value::Flag(_) => is_text_name(name) || is_flag_name(name),
-        Value::Text(_) => is_text_name(name),
+        Value::Text(_) | Value::Number(_) => is_text_name(name),
         Value::Fragment(_) => false,
         Value::List(_) | Value::Array(_) => false,
         Value::Record(_) | Value::Object(_) => false,
@@ -178,6 +178,7 @@ fn attributes_fault(value: Option<Value<'_, '_>>) -> Option<ValueFault>
         Some(Value::Record(fields)) => fault_unless(are_attributes(fields)),
         Some(Value::Object(members)) => fault_unless(are_members(members)),
         Some(Value::Text(_)) => Some(ValueFault::NotAttributes),
+        Some(Value::Number(_)) => Some(ValueFault::NotAttributes),
         Some(Value::Flag(_)) => Some(ValueFault::NotAttributes),
         Some(Value::Fragment(_)) => Some(ValueFault::NotAttributes),
         Some(Value::List(_)) => Some(ValueFault::NotAttributes),

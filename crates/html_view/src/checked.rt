@@ -1,6 +1,7 @@
 //! Slots, and whether a text may fill them.
 ghost use Rattle.std.specs.Prelude.{◌≡◌, ℕ, List, None, true};
 ghost use Rattle.html_template.specs.FillFaults.{text_fault};
+ghost use Rattle.html_view.specs.Rendered.{is_json};
 
 use html_template::{SlotKind, StoredSlot, TextFault, text_fault};
 use html_tokenizer::SlotPlace;
@@ -24,6 +25,14 @@ impl CheckedSlot {
             stored: StoredSlot::new(place, kind),
             takes_any: takes_any(place, kind),
         }
+    }
+
+    /// Whether it is a slot for JSON.
+    #[inline(always)]
+    pub(crate) fn is_json(&self) -> bool
+        ensures { result ≡ is_json self.now.stored.kind }
+    {
+        matches!(self.stored.kind(), SlotKind::Json)
     }
 
     /// Why a text may not fill the slot.

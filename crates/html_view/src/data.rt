@@ -5,18 +5,20 @@ ghost use Rattle.html_template.specs.Templates.{texts_of};
 ghost use Rattle.html_view.specs.Data as data_of;
 ghost use Rattle.html_view.specs.JsonData.{datum_of_json, fields_of_json};
 ghost use Rattle.html_view.specs.CutNames.{words_in};
-ghost use Rattle.html_view.specs.Values.{datum_of, fields_of, items_in, stack_of};
+ghost use Rattle.html_view.specs.Values.{datum_of, fields_in, fields_of, items_in, stack_of};
 
 use crate::words::Words;
 use html_template::Fragment;
 use std::alloc::Allocator;
 
-/// A value: nothing, a text, a flag, a fragment, a list, or named values, also as JSON has them. Of two values with
-/// one name the first counts.
+/// A value: nothing, a text, a number as its text, a flag, a fragment, a list, or named values, also as JSON has
+/// them. Of two values with one name the first counts. A number is told from a text in JSON alone, where one that
+/// is none of JSON is a text.
 #[derive(Clone, Copy)]
 pub enum Value<'a, 't> {
     Null,
     Text(&'a str),
+    Number(&'a str),
     Flag(bool),
     Fragment(Fragment<'a>),
     List(&'a [Value<'a, 't>]),
@@ -26,16 +28,16 @@ pub enum Value<'a, 't> {
 }
 
 impl<'a, 't> Value<'a, 't> {
-    /// The value of JSON. A number is its text, as it is written.
+    /// The value of JSON. A number stays as it is written.
     ///
-    /// Of `[1.50]` the first item is the text `1.50`.
+    /// Of `[1.50]` the first item is the number `1.50`.
     pub fn of_json(json: &'a json::Value<'t>) -> Value<'a, 't>
         ensures { datum_of result ≡ datum_of_json (value_view json.now) }
     {
         match json {
             json::Value::Null => Value::Null,
             json::Value::Bool(flag) => Value::Flag(*flag),
-            json::Value::Number(text) => Value::Text(*text),
+            json::Value::Number(text) => Value::Number(*text),
             json::Value::String(text) => Value::Text(*text),
             json::Value::Array(items) => Value::Array(items),
             json::Value::Object(members) => Value::Object(members),
@@ -63,6 +65,33 @@ impl<'a, 't> Items<'a, 't> {
             Items::Array([]) => None,
             Items::Array([json, others @ ..]) => {
                 Some((Value::of_json(json), Items::Array(others)))
+            }
+        }
+    }
+}
+
+/// Named values.
+#[derive(Clone, Copy)]
+pub(crate) enum Fields<'a, 't> {
+    Record(&'a [(&'a str, Value<'a, 't>)]),
+    Object(&'a [(&'t str, json::Value<'t>)]),
+}
+
+impl<'a, 't: 'a> Fields<'a, 't> {
+    /// The first name and its value, and the others.
+    pub(crate) fn take_first(self) -> Option<(&'a str, Value<'a, 't>, Fields<'a, 't>)>
+        ensures some { IfSome result (λ r. fields_in self.entry
+            ≡ data_of.field r.0.now (datum_of r.1) (fields_in r.2)) }
+        ensures none { IfNone result (fields_in self.entry ≡ data_of.bare) }
+    {
+        match self {
+            Fields::Record([]) => None,
+            Fields::Record([(name, value), others @ ..]) => {
+                Some((*name, *value, Fields::Record(others)))
+            }
+            Fields::Object([]) => None,
+            Fields::Object([(name, json), others @ ..]) => {
+                Some((*name, Value::of_json(json), Fields::Object(others)))
             }
         }
     }

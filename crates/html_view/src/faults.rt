@@ -82,6 +82,8 @@ pub enum ValueFault {
     Missing,
     /// The name of a slot means a list, named values or a fragment.
     NotAText,
+    /// The name of a slot for JSON means a fragment, or data with a fragment in it.
+    NotJson,
     /// The name of a slot for a fragment means something else.
     NotAFragment,
     /// The name of a slot between attributes means something else than named values that are attributes.

@@ -18,6 +18,7 @@ pub mod laws;
 mod names;
 mod node;
 mod placed;
+mod put_json;
 mod retrace;
 mod source;
 mod spelled;

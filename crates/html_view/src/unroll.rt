@@ -1,5 +1,5 @@
 //! What data makes of nodes, put into a sink.
-ghost use Rattle.std.specs.Prelude.{◌≡◌, [], ◌∷◌, IfErr, IfOk, Ok, Err, option_map};
+ghost use Rattle.std.specs.Prelude.{◌≡◌, [], ◌∷◌, IfErr, IfOk, Ok, Err, option_map, true};
 ghost use Rattle.std.specs.Str.{IsUtf8};
 ghost use Rattle.html_template.specs.Fragments.{markup_of};
 ghost use Rattle.html_view.specs.CutNames.{words_in};
@@ -7,7 +7,7 @@ ghost use Rattle.html_view.specs.Data as data_of;
 ghost use Rattle.html_view.specs.Data.{filled_stacks, given_stacks, inside, is_nothing, item_stacks, list_stacks, stacks};
 ghost use Rattle.html_view.specs.Nodes as node;
 ghost use Rattle.html_view.specs.Putting.{Puts, PutsFront, StandsSo};
-ghost use Rattle.html_view.specs.Rendered.{fragment_for, text_for, unrolled, unrolled_each};
+ghost use Rattle.html_view.specs.Rendered.{fragment_for, is_json, plain_text_for, unrolled, unrolled_each};
 ghost use Rattle.html_view.specs.Kept.{named_of, nodes_of, placed_node, slot_of};
 ghost use Rattle.html_view.specs.Values.{datum_of, items_in, stack_of};
 ghost use Rattle.html_view.specs.declared.data.Value as Value;
@@ -18,6 +18,7 @@ use crate::data::{Around, Items, Value, find, look_up};
 use crate::faults::{Position, ValueFault};
 use crate::node::Times;
 use crate::placed::{Named, Placed, PlacedNode};
+use crate::put_json::put_json;
 use crate::words::Words;
 use hesc_core::Sink;
 use html_template::{Fragment, StoredMarkup, put_markup, put_text};
@@ -49,22 +50,23 @@ pub(crate) enum Stop<F> {
     Failed(F),
 }
 
-// The text for a slot, of what its name means.
+// The text for a slot that is none for JSON, of what its name means.
 #[inline(always)]
-fn text_for<'p, 't: 'p, A: Allocator>(
+fn plain_text_for<'p, 't: 'p, A: Allocator>(
     slot: &Placed<'_, A>,
     value: Option<Value<'p, 't>>,
 ) -> Result<&'p str, ValueFault>
-    ensures ok { IfOk result (λ text. text_for (slot_of slot.now)
+    ensures ok { IfOk result (λ text. plain_text_for (slot_of slot.now)
         (option_map datum_of value.entry) ≡ Ok text.now) }
     ensures utf8 { IfOk result (λ text. IsUtf8 text.now) }
-    ensures err { IfErr result (λ fault. text_for (slot_of slot.now)
+    ensures err { IfErr result (λ fault. plain_text_for (slot_of slot.now)
         (option_map datum_of value.entry) ≡ Err (slot.now.asked.position, fault)) }
 {
     let text = match value {
         None => return Err(ValueFault::Missing),
         Some(Value::Null) => return Err(ValueFault::Missing),
         Some(Value::Text(text)) => text,
+        Some(Value::Number(text)) => text,
         Some(Value::Flag(true)) => "true",
         Some(Value::Flag(false)) => "false",
         Some(Value::Fragment(_)) => return Err(ValueFault::NotAText),
@@ -141,8 +143,10 @@ fn put_value<'s, 'p, 't: 'p, A: Allocator, S: Sink>(
     ensures same_reference { S.reference sink.new ≡ S.reference sink.old }
     ensures same_before { S.before sink.new ≡ S.before sink.old }
 {
-    let _around = around;
-    match text_for(slot, value) {
+    if slot.checked.is_json() {
+        return put_json_value(slot, value, around, sink, refusal);
+    }
+    match plain_text_for(slot, value) {
         Ok(text) => match put_text(&slot.checked.stored, text, sink) {
             Ok(()) => Ok(()),
             Err(fault) => Err(Stop::Failed(fault)),
@@ -155,6 +159,41 @@ fn put_value<'s, 'p, 't: 'p, A: Allocator, S: Sink>(
             Err(Stop::Refused)
         }
     }
+}
+
+// Puts the JSON for a slot of JSON, whose name means this value.
+#[inline(never)]
+fn put_json_value<'s, 'p, 't: 'p, A: Allocator, S: Sink>(
+    slot: &Placed<'_, A>,
+    value: Option<Value<'p, 't>>,
+    around: &Around<'s, 'p, 't>,
+    sink: &mut S,
+    refusal: &mut Refusal,
+) -> Result<(), Stop<S::Fault>>
+    requires json { is_json slot.now.checked.stored.kind ≡ true }
+    requires means { option_map datum_of value
+        ≡ data_of.look_up (words_in slot.now.asked.words) (stack_of around.now) }
+    ensures puts { PutsFront (λ rest. unrolled (node.Slot (slot_of slot.now) rest)
+        (stack_of around.now)) (stack_of around.now) (S.taken sink.old) (S.taken sink.new)
+        refusal.new result }
+    ensures same_reference { S.reference sink.new ≡ S.reference sink.old }
+    ensures same_before { S.before sink.new ≡ S.before sink.old }
+{
+    let _around = around;
+    let position = slot.asked.position;
+    let Some(value) = value else {
+        *refusal = Refusal {
+            position,
+            why: ValueFault::Missing,
+        };
+        return Err(Stop::Refused);
+    };
+    // Why, if there is no JSON of the value.
+    *refusal = Refusal {
+        position,
+        why: ValueFault::NotJson,
+    };
+    put_json(value, sink)
 }
 
 // The fragment for a slot, of what its name means.
@@ -173,6 +212,7 @@ fn fragment_for<'p, 't: 'p, A: Allocator>(
         Some(Value::Null) => Err(ValueFault::Missing),
         Some(Value::Fragment(fragment)) => Ok(fragment),
         Some(Value::Text(_)) => Err(ValueFault::NotAFragment),
+        Some(Value::Number(_)) => Err(ValueFault::NotAFragment),
         Some(Value::Flag(_)) => Err(ValueFault::NotAFragment),
         Some(Value::List(_)) => Err(ValueFault::NotAFragment),
         Some(Value::Record(_)) => Err(ValueFault::NotAFragment),
@@ -335,6 +375,8 @@ fn stand_of_filled<'s, 'p, 't>(
         Some(Value::Flag(true)) => Stand::Here,
         Some(Value::Text("")) => Stand::Never,
         Some(Value::Text(text)) => stand_once(times, Value::Text(text), around),
+        Some(Value::Number("")) => Stand::Never,
+        Some(Value::Number(text)) => stand_once(times, Value::Number(text), around),
         Some(Value::Fragment(fragment)) => stand_of_fragment(times, fragment, around),
         Some(Value::Record(fields)) => stand_once(times, Value::Record(fields), around),
         Some(Value::Object(members)) => stand_once(times, Value::Object(members), around),

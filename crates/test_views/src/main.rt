@@ -19,6 +19,8 @@
 #[cfg(test)]
 mod fragments;
 #[cfg(test)]
+mod json_blocks;
+#[cfg(test)]
 mod memory;
 mod names;
 mod nodes;

@@ -2,6 +2,7 @@
 pub mod AssetPages
 pub mod Bars
 pub mod Breadcrumbs
+pub mod DataBlocks
 pub mod FormPages
 pub mod HomePages
 pub mod ItemLinks

@@ -11,8 +11,8 @@ mod writers;
 pub use crate::pages::{card, cell, excerpt, field, label, rows, search};
 pub use crate::readers::{back, posted, table};
 pub use crate::templates::{
-    asset_page, bar, breadcrumbs, form_page, home_page, item_links, link_list, mail_rows,
-    page_script, price_list, search_page,
+    asset_page, bar, breadcrumbs, data_block, form_page, home_page, item_links, link_list,
+    mail_rows, page_script, price_list, search_page,
 };
 pub use crate::urls::search_link;
 pub use crate::views::{framed_page, json_page, nested_page, two_pages};

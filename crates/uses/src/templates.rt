@@ -3,6 +3,7 @@
 pub mod asset_page;
 pub mod bar;
 pub mod breadcrumbs;
+pub mod data_block;
 pub mod form_page;
 pub mod home_page;
 pub mod item_links;

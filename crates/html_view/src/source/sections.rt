@@ -174,6 +174,21 @@ pub(crate) fn add_markup<'a, A: Allocator>(
     add(nodes, Node::Markup(piece.markup, piece.position))
 }
 
+// So many nodes have room in a list that is begun: most have no more, and are made once.
+const ROOM: usize = 6;
+
+// Makes room in a list that is begun.
+#[inline(always)]
+fn begin<'a, A: Allocator>(nodes: &mut Nodes<'a, A>) -> Result<(), ViewFault>
+    ensures same { nodes.new.items ≡ nodes.old.items }
+    ensures fault { IfErr result (λ fault. fault ≡ Memory) }
+{
+    if nodes.is_empty() {
+        nodes.reserve(ROOM)?;
+    }
+    Ok(())
+}
+
 /// Adds a node.
 #[inline(always)]
 pub(crate) fn add<'a, A: Allocator>(
@@ -184,6 +199,7 @@ pub(crate) fn add<'a, A: Allocator>(
         ≡ asked_nodes nodes.old.items (asked_node node.entry after)) }
     ensures fault { IfErr result (λ fault. fault ≡ Memory) }
 {
+    begin(nodes)?;
     let Ok(()) = nodes.push(node) else {
         return Err(ViewFault::Memory);
     };

@@ -46,7 +46,7 @@ const INDEX: &[u8] = b"{{<layout}}\n\
 
 const FOOT: &[u8] = b"<footer>{{?year}}{{year}}{{/year}}{{^year}}-{{/year}}</footer>\n";
 
-pub static PAGES: [Success; 15] = [
+pub static PAGES: [Success; 16] = [
     (
         ONE,
         &[("v", LIST)],
@@ -93,6 +93,13 @@ pub static PAGES: [Success; 15] = [
         &[("v", b"{{#n}}{{.}} {{/n}}")],
         b"{\"n\": [1.50, -0, 1e400, 12345678901234567890123]}",
         b"1.50 -0 1e400 12345678901234567890123 ",
+    ),
+    // A data block has any data, as JSON.
+    (
+        ONE,
+        &[("v", b"<script type=\"application/json\">{{items}}</script>")],
+        b"{\"items\": [{\"id\": 1.50, \"name\": \"</script>\", \"new\": false, \"tags\": null}]}",
+        b"<script type=\"application/json\">[{\"id\":1.50,\"name\":\"\\u003C/script>\",\"new\":false,\"tags\":null}]</script>",
     ),
     // Flags are texts, and conditions.
     (
@@ -174,7 +181,7 @@ pub static CHECKS: [Success; 8] = [
         &[(
             "v",
             b"<p a={{a}} b='{{b}}' c=\"{{c}}\">\
-            <a href='/{{d}}?{{e}}#{{f}}' title=t></a><a href='{{g}}'></a><link href='{{m}}'>\
+            <a href='/{{d}}?{{e}}#{{f}}' title=t></a><a href='{{g}}'></a><link href='{{m}}'><a href='mailto:{{t}}'></a>\
             <a href='{{n}}/'></a><script src='{{o}}/p'></script>\
             <style>p { content: '{{h}}' \"{{i}}\" }</style><script>x('{{j}}', \"{{k.l}}\", {{q}})</script>{{{r}}}\
             <script type='application/json'>{{s}}</script><p style='top: {{t}}px; left: {{u}}'>",
@@ -188,6 +195,7 @@ pub static CHECKS: [Success; 8] = [
         f single-quoted fragment\n\
         g single-quoted link\n\
         m single-quoted own-path\n\
+        t single-quoted opaque-path\n\
         n single-quoted base\n\
         o single-quoted own-base\n\
         h style-single\n\
