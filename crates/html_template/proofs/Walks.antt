@@ -5,7 +5,7 @@ use Rattle.html_template.specs.declared.faults.PartFault.{PartFault}
 use Rattle.html_template.specs.declared.open_url.OpenUrl.{OpenUrl}
 use Rattle.html_template.specs.declared.open_url.OpenUrl.TheVariants.{Outside, Within, Whole, Front, Declaration}
 use Rattle.html_template.specs.declared.open_url.PlacedSlot.{PlacedSlot}
-use Rattle.html_template.specs.OpenUrls.{before, begun, behind_front, behind_text, first_slot, in_part, plain_text, url_slot, whole_slot}
+use Rattle.html_template.specs.OpenUrls.{before, begun, behind_front, behind_text, first_slot, in_part, open_at, plain_text, url_slot, whole_slot}
 use Rattle.html_template.specs.Slots.{after_slot, base_kind, past_slot, suits}
 use Rattle.html_template.specs.TemplateFaults.{Walk, next_markup, pieces_from, put_slot, slot_at}
 use Rattle.html_template.specs.declared.parts.SlotKind.{SlotKind}
@@ -43,9 +43,9 @@ open_suits : (is_followed : Bool) (p : SlotPlace) (part : Option OpenPart) (slot
 open_suits is_followed p part slot told = grind (arith, nat_tests)
 
 text_suits : (is_followed : Bool) (p : SlotPlace) (text : Option (List ℕ)) (slot : PlacedSlot) →
-    behind_text p text ≡ Ok slot → IsInUrl is_followed p slot
+    behind_text p is_followed text ≡ Ok slot → IsInUrl is_followed p slot
 text_suits is_followed p None slot told = absurd (cc)
-text_suits is_followed p (Some text) slot told = open_suits is_followed p (parts.open_of text) slot told
+text_suits is_followed p (Some text) slot told = open_suits is_followed p (open_at is_followed text) slot told
 
 whole_suits : (is_followed : Bool) (p : SlotPlace) (slot : PlacedSlot) →
     whole_slot p is_followed ≡ Ok slot → IsInUrl is_followed p slot
@@ -59,7 +59,7 @@ front_suits is_followed p (Some (b ∷ markup)) slot told = text_suits is_follow
 
 -- where the markup is not empty
 pub some_front : (p : SlotPlace) (is_followed : Bool) (markup : List ℕ) → 1 ≤ length markup →
-    first_slot p is_followed (Some markup) ≡ behind_text p (plain_text false markup)
+    first_slot p is_followed (Some markup) ≡ behind_text p is_followed (plain_text false markup)
 some_front p is_followed markup some = grind (arith, nat_tests)
 
 base_suits : (is_followed : Bool) (p : SlotPlace) (behind : BehindBase) (slot : PlacedSlot) →

@@ -11,6 +11,7 @@ use Rattle.html_tokenizer.specs.declared.slot_place.SlotPlace.{SlotPlace}
 use Rattle.html_tokenizer.specs.Declarations.{bang, is_style_byte}
 use Rattle.html_tokenizer.specs.UrlValues.{after_last, begins_value, ends_value, url_text}
 use Rattle.html_urls.specs.Bases.{behind_base, goes_as, open_behind}
+use Rattle.html_urls.specs.Images.{is_image_front}
 use Rattle.html_urls.specs.OpenParts.{after_markup, after_text, is_unfixed, may_be_dots, open_of, slot_at}
 use Rattle.html_urls.specs.Slots.{is_plain}
 use Rattle.html_urls.specs.declared.base.BehindBase.{BehindBase}
@@ -56,16 +57,20 @@ begun slot other following = slot
 abbrev pub before : List ℕ → PlacedSlot → PlacedSlot
 before next slot = begun slot slot.url (behind_base next)
 
--- behind this text, which the markup before adds to the URL
-abbrev pub behind_text : SlotPlace → Option (List ℕ) → Result PlacedSlot PartFault
-behind_text p None = Err NotPlain
-behind_text p (Some text) = in_part p (open_of text)
+-- what is open behind this text: the image of a `data:` URL only where its element only shows or follows the URL
+abbrev pub open_at : Bool → List ℕ → Option OpenPart
+open_at is_followed text = if is_followed || not (is_image_front text) then open_of text else None
+
+-- behind the text that the markup before adds to the URL
+abbrev pub behind_text : SlotPlace → Bool → Option (List ℕ) → Result PlacedSlot PartFault
+behind_text p is_followed None = Err NotPlain
+behind_text p is_followed (Some text) = in_part p (open_at is_followed text)
 
 -- the first slot of a URL, behind this markup
 abbrev pub first_slot : SlotPlace → Bool → Option (List ℕ) → Result PlacedSlot PartFault
 first_slot p is_followed None = Err NotFixed
 first_slot p is_followed (Some []) = whole_slot p is_followed
-first_slot p is_followed (Some (b ∷ markup)) = behind_text p (plain_text false (b ∷ markup))
+first_slot p is_followed (Some (b ∷ markup)) = behind_text p is_followed (plain_text false (b ∷ markup))
 
 -- a slot behind a base that ends in `/`, as one does with the `/` behind it, and behind one directly
 abbrev pub behind_front : SlotPlace → BehindBase → Result PlacedSlot PartFault

@@ -15,9 +15,10 @@ pub enum PartFault {
     /// reference other than `&amp;`; or it ends in a `%`, or in one and a hexadecimal digit, before a slot.
     NotPlain,
     /// A slot where the scheme or the host of a URL is still open, or in a URL with another scheme than
-    /// `http`, `https`, `mailto` and `tel`; or the part before it is not the URL's beginning. Or markup with a
-    /// `:` in the first segment of a relative path, behind a slot of this segment, or with a `/` in the path of a
-    /// `mailto:` or a `tel:`, behind a slot of this path.
+    /// `http`, `https`, `mailto` and `tel`, but for the image of a `data:` URL on an element that only shows it;
+    /// or the part before it is not the URL's beginning. Or markup with a `:` in the first segment of a relative
+    /// path, behind a slot of this segment, or with a `/` in the path of a `mailto:`, a `tel:` or an image,
+    /// behind a slot of this path.
     NotFixed,
     /// A segment of a URL's path ends in the part, or a slot stands in one, that with some text may read
     /// as `.` or `..`: it has no other bytes than those of dots.

@@ -13,6 +13,7 @@ ghost use Rattle.html_template.specs.OpenUrls.{
   first_slot,
   in_part,
   is_slash,
+  open_at,
   url_end,
   url_markup,
   url_slot,
@@ -26,8 +27,8 @@ use crate::open_url::markup::{after_last, ends_value, plain_text, value_length};
 use crate::parts::SlotKind;
 use html_tokenizer::{SlotPlace, is_style_byte};
 use html_urls::{
-    BehindBase, OpenPart, after_markup, after_text, behind_base, goes_as, is_unfixed, may_be_dots,
-    open_behind, open_of, slot_at,
+    BehindBase, OpenPart, after_markup, after_text, behind_base, goes_as, is_image_front,
+    is_unfixed, may_be_dots, open_behind, open_of, slot_at,
 };
 use std::alloc::{AllocError, Allocator};
 
@@ -132,6 +133,17 @@ pub fn before(next: &[u8], slot: PlacedSlot) -> PlacedSlot
     }
 }
 
+// What is open behind this text: the image of a `data:` URL only where its element only shows or follows
+// the URL.
+fn open_at(is_followed: bool, text: &[u8]) -> Option<OpenPart>
+    ensures { result ≡ open_at is_followed text.now }
+{
+    if !is_followed && is_image_front(text) {
+        return None;
+    }
+    open_of(text)
+}
+
 // The first slot of a URL, behind this markup.
 #[tactic(auto, using(crate::proofs::Walks::some_front))]
 fn first_slot<A: Allocator>(
@@ -148,7 +160,7 @@ fn first_slot<A: Allocator>(
         Some([]) => Ok(whole_slot(place, is_followed)),
         Some(markup) => match plain_text(alloc, markup, false)? {
             None => Ok(Err(PartFault::NotPlain)),
-            Some(text) => Ok(in_part(place, open_of(text.as_bytes()))),
+            Some(text) => Ok(in_part(place, open_at(is_followed, text.as_bytes()))),
         },
     }
 }

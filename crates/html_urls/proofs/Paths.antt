@@ -1,4 +1,5 @@
 pub mod FirstSegment
+pub mod Images
 pub mod OpaquePaths
 pub mod Opening
 pub mod PathLaw

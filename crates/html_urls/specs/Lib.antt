@@ -3,6 +3,7 @@ pub mod Components
 pub mod Decoded
 pub mod Heads
 pub mod Hosts
+pub mod Images
 pub mod Inputs
 pub mod Links
 pub mod OpenParts

@@ -8,6 +8,7 @@ use Rattle.html_urls.specs.declared.open_part.OpenPart.TheVariants.{NewSegment, 
 use Rattle.html_urls.specs.declared.parts.UrlSlot.{UrlSlot}
 use Rattle.html_urls.specs.declared.place.UrlPlace.TheVariants as place
 use Rattle.html_urls.specs.Hosts.{has_first_segment, is_first_segment, is_web_scheme}
+use Rattle.html_urls.specs.Images.{is_image_front}
 use Rattle.html_urls.specs.Links.{has_scheme, is_link, mark_at}
 use Rattle.html_urls.specs.Parts.Segments.{is_dot_byte}
 
@@ -183,10 +184,14 @@ is_address_scheme scheme = bytes_eq (lowercase scheme) (codes "mailto") || bytes
 abbrev pub has_address_scheme : List ℕ → Bool
 has_address_scheme front = has_scheme front && is_address_scheme (take (mark_at front) front)
 
--- and no `/` behind it, `?` or `#`
+-- one of these, or `data:` and the type of an image
+abbrev pub has_opaque_front : List ℕ → Bool
+has_opaque_front front = has_address_scheme front || is_image_front front
+
+-- and no `/` behind the scheme, `?` or `#`
 abbrev pub ends_in_opaque_path : List ℕ → Bool
 ends_in_opaque_path front =
-    has_address_scheme front && not (begins (drop (mark_at front + 1) front) (codes "/")) && not (has_byte question_mark front) && not (has_byte number_sign front)
+    has_opaque_front front && not (begins (drop (mark_at front + 1) front) (codes "/")) && not (has_byte question_mark front) && not (has_byte number_sign front)
 
 -- the same, if a text may stand there: not behind a scheme whose URL a browser decodes, and runs or shows
 abbrev pub open_of : List ℕ → Option OpenPart

@@ -26,8 +26,8 @@ pub const COMPONENT: AsciiSet = ascii_set!(
         .remove(b'~')
 );
 
-/// The same without `@` and `+`, which stand in the addresses of `mailto:` URLs and the numbers of `tel:`
-/// URLs as they are.
+/// The same without `@` and `+`, which stand in the addresses of `mailto:` URLs, the numbers of `tel:` URLs and
+/// the base64 of images as they are.
 pub const ADDRESS: AsciiSet = ascii_set!(COMPONENT.remove(b'@').remove(b'+'));
 
 /// The component of a text, as parts that are put: for a page that is made of several of them.

@@ -17,6 +17,7 @@ ghost use Rattle.html_urls.specs.Components.{component, component_at};
 ghost use Rattle.html_urls.specs.Decoded.{AreBytes, decoded_segments, has_pairs, query_pairs};
 ghost use Rattle.html_urls.specs.Heads.{head_of, on_ok};
 ghost use Rattle.html_urls.specs.Hosts.{IsWebBase};
+ghost use Rattle.html_urls.specs.Images.{IsImage, is_image_front};
 ghost use Rattle.html_urls.specs.Links.{HasLinkOrPageScheme, HasLinkScheme, is_link};
 ghost use Rattle.html_urls.specs.OwnPaths.{is_own_path};
 ghost use Rattle.html_urls.specs.Pieces.{filled_pieces, open_path, pieces};
@@ -54,7 +55,8 @@ pub fn url_law(place: UrlPlace, front: &[u8], text: &str, rest: &[u8])
 /// The URL of texts that fill the slots of a URL is one shape with the texts in its slots, the same
 /// shape for all such texts, or it is refused with all of them. The shape is what the parser makes of
 /// the parts: markup as it writes it, and the slots. Where there is a slot, the scheme is `http`,
-/// `https`, `mailto` or that of the page, and behind markup that is no link it is `tel`.
+/// `https`, `mailto` or that of the page; behind the front of an image it is `data`, and the type and the
+/// encoding are those of the front, whatever the texts; behind other markup that is no link it is `tel`.
 ///
 /// For instance `/items/`, a slot, `?q=` and a slot have, on a page of `https://h/`, the path `/items/`
 /// and a slot, and the query `q=` and a slot.
@@ -71,9 +73,14 @@ pub fn url_shape_law(parts: &[UrlPart<'_>])
         (HasLinkOrPageScheme base) }
     ensures number { (base : Option Parts) (text : List ℕ) (texts : List (List ℕ)) → IsWebBase base
         → is_link (front_of (given parts.now)) ≡ false
+        → is_image_front (front_of (given parts.now)) ≡ false
         → FillUrl (given parts.now) (text ∷ texts)
         → IfOk (parse_url base (url_of (given parts.now) (text ∷ texts)))
         (λ url. url.scheme ≡ codes "tel") }
+    ensures image { (base : Option Parts) (text : List ℕ) (texts : List (List ℕ)) → IsWebBase base
+        → is_image_front (front_of (given parts.now)) ≡ true
+        → FillUrl (given parts.now) (text ∷ texts)
+        → IfOk (parse_url base (url_of (given parts.now) (text ∷ texts))) IsImage }
 {}
 
 /// The segments of the path of a URL whose first slot stands in the path: some that are the same for all

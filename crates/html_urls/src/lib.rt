@@ -12,6 +12,7 @@ pub mod append;
 pub mod base;
 pub mod component;
 pub mod forms;
+pub mod image;
 pub mod laws;
 pub mod length;
 pub mod link;
@@ -30,6 +31,7 @@ pub use crate::forms::{
     append_component, append_component_to_vec, encode_component, encode_component_to_string,
     encode_component_to_vec, encode_component_to_writer,
 };
+pub use crate::image::is_image_front;
 pub use crate::length::{component_length, component_length_at};
 pub use crate::link::is_link;
 pub use crate::open_part::{

@@ -6,6 +6,7 @@ ghost use Rattle.html_urls.specs.Hosts as hosts;
 ghost use Rattle.html_urls.specs.OpenParts as spec;
 ghost use Rattle.html_urls.specs.Parts.Segments as segments;
 
+use crate::image::is_image_front;
 use crate::link::{has_scheme, is_link_bytes, is_mark, mark_at};
 use crate::parts::UrlSlot;
 use crate::place::UrlPlace;
@@ -23,7 +24,7 @@ pub enum OpenPart {
     NamedSegment,
     /// The first segment of a relative path, which its markup keeps from that. A `:` in it ends a scheme.
     FirstSegment,
-    /// The opaque path of a `mailto:` or a `tel:` URL.
+    /// The opaque path of a `mailto:` or a `tel:` URL, and that of an image.
     OpaquePath,
     /// The query.
     Query,
@@ -330,23 +331,32 @@ fn has_address_scheme(front: &[u8]) -> bool
     has_scheme(front) && is_address_scheme(&front[..mark_at(front)])
 }
 
-// And no `/` behind it, `?` or `#`.
+// Such a scheme, or `data:` and the type of an image.
+fn has_opaque_front(front: &[u8]) -> bool
+    ensures { result ≡ spec.has_opaque_front front.now }
+{
+    has_address_scheme(front) || is_image_front(front)
+}
+
+// And no `/` behind the scheme, `?` or `#`.
+#[tactic(auto, using(crate::proofs::Places::OpaqueFronts::scheme_ends))]
 fn ends_in_opaque_path(front: &[u8]) -> bool
     ensures { result ≡ spec.ends_in_opaque_path front.now }
 {
-    has_address_scheme(front)
+    has_opaque_front(front)
         && !front[mark_at(front) + 1..].starts_with(b"/")
         && !has_byte(b'?', front)
         && !has_byte(b'#', front)
 }
 
 /// What is open at the end of the markup before the first slot, if a text may stand there. Behind a scheme
-/// that is none of `http`, `https`, `mailto` and `tel` none may: of a `javascript:` or a `data:` URL a browser
-/// decodes all that follows, and runs or shows it.
+/// that is none of `http`, `https`, `mailto` and `tel` none may, but in the bytes of an image, behind a front
+/// that [`is_image_front`]: of a `javascript:` or another `data:` URL a browser decodes all that follows, and
+/// runs or shows it.
 ///
 /// Of `/items/`, `items/` and `//a.example/` it is `NewSegment`, of `item-` it is `FirstSegment`, of
-/// `mailto:` and `tel:+49` it is `OpaquePath`, of `mailto:a@b.example?subject=` it is `Query`, and of `//`,
-/// `item:`, `mailto:/` and `javascript:x?` it is `None`.
+/// `mailto:`, `tel:+49` and `data:image/png;base64,` it is `OpaquePath`, of `mailto:a@b.example?subject=` it is
+/// `Query`, and of `//`, `item:`, `mailto:/`, `data:` and `javascript:x?` it is `None`.
 pub fn open_of(front: &[u8]) -> Option<OpenPart>
     ensures { result ≡ spec.open_of front.now }
 {

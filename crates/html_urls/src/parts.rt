@@ -28,7 +28,8 @@ pub enum UrlFault {
     /// ends in `%`, or in `%` and one hexadecimal digit, which with the text of a slot would be an escape.
     NotPlain(usize),
     /// This part is a slot in a scheme, a user, a host or a port, or where these are still open, or
-    /// behind a scheme that is none of `http`, `https`, `mailto` and `tel`, as in `javascript:x?` and a slot.
+    /// behind a scheme that is none of `http`, `https`, `mailto` and `tel`, as in `javascript:x?` and a slot,
+    /// and not in the image of a `data:` URL, as behind `data:image/png;base64,`.
     /// Or it is markup behind a slot in the first segment of a relative path, and a `:` stands in this
     /// segment, as in `item-`, a slot and `:x`: with some texts that is a scheme. Or it is markup behind a
     /// slot in an opaque path, and a `/` stands in this path, as in `mailto:`, a slot and `/x`: with an empty

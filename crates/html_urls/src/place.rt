@@ -5,8 +5,8 @@
 pub enum UrlPlace {
     /// The path: the text is in one of its segments.
     Path,
-    /// The path of a `mailto:` or a `tel:` URL, which is opaque: the text is an address or a number, or a
-    /// part of one.
+    /// The path of a `mailto:` or a `tel:` URL, or of an image in a `data:` URL, which is opaque: the text is
+    /// an address, a number or the image in base64, or a part of one.
     OpaquePath,
     /// The query: the text is the value of a pair, or a part of one.
     Query,

@@ -4,7 +4,7 @@ use Rattle.std.proofs.lemmas.Bool.Decides.{nat_tests}
 use Rattle.html_template.specs.declared.open_url.OpenUrl.TheVariants.{Within, Whole}
 use Rattle.html_template.specs.declared.open_url.PlacedSlot.{PlacedSlot}
 use Rattle.html_template.specs.declared.parts.SlotKind.TheVariants as kind
-use Rattle.html_template.specs.OpenUrls.{at_open, behind_text, first_slot, in_part, plain_text, whole_slot}
+use Rattle.html_template.specs.OpenUrls.{at_open, behind_text, first_slot, in_part, open_at, plain_text, whole_slot}
 use Rattle.html_template.specs.Slots.{whole_kind}
 use Rattle.html_tokenizer.specs.declared.slot_place.SlotPlace.{SlotPlace}
 use Rattle.html_tokenizer.specs.UrlValues.{after_last, begins_value}
@@ -46,11 +46,14 @@ opened_told p raw text slot None adds is told = absurd (cc)
 opened_told p raw text slot (Some part) adds is told =
     record { text = text; adds = adds; part = part; opened = is; placed = part_told p part slot told }
 
-front_told : (p : SlotPlace) (raw : List ℕ) (slot : PlacedSlot) (read : Option (List ℕ)) → plain_text false raw ≡ read →
-    behind_text p read ≡ Ok slot → BehindFront p raw slot
-front_told p raw slot None is told = absurd (cc)
-front_told p raw slot (Some text) is told =
-    opened_told p raw text slot (open_of text) (adds_text false raw text is) refl told
+text_told : (is_followed : Bool) (p : SlotPlace) (text : List ℕ) (slot : PlacedSlot) → in_part p (open_at is_followed text) ≡ Ok slot → in_part p (open_of text) ≡ Ok slot
+text_told is_followed p text slot told = grind (arith, nat_tests)
+
+front_told : (is_followed : Bool) (p : SlotPlace) (raw : List ℕ) (slot : PlacedSlot) (read : Option (List ℕ)) → plain_text false raw ≡ read →
+    behind_text p is_followed read ≡ Ok slot → BehindFront p raw slot
+front_told is_followed p raw slot None is told = absurd (cc)
+front_told is_followed p raw slot (Some text) is told =
+    opened_told p raw text slot (open_of text) (adds_text false raw text is) refl (text_told is_followed p text slot told)
 
 whole_told : (is_followed : Bool) (p : SlotPlace) (slot : PlacedSlot) → whole_slot p is_followed ≡ Ok slot → quoted_slot p is_followed ≡ slot
 whole_told is_followed p slot told = grind (arith, nat_tests)
@@ -65,7 +68,7 @@ last_told : (p : SlotPlace) (is_followed : Bool) (markup : List ℕ) (slot : Pla
 last_told p is_followed markup slot None is told = absurd (cc)
 last_told p is_followed markup slot (Some []) is told = whole is_followed is (whole_told is_followed p slot told)
 last_told p is_followed markup slot (Some (b ∷ raw)) is told =
-    past_markup (b ∷ raw) is (front_told p (b ∷ raw) slot (plain_text false (b ∷ raw)) refl told)
+    past_markup (b ∷ raw) is (front_told is_followed p (b ∷ raw) slot (plain_text false (b ∷ raw)) refl told)
 
 pub first_told : (p : SlotPlace) (is_followed : Bool) (markup : List ℕ) (slot : PlacedSlot) →
     first_slot p is_followed (after_last (begins_value p) markup) ≡ Ok slot → IsFirst p markup slot

@@ -10,7 +10,7 @@ use Rattle.html_urls.proofs.Places.FixedHosts.{at_mark}
 use Rattle.html_urls.specs.Bases.{begins_host, has_origin}
 use Rattle.html_urls.specs.Hosts.{is_web_scheme}
 use Rattle.html_urls.specs.Links.{is_link, is_link_scheme, is_mark, mark_at}
-use Rattle.html_urls.specs.OpenParts.{begins, ends_in_opaque_path, has_byte, has_host, has_web_host, is_address_scheme}
+use Rattle.html_urls.specs.OpenParts.{begins, ends_in_opaque_path, has_byte, has_host, has_opaque_front, has_web_host}
 
 abbrev IsNoMark : ℕ → Type 0
 IsNoMark b = Passes (λ c. not (is_mark c)) b
@@ -86,7 +86,7 @@ web_is_no_opaque scheme rest none = by_slash (behind_mark (scheme_ends scheme (4
     behind_mark is = ap (λ n. begins (drop (n + 1) front) (codes "/")) is ∙ ap (λ l. begins l (codes "/")) (behind_scheme scheme (47 ∷ rest))
 
     by_slash : begins (drop (mark_at front + 1) front) (codes "/") ≡ true → ends_in_opaque_path front ≡ false
-    by_slash slash = rw slash (no_path (get_or front (mark_at front) 0 == 58 && is_address_scheme (take (mark_at front) front)) (not (has_byte 63 front)) (not (has_byte 35 front)))
+    by_slash slash = rw slash (no_path (has_opaque_front front) (not (has_byte 63 front)) (not (has_byte 35 front)))
 
 pub web_host : (scheme body : List ℕ) → All IsNoMark scheme → is_web_scheme scheme ≡ true → has_host body ≡ true → has_web_host (scheme ++ 58 ∷ body) ≡ true
 web_host scheme body none web host = grind (arith, nat_tests, scheme_ends, get_or_at, take_at, behind_scheme)

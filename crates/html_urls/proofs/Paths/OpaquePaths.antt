@@ -24,7 +24,7 @@ use Rattle.html_urls.specs.declared.place.UrlPlace.TheVariants as place
 use Rattle.html_urls.specs.Components.{address, is_written_byte}
 use Rattle.html_urls.specs.Heads.{on_ok}
 use Rattle.html_urls.specs.Inputs.{IsNot, IsVisible, kept, kept_rest}
-use Rattle.html_urls.specs.Parts.OpaquePaths.{BeginsOpaque, EndsInOpaquePath, FitsOpaquePath, IsAddressScheme, is_opaque_byte, opaque, opaque_path_goes_on}
+use Rattle.html_urls.specs.Parts.OpaquePaths.{BeginsOpaque, EndsInOpaquePath, FitsOpaquePath, IsOpaqueScheme, is_opaque_byte, opaque, opaque_path_goes_on}
 use Rattle.html_urls.specs.Parts.Rests.{fragment_of, path_of, query_of}
 use Rattle.html_urls.proofs.Components.{encode_around, written_visible, written_without}
 use Rattle.html_urls.proofs.Splits.{kept_around_at, split_clear}
@@ -33,16 +33,17 @@ use Rattle.html_urls.proofs.Paths.WebSchemes.{IsLetter, split_letters, upper_let
 
 -- ---- the scheme
 
-address_letters : (scheme : List ℕ) → IsAddressScheme scheme → All IsLetter scheme
-address_letters scheme (inl mail) = upper_letters scheme (subst (All IsLetter) (sym mail) (All_from_list_all is_ascii_alphabetic (codes "mailto") refl))
-address_letters scheme (inr number) = upper_letters scheme (subst (All IsLetter) (sym number) (All_from_list_all is_ascii_alphabetic (codes "tel") refl))
+opaque_letters : (scheme : List ℕ) → IsOpaqueScheme scheme → All IsLetter scheme
+opaque_letters scheme (inl mail) = upper_letters scheme (subst (All IsLetter) (sym mail) (All_from_list_all is_ascii_alphabetic (codes "mailto") refl))
+opaque_letters scheme (inr (inl number)) = upper_letters scheme (subst (All IsLetter) (sym number) (All_from_list_all is_ascii_alphabetic (codes "tel") refl))
+opaque_letters scheme (inr (inr image)) = upper_letters scheme (subst (All IsLetter) (sym image) (All_from_list_all is_ascii_alphabetic (codes "data") refl))
 
-address_some : (scheme : List ℕ) → IsAddressScheme scheme → 0 < length scheme
-address_some scheme known = grind (arith, nat_tests, length-map)
+opaque_some : (scheme : List ℕ) → IsOpaqueScheme scheme → 0 < length scheme
+opaque_some scheme known = grind (arith, nat_tests, length-map)
 
-pub address_type : (scheme : List ℕ) → IsAddressScheme scheme → scheme_type (lowercase scheme) ≡ NotSpecial
+pub opaque_type : (scheme : List ℕ) → IsOpaqueScheme scheme → scheme_type (lowercase scheme) ≡ NotSpecial
 unfolding scheme_type default_port
-address_type scheme known = grind (arith, nat_tests)
+opaque_type scheme known = grind (arith, nat_tests)
 
 no_base : (base : Option Parts) (scheme : List ℕ) → scheme_type scheme ≡ NotSpecial → base_for_scheme base scheme ≡ None
 no_base None scheme kind = refl
@@ -103,9 +104,9 @@ letter_is_not : (mark b : ℕ) → is_ascii_alphabetic mark ≡ false → IsLett
 letter_is_not mark b other letter same = let clash = rw (same, other) at letter in cc
 
 -- neither the scheme nor its `:` is this byte
-scheme_without : (mark : ℕ) → is_ascii_alphabetic mark ≡ false → mark ≢ 58 → (scheme : List ℕ) → IsAddressScheme scheme → All (IsNot mark) (scheme ++ 58 ∷ [])
+scheme_without : (mark : ℕ) → is_ascii_alphabetic mark ≡ false → mark ≢ 58 → (scheme : List ℕ) → IsOpaqueScheme scheme → All (IsNot mark) (scheme ++ 58 ∷ [])
 scheme_without mark other colon scheme known =
-    All-append (IsNot mark) scheme (58 ∷ []) (All-weaker IsLetter (IsNot mark) (λ b letter. letter_is_not mark b other letter) scheme (address_letters scheme known))
+    All-append (IsNot mark) scheme (58 ∷ []) (All-weaker IsLetter (IsNot mark) (λ b letter. letter_is_not mark b other letter) scheme (opaque_letters scheme known))
     (All-cons (IsNot mark) 58 [] (λ same. colon (sym same)) (All-nil (IsNot mark)))
 
 path_without : (mark : ℕ) → is_opaque_byte mark ≡ false → (path : List ℕ) → All (λ b. is_opaque_byte b ≡ true) path → All (IsNot mark) path
@@ -115,12 +116,12 @@ opaque_visible : (path : List ℕ) → All (λ b. is_opaque_byte b ≡ true) pat
 opaque_visible path bytes = All-weaker (λ b. is_opaque_byte b ≡ true) IsVisible (λ b passes. grind (arith, nat_tests)) path bytes
 
 -- what follows the scheme and its `:` is parsed with no base
-abbrev address_url : List ℕ → List ℕ × Option (List ℕ) → Option (List ℕ) → Parsed Parts
-address_url scheme r fragment = parse_parts (lowercase scheme) None r.0 r.1 fragment
+abbrev behind_scheme : List ℕ → List ℕ × Option (List ℕ) → Option (List ℕ) → Parsed Parts
+behind_scheme scheme r fragment = parse_parts (lowercase scheme) None r.0 r.1 fragment
 
-address_parsed : (base : Option Parts) (front scheme rest : List ℕ) → kept front ≡ scheme ++ 58 ∷ rest → IsAddressScheme scheme → parse_url base front ≡ address_url scheme (split_once 63 (split_once 35 rest).0) (split_once 35 rest).1
+opaque_parsed : (base : Option Parts) (front scheme rest : List ℕ) → kept front ≡ scheme ++ 58 ∷ rest → IsOpaqueScheme scheme → parse_url base front ≡ behind_scheme scheme (split_once 63 (split_once 35 rest).0) (split_once 35 rest).1
 unfolding parse_url
-address_parsed base front scheme rest same known =
+opaque_parsed base front scheme rest same known =
     let before = scheme ++ 58 ∷ [] in
     let hash = split_once 35 rest in
     let question = split_once 63 hash.0 in
@@ -129,12 +130,12 @@ address_parsed base front scheme rest same known =
     ∙ ap (λ (r : List ℕ × Option (List ℕ)). read (split_once 63 r.0) r.1) (split_clear 35 before rest (scheme_without 35 refl (λ e. absurd (omega arith)) scheme known))
     ∙ ap (λ r. read r hash.1) (split_clear 63 before hash.0 (scheme_without 63 refl (λ e. absurd (omega arith)) scheme known))
     ∙ ap (λ l. parse_by_scheme (split_scheme l) base l question.1 hash.1) (append_assoc scheme (58 ∷ []) question.0)
-    ∙ ap (λ split. parse_by_scheme split base (scheme ++ 58 ∷ question.0) question.1 hash.1) (split_letters scheme question.0 (address_some scheme known) (address_letters scheme known))
-    ∙ ap (λ page. parse_parts (lowercase scheme) page question.0 question.1 hash.1) (no_base base (lowercase scheme) (address_type scheme known))
+    ∙ ap (λ split. parse_by_scheme split base (scheme ++ 58 ∷ question.0) question.1 hash.1) (split_letters scheme question.0 (opaque_some scheme known) (opaque_letters scheme known))
+    ∙ ap (λ page. parse_parts (lowercase scheme) page question.0 question.1 hash.1) (no_base base (lowercase scheme) (opaque_type scheme known))
 
 -- the URL has that scheme, whatever follows
-pub address_read : (base : Option Parts) (front scheme rest : List ℕ) → kept front ≡ scheme ++ 58 ∷ rest → IsAddressScheme scheme → HasScheme (lowercase scheme) (parse_url base front)
-address_read base front scheme rest same known = subst (HasScheme (lowercase scheme)) (sym (address_parsed base front scheme rest same known)) (parts_scheme (lowercase scheme) None _ _ _ tt)
+pub opaque_read : (base : Option Parts) (front scheme rest : List ℕ) → kept front ≡ scheme ++ 58 ∷ rest → IsOpaqueScheme scheme → HasScheme (lowercase scheme) (parse_url base front)
+opaque_read base front scheme rest same known = subst (HasScheme (lowercase scheme)) (sym (opaque_parsed base front scheme rest same known)) (parts_scheme (lowercase scheme) None _ _ _ tt)
 
 -- ---- the law
 
@@ -146,13 +147,13 @@ first_of [] (t ∷ text) body first none =
     rw (get_or_append_left (address (t ∷ text)) body 0 0 long) (written_without 47 refl place.OpaquePath (t ∷ text) 0 0 long)
 
 -- the URL of the front alone
-alone_at : (base : Option Parts) (front scheme path : List ℕ) → kept front ≡ scheme ++ 58 ∷ path → IsAddressScheme scheme → All (λ b. is_opaque_byte b ≡ true) path → get_or path 0 0 ≢ 47 →
+pub alone_at : (base : Option Parts) (front scheme path : List ℕ) → kept front ≡ scheme ++ 58 ∷ path → IsOpaqueScheme scheme → All (λ b. is_opaque_byte b ≡ true) path → get_or path 0 0 ≢ 47 →
     parse_url base front ≡ Ok (with_tail (opaque_url scheme path) None None)
 alone_at base front scheme path same known bytes first =
-    address_parsed base front scheme path same known
-    ∙ ap (λ r. address_url scheme (split_once 63 r.0) r.1) (split_once_none 35 path (path_without 35 refl path bytes))
-    ∙ ap (λ r. address_url scheme r None) (split_once_none 63 path (path_without 63 refl path bytes))
-    ∙ read_parts (lowercase scheme) path None None (address_type scheme known) first (opaque_visible path bytes)
+    opaque_parsed base front scheme path same known
+    ∙ ap (λ r. behind_scheme scheme (split_once 63 r.0) r.1) (split_once_none 35 path (path_without 35 refl path bytes))
+    ∙ ap (λ r. behind_scheme scheme r None) (split_once_none 63 path (path_without 63 refl path bytes))
+    ∙ read_parts (lowercase scheme) path None None (opaque_type scheme known) first (opaque_visible path bytes)
 
 -- and that of the front, the text and the rest
 split_behind : (mark : ℕ) → is_opaque_byte mark ≡ false → is_written_byte mark ≡ false → (path text later : List ℕ) → All (λ b. is_opaque_byte b ≡ true) path →
@@ -161,17 +162,17 @@ split_behind mark none other path text later bytes =
     split_clear mark path (address text ++ later) (path_without mark none path bytes)
     ∙ ap (λ r. (path ++ r.0, r.1)) (split_clear mark (address text) later (written_without mark other place.OpaquePath text))
 
-whole_at : (base : Option Parts) (front scheme path text rest : List ℕ) → EndsInOpaquePath front → FitsOpaquePath text rest → kept front ≡ scheme ++ 58 ∷ path → IsAddressScheme scheme → All (λ b. is_opaque_byte b ≡ true) path → get_or path 0 0 ≢ 47 →
+whole_at : (base : Option Parts) (front scheme path text rest : List ℕ) → EndsInOpaquePath front → FitsOpaquePath text rest → kept front ≡ scheme ++ 58 ∷ path → IsOpaqueScheme scheme → All (λ b. is_opaque_byte b ≡ true) path → get_or path 0 0 ≢ 47 →
     parse_url base (front ++ address text ++ rest) ≡ Ok (with_tail (opaque_url scheme (path ++ (address text ++ path_of rest))) (query_of rest) (fragment_of rest))
 whole_at base front scheme path text rest ends fits same known bytes first =
     let c = address text in
     let hash = split_once 35 (kept_rest rest) in
     let visible = All-append IsVisible path (c ++ path_of rest) (opaque_visible path bytes) (All-append IsVisible c (path_of rest) (written_visible place.OpaquePath text) fits.visible) in
-    address_parsed base (front ++ c ++ rest) scheme (path ++ (c ++ kept_rest rest))
+    opaque_parsed base (front ++ c ++ rest) scheme (path ++ (c ++ kept_rest rest))
     (kept_around_at place.OpaquePath front text rest ends.ends ∙ ap (λ k. k ++ (c ++ kept_rest rest)) same ∙ append_assoc scheme (58 ∷ path) (c ++ kept_rest rest)) known
-    ∙ ap (λ r. address_url scheme (split_once 63 r.0) r.1) (split_behind 35 refl refl path text (kept_rest rest) bytes)
-    ∙ ap (λ r. address_url scheme r hash.1) (split_behind 63 refl refl path text hash.0 bytes)
-    ∙ read_parts (lowercase scheme) (path ++ (c ++ path_of rest)) (query_of rest) (fragment_of rest) (address_type scheme known) (first_of path text (path_of rest) first fits.opaque) visible
+    ∙ ap (λ r. behind_scheme scheme (split_once 63 r.0) r.1) (split_behind 35 refl refl path text (kept_rest rest) bytes)
+    ∙ ap (λ r. behind_scheme scheme r hash.1) (split_behind 63 refl refl path text hash.0 bytes)
+    ∙ read_parts (lowercase scheme) (path ++ (c ++ path_of rest)) (query_of rest) (fragment_of rest) (opaque_type scheme known) (first_of path text (path_of rest) first fits.opaque) visible
 
 encoded_whole : (path text body : List ℕ) → percent_encode OPAQUE_PATH (path ++ (address text ++ body)) ≡ percent_encode OPAQUE_PATH path ++ address text ++ percent_encode OPAQUE_PATH body
 encoded_whole path text body =
@@ -194,7 +195,7 @@ opaque_law base front text rest ends fits = by_front (kept front) refl ends.opaq
 pub record OpaqueFront (base : Option Parts) (front : List ℕ) : Type 0 where
   pub scheme : List ℕ
   pub path : List ℕ
-  pub known : IsAddressScheme scheme
+  pub known : IsOpaqueScheme scheme
   pub alone : parse_url base front ≡ Ok (with_tail (opaque_url scheme path) None None)
 
 pub opaque_front : (base : Option Parts) (front : List ℕ) → EndsInOpaquePath front → OpaqueFront base front

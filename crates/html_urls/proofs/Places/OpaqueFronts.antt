@@ -5,15 +5,18 @@ use Rattle.std.proofs.lemmas.Bool.Decides.{nat_tests}
 use Rattle.std.proofs.lemmas.Slice.Eq.{bytes_eq-Decides}
 use Rattle.url.proofs.HostLemmas.{none_from_list_any}
 use Rattle.html_urls.specs.Links.{has_scheme, mark_at}
-use Rattle.html_urls.specs.OpenParts.{begins, ends_in_opaque_path, has_address_scheme, has_byte, is_address_scheme}
-use Rattle.html_urls.specs.Parts.OpaquePaths.{BeginsOpaque, IsAddressScheme, is_opaque_byte, opaque}
+use Rattle.html_urls.specs.OpenParts.{begins, ends_in_opaque_path, has_byte, has_opaque_front}
+use Rattle.html_urls.specs.Parts.OpaquePaths.{BeginsOpaque, IsOpaqueScheme, is_opaque_byte, opaque}
 use Rattle.html_urls.specs.Slots.{is_plain_byte}
 use Rattle.html_urls.proofs.OpenEscapes.{not_true}
 use Rattle.html_urls.proofs.Paths.Opening.{all_right}
 use Rattle.html_urls.proofs.Places.FixedHosts.{at_mark}
 
-address_scheme : (scheme : List ℕ) → is_address_scheme scheme ≡ true → IsAddressScheme scheme
-address_scheme scheme known = grind (arith, nat_tests, bytes_eq, bytes_eq-Decides)
+pub scheme_ends : (front : List ℕ) → has_opaque_front front ≡ true → has_scheme front ≡ true
+scheme_ends front known = grind (arith, nat_tests)
+
+opaque_scheme : (front : List ℕ) → has_opaque_front front ≡ true → IsOpaqueScheme (take (mark_at front) front)
+opaque_scheme front known = grind (arith, nat_tests, bytes_eq, bytes_eq-Decides)
 
 no_slash : (path : List ℕ) → begins path (codes "/") ≡ false → get_or path 0 0 ≢ 47
 no_slash [] none = λ same. absurd (omega arith)
@@ -26,24 +29,24 @@ opaque_text xs plain no_fragment no_query i d within =
 -- the scheme and the path behind its `:`
 pub record OpaqueEnd (front : List ℕ) : Type 0 where
   pub spelled : front ≡ take (mark_at front) front ++ 58 ∷ drop (mark_at front + 1) front
-  pub known : is_address_scheme (take (mark_at front) front) ≡ true
+  pub known : IsOpaqueScheme (take (mark_at front) front)
   pub first : get_or (drop (mark_at front + 1) front) 0 0 ≢ 47
   pub no_query : has_byte 63 front ≡ false
   pub no_fragment : has_byte 35 front ≡ false
 
-pub spelled_at : (front : List ℕ) → has_address_scheme front ≡ true → front ≡ take (mark_at front) front ++ 58 ∷ drop (mark_at front + 1) front
-spelled_at front known = at_mark front 58 (λ e. absurd (omega arith)) (eqb-true _ 58 (and_parts (has_scheme front) (is_address_scheme (take (mark_at front) front)) known).0)
+pub spelled_at : (front : List ℕ) → has_scheme front ≡ true → front ≡ take (mark_at front) front ++ 58 ∷ drop (mark_at front + 1) front
+spelled_at front scheme = at_mark front 58 (λ e. absurd (omega arith)) (eqb-true _ 58 scheme)
 
 pub opaque_end : (front : List ℕ) → ends_in_opaque_path front ≡ true → OpaqueEnd front
 opaque_end front ends =
     let slash = not (begins (drop (mark_at front + 1) front) (codes "/")) in
     let query = not (has_byte 63 front) in
-    let all = and_parts (has_address_scheme front && slash && query) (not (has_byte 35 front)) ends in
-    let four = and_parts (has_address_scheme front && slash) query all.0 in
-    let three = and_parts (has_address_scheme front) slash four.0 in
+    let all = and_parts (has_opaque_front front && slash && query) (not (has_byte 35 front)) ends in
+    let four = and_parts (has_opaque_front front && slash) query all.0 in
+    let three = and_parts (has_opaque_front front) slash four.0 in
     record {
-      spelled = spelled_at front three.0;
-      known = (and_parts (has_scheme front) (is_address_scheme (take (mark_at front) front)) three.0).1;
+      spelled = spelled_at front (scheme_ends front three.0);
+      known = opaque_scheme front three.0;
       first = no_slash (drop (mark_at front + 1) front) (not_true _ three.1);
       no_query = not_true _ four.1;
       no_fragment = not_true _ all.1;
@@ -61,4 +64,4 @@ path_bytes front plain end =
 pub begins_opaque : (front : List ℕ) → All (λ b. is_plain_byte b ≡ true) front → ends_in_opaque_path front ≡ true → BeginsOpaque front
 begins_opaque front plain ends =
     let end = opaque_end front ends in
-    subst BeginsOpaque (sym end.spelled) (opaque (take (mark_at front) front) (drop (mark_at front + 1) front) (address_scheme (take (mark_at front) front) end.known) (path_bytes front plain end) end.first)
+    subst BeginsOpaque (sym end.spelled) (opaque (take (mark_at front) front) (drop (mark_at front + 1) front) end.known (path_bytes front plain end) end.first)

@@ -21,12 +21,12 @@ use Rattle.html_urls.specs.OpenParts.{after_text, open_of, slot_at}
 use Rattle.html_urls.specs.Places.{EndsIn, goes_on}
 use Rattle.html_urls.specs.Shapes.{fill, from_slot, front_of, path_set}
 use Rattle.html_urls.specs.Slots.{FillParts, FillSlots, FillUrl, Given, Markup, Slot, first_slots, later_slots, placed, slots_of, url_of}
-use Rattle.html_urls.specs.Parts.OpaquePaths.{IsAddressScheme}
+use Rattle.html_urls.specs.Parts.OpaquePaths.{IsOpaqueScheme}
 use Rattle.html_urls.proofs.Filled.FirstSlot.{place_at, slot_place, front_stands, kept_front, one_url, plain_visible}
 use Rattle.html_urls.proofs.Filled.LaterSlots.{later_good}
 use Rattle.html_urls.proofs.Filled.Told.{first_markup, first_place, first_slot, later_places, later_slot, markup_places, told_slots}
 use Rattle.html_urls.proofs.Filled.OpaqueRests.{later_opaque}
-use Rattle.html_urls.proofs.Paths.OpaquePaths.{address_type, opaque_front}
+use Rattle.html_urls.proofs.Paths.OpaquePaths.{opaque_type, opaque_front}
 use Rattle.html_urls.proofs.Paths.PathLaw.{IsSpecial, path_bare, path_special}
 use Rattle.html_urls.proofs.Shapes.Fills.{path_keeps}
 use Rattle.html_urls.proofs.Shapes.PathShapes.{HasSet, path_shape, split_none}
@@ -91,8 +91,8 @@ slot_shape base parts texts slots web plain no_fragment no_query found fill = wi
     place_is : found.at ≡ place_at found.part
     place_is = first_place found.more found.slot same_places ∙ slot_place found.part found.slot found.here
 
-    opaque_set : (scheme : List ℕ) → IsAddressScheme scheme → path_set (scheme_type (lowercase scheme)) ≡ OPAQUE_PATH
-    opaque_set scheme known = ap path_set (address_type scheme known)
+    opaque_set : (scheme : List ℕ) → IsOpaqueScheme scheme → path_set (scheme_type (lowercase scheme)) ≡ OPAQUE_PATH
+    opaque_set scheme known = ap path_set (opaque_type scheme known)
 
     by_place : (later : List Given) (text : List ℕ) (texts : List (List ℕ)) → ArePlain later → (at : UrlPlace) → from_slot parts ≡ Slot at ∷ later → EndsIn at front →
         parse_url base (front ++ (component_at at text ++ url_of later texts)) ≡ on_ok (goes_on at text (url_of later texts)) (parse_url base front) → HasThatShape base parts (text ∷ texts)

@@ -1,4 +1,4 @@
--- A text in the opaque path of a `mailto:` or a `tel:` URL (URL Standard, 4.4 URL parsing: scheme state, opaque path state).
+-- A text in the opaque path of a `mailto:`, a `tel:` or a `data:` URL (URL Standard, 4.4 URL parsing: scheme state, opaque path state).
 use Rattle.std.specs.Prelude.{◌≡◌, ◌≢◌, ◌⊎◌, ℕ, Bool, true, not, ◌&&◌, ◌||◌, ◌==◌, nat_lt, List, [], ◌∷◌, ◌++◌, slice_index, codes, option_map, All}
 use Rattle.percent_encoding.specs.Percent.{percent_encode}
 use Rattle.url.specs.declared.sets.TheConstants.{FRAGMENT, OPAQUE_PATH}
@@ -9,9 +9,9 @@ use Rattle.html_urls.specs.Components.{address}
 use Rattle.html_urls.specs.Inputs.{EndsVisibly, IsVisible, kept}
 use Rattle.html_urls.specs.Parts.Rests.{fragment_of, path_of, query_of}
 
--- `mailto` or `tel`, in any case
-abbrev pub IsAddressScheme : List ℕ → Type 0
-IsAddressScheme scheme = (lowercase scheme ≡ codes "mailto") ⊎ (lowercase scheme ≡ codes "tel")
+-- `mailto`, `tel` or `data`, in any case
+abbrev pub IsOpaqueScheme : List ℕ → Type 0
+IsOpaqueScheme scheme = (lowercase scheme ≡ codes "mailto") ⊎ ((lowercase scheme ≡ codes "tel") ⊎ (lowercase scheme ≡ codes "data"))
 
 -- no white space, no control and neither `#` nor `?`
 abbrev pub is_opaque_byte : ℕ → Bool
@@ -19,7 +19,7 @@ is_opaque_byte b = nat_lt space b && not (b == number_sign || b == question_mark
 
 -- such a scheme, `:` and a path that begins with no `/`
 pub data BeginsOpaque : List ℕ → Type 0 where
-  opaque : (scheme path : List ℕ) → IsAddressScheme scheme → All (λ b. is_opaque_byte b ≡ true) path → slice_index path 0 ≢ slash → BeginsOpaque (scheme ++ colon ∷ path)
+  opaque : (scheme path : List ℕ) → IsOpaqueScheme scheme → All (λ b. is_opaque_byte b ≡ true) path → slice_index path 0 ≢ slash → BeginsOpaque (scheme ++ colon ∷ path)
 
 -- the front of a URL ends in such a path
 pub record EndsInOpaquePath (front : List ℕ) : Type 0 where

@@ -2,8 +2,8 @@
 use html_urls::UrlPart::{Markup, Slot};
 use html_urls::{
     OpenPart, UrlFault, UrlPart, UrlPlace, UrlSlot, UrlTextFault, after_markup, after_text,
-    append_component, append_url, ends_scheme, is_plain, is_unfixed, may_be_dots, may_fill,
-    open_of, slot_at, slots_of,
+    append_component, append_url, ends_scheme, is_image_front, is_plain, is_unfixed, may_be_dots,
+    may_fill, open_of, slot_at, slots_of,
 };
 use std::alloc::Global;
 use std::test::Fail;
@@ -46,7 +46,7 @@ const IN_FRAGMENT: UrlSlot = UrlSlot {
 };
 
 // A front, and the fault of a slot behind it.
-const FRONTS: [(&str, UrlFault); 39] = [
+const FRONTS: [(&str, UrlFault); 43] = [
     ("", UrlFault::NotFixed(1)),
     ("//", UrlFault::NotFixed(1)),
     ("//x", UrlFault::NotFixed(1)),
@@ -67,6 +67,10 @@ const FRONTS: [(&str, UrlFault); 39] = [
     ("javascript:x?", UrlFault::NotFixed(1)),
     ("JavaScript:x#", UrlFault::NotFixed(1)),
     ("data:text/html,?", UrlFault::NotFixed(1)),
+    ("data:", UrlFault::NotFixed(1)),
+    ("data:image/svg+xml;base64,", UrlFault::NotFixed(1)),
+    ("data:image/png,", UrlFault::NotFixed(1)),
+    ("data:image/png;base64,?", UrlFault::NotFixed(1)),
     ("file:///a?q=", UrlFault::NotFixed(1)),
     ("tel:/", UrlFault::NotFixed(1)),
     ("mailto:/", UrlFault::NotFixed(1)),
@@ -330,6 +334,8 @@ fn slots_are_told_part_by_part(rt: HostRuntime) -> Result<(), Fail> {
     assert!(rt; open_of(b"TEL:+49") == Some(OpenPart::OpaquePath));
     assert!(rt; open_of(b"mailto:/").is_none() && open_of(b"tel:/1").is_none());
     assert!(rt; open_of(b"tel:1?") == Some(OpenPart::Query));
+    assert!(rt; open_of(b"data:image/png;base64,") == Some(OpenPart::OpaquePath));
+    assert!(rt; open_of(b"data:").is_none());
     assert!(rt; open_of(b"tel:1#") == Some(OpenPart::Fragment));
     assert!(rt; slot_at(OpenPart::OpaquePath) == Some(IN_OPAQUE_PATH));
     assert!(rt; after_markup(OpenPart::OpaquePath, b"@a?") == Some(OpenPart::Query));
@@ -348,7 +354,17 @@ fn slots_are_told_part_by_part(rt: HostRuntime) -> Result<(), Fail> {
 }
 
 #[test]
-fn an_address_and_a_number_are_appended(rt: HostRuntime) -> Result<(), Fail> {
+fn an_image_begins_with_its_type(rt: HostRuntime) -> Result<(), Fail> {
+    assert!(rt; is_image_front(b"data:image/png;base64,"));
+    assert!(rt; is_image_front(b"DATA:image/PNG;base64,iVBO"));
+    assert!(rt; !is_image_front(b"data:image/png;base64"));
+    assert!(rt; !is_image_front(b"data:image/png,"));
+    assert!(rt; !is_image_front(b"data:image/svg+xml;base64,"));
+    Ok(())
+}
+
+#[test]
+fn addresses_numbers_and_images_are_appended(rt: HostRuntime) -> Result<(), Fail> {
     let mail = [
         Markup("mailto:"),
         Slot,
@@ -366,6 +382,10 @@ fn an_address_and_a_number_are_appended(rt: HostRuntime) -> Result<(), Fail> {
     let number = [Markup("tel:"), Slot];
     assert!(rt; append_url(&mut link, &number, &["+49 30 1234"]).is_ok());
     assert!(rt; link.as_str() == "tel:+49%2030%201234");
+    let mut link = String::new(rt.alloc());
+    let image = [Markup("data:image/png;base64,"), Slot];
+    assert!(rt; append_url(&mut link, &image, &["/9+A="]).is_ok());
+    assert!(rt; link.as_str() == "data:image/png;base64,%2F9+A%3D");
     let parts = [Markup("mailto:"), Slot, Markup("/b")];
     assert!(rt; is_fault(rt.alloc(), &parts, UrlFault::NotFixed(2)));
     let parts = [Markup("mail"), Slot, Markup("to:")];
