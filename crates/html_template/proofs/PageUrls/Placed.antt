@@ -1,13 +1,14 @@
 -- What a slot in a URL was told to be.
-use Rattle.std.proofs.Common.{ℕ, ◌≡◌, Bool, false, List, [], ◌∷◌, Option, Some, None, Ok, refl, arith}
+use Rattle.std.proofs.Common.{ℕ, ◌≡◌, Bool, true, false, not, ◌||◌, if◌then◌else◌, List, [], ◌∷◌, Option, Some, None, Ok, refl, arith}
 use Rattle.std.proofs.lemmas.Bool.Decides.{nat_tests}
 use Rattle.html_template.specs.declared.open_url.OpenUrl.TheVariants.{Within, Whole}
 use Rattle.html_template.specs.declared.open_url.PlacedSlot.{PlacedSlot}
 use Rattle.html_template.specs.declared.parts.SlotKind.TheVariants as kind
-use Rattle.html_template.specs.OpenUrls.{at_open, behind_text, first_slot, in_part, open_at, plain_text, whole_slot}
+use Rattle.html_template.specs.OpenUrls.{at_open, behind_text, first_slot, in_part, plain_text, whole_slot}
 use Rattle.html_template.specs.Slots.{whole_kind}
 use Rattle.html_tokenizer.specs.declared.slot_place.SlotPlace.{SlotPlace}
 use Rattle.html_tokenizer.specs.UrlValues.{after_last, begins_value}
+use Rattle.html_urls.specs.Images.{is_image_front}
 use Rattle.html_urls.specs.OpenParts.{after_text, open_of, slot_at}
 use Rattle.html_urls.specs.declared.open_part.OpenPart.{OpenPart}
 use Rattle.html_urls.specs.declared.parts.UrlSlot.{UrlSlot}
@@ -46,14 +47,15 @@ opened_told p raw text slot None adds is told = absurd (cc)
 opened_told p raw text slot (Some part) adds is told =
     record { text = text; adds = adds; part = part; opened = is; placed = part_told p part slot told }
 
-text_told : (is_followed : Bool) (p : SlotPlace) (text : List ℕ) (slot : PlacedSlot) → in_part p (open_at is_followed text) ≡ Ok slot → in_part p (open_of text) ≡ Ok slot
-text_told is_followed p text slot told = grind (arith, nat_tests)
+text_told : (taken : Bool) (p : SlotPlace) (text : List ℕ) (slot : PlacedSlot) → in_part p (if taken then open_of text else None) ≡ Ok slot → in_part p (open_of text) ≡ Ok slot
+text_told true p text slot told = told
+text_told false p text slot told = absurd (cc)
 
 front_told : (is_followed : Bool) (p : SlotPlace) (raw : List ℕ) (slot : PlacedSlot) (read : Option (List ℕ)) → plain_text false raw ≡ read →
     behind_text p is_followed read ≡ Ok slot → BehindFront p raw slot
 front_told is_followed p raw slot None is told = absurd (cc)
 front_told is_followed p raw slot (Some text) is told =
-    opened_told p raw text slot (open_of text) (adds_text false raw text is) refl (text_told is_followed p text slot told)
+    opened_told p raw text slot (open_of text) (adds_text false raw text is) refl (text_told (is_followed || not (is_image_front text)) p text slot told)
 
 whole_told : (is_followed : Bool) (p : SlotPlace) (slot : PlacedSlot) → whole_slot p is_followed ≡ Ok slot → quoted_slot p is_followed ≡ slot
 whole_told is_followed p slot told = grind (arith, nat_tests)
