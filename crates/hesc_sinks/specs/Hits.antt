@@ -5,6 +5,7 @@ use Rattle.std.specs.Str.{IsCharBoundary, IsUtf8}
 use Rattle.hesc_specs.specs.Text.FirstPlace.{IsFirstPlace}
 use Rattle.hesc_sinks.specs.AsciiRows.{HasText, Rows, text_at}
 use Rattle.hesc_sinks.specs.Stores.{Stored}
+use Rattle.hesc_sinks.specs.Took.{Seen, TookAll}
 use Rattle.hesc_sinks.specs.declared.ascii_texts.AsciiTexts.{AsciiTexts}
 
 abbrev pub ascii_rows : AsciiTexts → Rows
@@ -27,9 +28,9 @@ BeginsImages rows source from hits later put =
     (is_sought : ℕ → Bool) (image_from : ℕ → List ℕ) → AreHits is_sought source from hits → Replaces rows is_sought source image_from → image_from from ≡ put ++ image_from later
 
 -- such bytes were taken
-pub record TookHits (rows : Rows) (source : List ℕ) (from hits later : ℕ) (old new : List ℕ) : Type 0 where
+pub record TookHits (rows : Rows) (source : List ℕ) (from hits later : ℕ) (old new : Seen) : Type 0 where
   pub put : List ℕ
-  pub taken : new ≡ old ++ put
+  pub took : TookAll old new put
   pub image : BeginsImages rows source from hits later put
 
 -- such bytes were stored in a room, from a place up to an end

@@ -4,3 +4,4 @@ pub mod Room
 pub mod Sinks
 pub mod Stores
 pub mod Text
+pub mod Took

@@ -1,10 +1,9 @@
 //! Sinks: what takes the pieces of a text.
-ghost use Rattle.std.specs.Prelude.{◌≡◌, ◌≤◌, ◌<◌, ◌+◌, ℕ, List, ◌++◌, length, Option, IsOk, OnOk, OnErr};
-ghost use Rattle.std.specs.Borrow.{GName};
+ghost use Rattle.std.specs.Prelude.{◌≤◌};
 ghost use Rattle.std.specs.Str.{IsCharBoundary};
-ghost use Rattle.hesc_specs.specs.Text.Beginning.{TookBeginning};
 ghost use Rattle.hesc_sinks.specs.Hits.{TookHits, ascii_rows};
 ghost use Rattle.hesc_sinks.specs.Text.{segment_bytes};
+ghost use Rattle.hesc_sinks.specs.Took.{Seen, Took};
 
 use crate::ascii_texts::AsciiTexts;
 use crate::in_place::{IN_PLACE_ROOM, InPlace, made_in};
@@ -12,53 +11,27 @@ use crate::segment::Segment;
 
 /// Takes texts, one after another.
 ///
-/// Contracts see the bytes that it took (`taken`), the number of its failures (`failures`), how
-/// many more bytes it takes without failing (`room`), the reference that it writes to, and what
-/// stood there at first, where that is known (`before`).
+/// What contracts see of it (`seen`) are the bytes that it took, the number of its failures, how many more
+/// bytes it takes without failing, the reference that it writes to, and what stood there at first, where
+/// that is known.
 pub trait Sink {
     type Fault;
 
-    ghost taken: { Self → List ℕ };
-
-    ghost failures: { Self → ℕ };
-
-    ghost room: { Self → ℕ };
-
-    ghost reference: { Self → GName };
-
-    ghost before: { Self → Option (List ℕ) };
+    ghost seen: { Self → Seen };
 
     /// Takes the whole piece, or fails after a beginning of it. An empty piece is always taken.
     ///
     /// After `put("ab")?` a vector that held `x` holds `xab`.
     fn put(&mut self, piece: &str) -> Result<(), Self::Fault>
-        ensures ok_taken { OnOk result (taken self.new ≡ taken self.old ++ piece.now) }
-        ensures ok_failures { OnOk result (failures self.new ≡ failures self.old) }
-        ensures err_taken { OnErr result
-            (TookBeginning (taken self.old) (taken self.new) piece.now) }
-        ensures err_failures { OnErr result (failures self.new ≡ failures self.old + 1) }
-
-        // Room for the piece is enough, and no more room than that is lost.
-        ensures fits { length piece.now ≤ room self.old → IsOk result }
-        ensures room { OnOk result (room self.old ≤ room self.new + length piece.now) }
-
-        ensures same_reference { reference self.new ≡ reference self.old }
-        ensures same_before { before self.new ≡ before self.old };
+        ensures { Took (seen self.old) (seen self.new) piece.now result };
 
     /// Takes the stretch of a segment and then the text after it, or fails after a beginning of both.
     ///
     /// Of the stretch `a` and the text `&lt;` it takes `a&lt;`.
     #[inline(always)]
+    #[tactic(auto, using(crate::proofs::Took::pieces))]
     fn put_segment(&mut self, segment: Segment<'_>) -> Result<(), Self::Fault>
-        ensures ok_taken { OnOk result (taken self.new ≡ taken self.old ++ segment_bytes segment.entry) }
-        ensures ok_failures { OnOk result (failures self.new ≡ failures self.old) }
-        ensures err_taken { OnErr result
-            (TookBeginning (taken self.old) (taken self.new) (segment_bytes segment.entry)) }
-        ensures err_failures { OnErr result (failures self.new ≡ failures self.old + 1) }
-        ensures fits { length (segment_bytes segment.entry) ≤ room self.old → IsOk result }
-        ensures room { OnOk result (room self.old ≤ room self.new + length (segment_bytes segment.entry)) }
-        ensures same_reference { reference self.new ≡ reference self.old }
-        ensures same_before { before self.new ≡ before self.old }
+        ensures { Took (seen self.old) (seen self.new) (segment_bytes segment.entry) result }
     {
         self.put_some(segment.kept)?;
         self.put_some(segment.new.as_str())
@@ -69,15 +42,7 @@ pub trait Sink {
     /// Of the stretch `a` and the text `&lt;` it takes `a`.
     #[inline(always)]
     fn put_stretch(&mut self, segment: Segment<'_>) -> Result<(), Self::Fault>
-        ensures ok_taken { OnOk result (taken self.new ≡ taken self.old ++ segment.entry.kept.now) }
-        ensures ok_failures { OnOk result (failures self.new ≡ failures self.old) }
-        ensures err_taken { OnErr result
-            (TookBeginning (taken self.old) (taken self.new) segment.entry.kept.now) }
-        ensures err_failures { OnErr result (failures self.new ≡ failures self.old + 1) }
-        ensures fits { length segment.entry.kept.now ≤ room self.old → IsOk result }
-        ensures room { OnOk result (room self.old ≤ room self.new + length segment.entry.kept.now) }
-        ensures same_reference { reference self.new ≡ reference self.old }
-        ensures same_before { before self.new ≡ before self.old }
+        ensures { Took (seen self.old) (seen self.new) segment.entry.kept.now result }
     {
         self.put_some(segment.kept)
     }
@@ -86,16 +51,9 @@ pub trait Sink {
     ///
     /// After `put_some("")?` a writer was offered nothing.
     #[inline(always)]
+    #[tactic(auto, using(crate::proofs::Took::nothing))]
     fn put_some(&mut self, piece: &str) -> Result<(), Self::Fault>
-        ensures ok_taken { OnOk result (taken self.new ≡ taken self.old ++ piece.now) }
-        ensures ok_failures { OnOk result (failures self.new ≡ failures self.old) }
-        ensures err_taken { OnErr result
-            (TookBeginning (taken self.old) (taken self.new) piece.now) }
-        ensures err_failures { OnErr result (failures self.new ≡ failures self.old + 1) }
-        ensures fits { length piece.now ≤ room self.old → IsOk result }
-        ensures room { OnOk result (room self.old ≤ room self.new + length piece.now) }
-        ensures same_reference { reference self.new ≡ reference self.old }
-        ensures same_before { before self.new ≡ before self.old }
+        ensures { Took (seen self.old) (seen self.new) piece.now result }
     {
         if piece.is_empty() {
             return Ok(());
@@ -108,15 +66,7 @@ pub trait Sink {
     /// Of the component of `a b` it takes `a%20b`.
     #[inline(always)]
     fn put_in_place<T: InPlace>(&mut self, text: &T) -> Result<(), Self::Fault>
-        ensures ok_taken { OnOk result (taken self.new ≡ taken self.old ++ T.text text.now) }
-        ensures ok_failures { OnOk result (failures self.new ≡ failures self.old) }
-        ensures err_taken { OnErr result
-            (TookBeginning (taken self.old) (taken self.new) (T.text text.now)) }
-        ensures err_failures { OnErr result (failures self.new ≡ failures self.old + 1) }
-        ensures fits { length (T.text text.now) ≤ room self.old → IsOk result }
-        ensures room { OnOk result (room self.old ≤ room self.new + length (T.text text.now)) }
-        ensures same_reference { reference self.new ≡ reference self.old }
-        ensures same_before { before self.new ≡ before self.old }
+        ensures { Took (seen self.old) (seen self.new) (T.text text.now) result }
     {
         let mut room = [0; IN_PLACE_ROOM];
         self.put(made_in(text, &mut room))
@@ -132,14 +82,9 @@ pub trait Sink {
     fn put_hits(&mut self, text: &str, from: usize, hits: u64, texts: AsciiTexts) -> usize
         requires { IsCharBoundary text.now from }
         ensures taken { TookHits (ascii_rows texts) text.now from hits result
-            (taken self.old) (taken self.new) }
+            (seen self.old) (seen self.new) }
         ensures ordered { from ≤ result }
         ensures boundary { IsCharBoundary text.now result }
-        ensures failures { failures self.new ≡ failures self.old }
-        ensures room { room self.old + length (taken self.old)
-            ≤ room self.new + length (taken self.new) }
-        ensures same_reference { reference self.new ≡ reference self.old }
-        ensures same_before { before self.new ≡ before self.old }
     {
         let (_text, _hits, _texts) = (text.len(), hits, texts);
         from

@@ -1,5 +1,5 @@
 //! The sink that only counts.
-ghost use Rattle.std.specs.Prelude.{◌≡◌, ◌-◌, ◌^◌, [], length, None};
+ghost use Rattle.std.specs.Prelude.{◌≡◌, [], length};
 
 use crate::ascii_texts::AsciiTexts;
 use crate::sink::Sink;
@@ -45,19 +45,11 @@ impl Counter {
 }
 
 impl Sink for Counter {
-    ghost use Rattle.hesc_sinks.specs.Sinks.{counted, counter_failures};
+    ghost use Rattle.hesc_sinks.specs.Sinks.{counter_seen};
 
     type Fault = CountOverflow;
 
-    ghost taken = { counted };
-
-    ghost failures = { counter_failures };
-
-    ghost room = { λ sink. 2 ^ 64 - 1 - length (counted sink) };
-
-    ghost reference = { λ _. 0 };
-
-    ghost before = { λ _. None };
+    ghost seen = { counter_seen };
 
     #[inline(always)]
     fn put(&mut self, piece: &str) -> Result<(), CountOverflow> {

@@ -1,5 +1,5 @@
 //! The sink that writes into the room of a vector.
-ghost use Rattle.std.specs.Prelude.{◌≡◌, ◌≤◌, ◌-◌, ◌++◌, Some, length, take};
+ghost use Rattle.std.specs.Prelude.{◌≡◌, ◌≤◌, ◌-◌, ◌++◌, length, take};
 ghost use Rattle.std.specs.Str.{IsUtf8};
 ghost use Rattle.std.specs.Vec.{vec_capacity};
 
@@ -38,19 +38,19 @@ pub struct FilledSink<'a, A: Allocator> {
 }
 
 impl<'a, A: Allocator> FilledSink<'a, A> {
-    ghost use Rattle.std.specs.Prelude.{◌+◌, [], IsOk, OnErr, OnOk};
+    ghost use Rattle.std.specs.Prelude.{◌+◌, []};
     ghost use Rattle.std.specs.Int.{to_le_bytes, w64};
-    ghost use Rattle.hesc_specs.specs.Text.Beginning.{TookBeginning};
     ghost use Rattle.hesc_sinks.specs.Room.{vec_room};
     ghost use Rattle.hesc_sinks.specs.Sinks.{
-      filled_sink_failures,
       filled_sink_left,
       filled_sink_output,
       filled_sink_room,
+      filled_sink_seen,
       filled_sink_start,
       filled_sink_taken,
     };
     ghost use Rattle.hesc_sinks.specs.Text.{small_text_bytes};
+    ghost use Rattle.hesc_sinks.specs.Took.{Took, TookAll};
 
     /// A sink after the bytes of the output, for `room` bytes at most, for which the output has room.
     ///
@@ -101,12 +101,7 @@ impl<'a, A: Allocator> FilledSink<'a, A> {
     // Appends more zeros.
     #[inline(always)]
     fn fill(&mut self)
-        ensures taken { filled_sink_taken self.new ≡ filled_sink_taken self.old }
-        ensures failures { filled_sink_failures self.new ≡ filled_sink_failures self.old }
-        ensures room { filled_sink_room self.new ≡ filled_sink_room self.old }
-        ensures same_reference { (filled_sink_output self.new).ghost_name
-            ≡ (filled_sink_output self.old).ghost_name }
-        ensures same_start { filled_sink_start self.new ≡ filled_sink_start self.old }
+        ensures { filled_sink_seen self.new ≡ filled_sink_seen self.old }
     {
         let step = (self.limit - self.output.len()).min(ZEROS.len());
         let _appended = self.output.extend_from_slice(&ZEROS[..step]);
@@ -117,14 +112,8 @@ impl<'a, A: Allocator> FilledSink<'a, A> {
     fn put_both<const N: usize>(&mut self, segment: Segment<'_>, text: SmallText)
         requires few { length segment.kept.now ≤ N }
         requires fits { N + 8 ≤ filled_sink_left self.old }
-        ensures taken { filled_sink_taken self.new
-            ≡ filled_sink_taken self.old ++ (segment.entry.kept.now ++ small_text_bytes text) }
-        ensures failures { filled_sink_failures self.new ≡ filled_sink_failures self.old }
-        ensures room { filled_sink_room self.old ≤ filled_sink_room self.new
-            + (length segment.entry.kept.now + length (small_text_bytes text)) }
-        ensures same_reference { (filled_sink_output self.new).ghost_name
-            ≡ (filled_sink_output self.old).ghost_name }
-        ensures same_start { filled_sink_start self.new ≡ filled_sink_start self.old }
+        ensures { TookAll (filled_sink_seen self.old) (filled_sink_seen self.new)
+            (segment.entry.kept.now ++ small_text_bytes text) }
     {
         let kept = segment.kept.as_bytes();
         self.end = store_both::<N>(
@@ -142,14 +131,8 @@ impl<'a, A: Allocator> FilledSink<'a, A> {
     #[inline(always)]
     fn put_padded(&mut self, text: SmallText)
         requires { 8 ≤ filled_sink_left self.old }
-        ensures taken { filled_sink_taken self.new
-            ≡ filled_sink_taken self.old ++ small_text_bytes text }
-        ensures failures { filled_sink_failures self.new ≡ filled_sink_failures self.old }
-        ensures room { filled_sink_room self.old
-            ≤ filled_sink_room self.new + length (small_text_bytes text) }
-        ensures same_reference { (filled_sink_output self.new).ghost_name
-            ≡ (filled_sink_output self.old).ghost_name }
-        ensures same_start { filled_sink_start self.new ≡ filled_sink_start self.old }
+        ensures { TookAll (filled_sink_seen self.old) (filled_sink_seen self.new)
+            (small_text_bytes text) }
     {
         self.end = store_padded(self.output.as_mut_slice(), self.end, text);
         self.log = self.log.after_taking(text.as_str().as_bytes());
@@ -161,21 +144,8 @@ impl<'a, A: Allocator> FilledSink<'a, A> {
     fn put_small(&mut self, word: u64, len: usize) -> Result<(), AllocError>
         requires few { len ≤ 8 }
         requires utf8 { IsUtf8 (take len (to_le_bytes w64 word)) }
-        ensures ok_taken { OnOk result (filled_sink_taken self.new
-            ≡ filled_sink_taken self.old ++ take len (to_le_bytes w64 word)) }
-        ensures ok_failures { OnOk result
-            (filled_sink_failures self.new ≡ filled_sink_failures self.old) }
-        ensures err_taken { OnErr result (TookBeginning (filled_sink_taken self.old)
-            (filled_sink_taken self.new) (take len (to_le_bytes w64 word))) }
-        ensures err_failures { OnErr result
-            (filled_sink_failures self.new ≡ filled_sink_failures self.old + 1) }
-        ensures fits { length (take len (to_le_bytes w64 word)) ≤ filled_sink_room self.old
-            → IsOk result }
-        ensures room { OnOk result (filled_sink_room self.old
-            ≤ filled_sink_room self.new + length (take len (to_le_bytes w64 word))) }
-        ensures same_reference { (filled_sink_output self.new).ghost_name
-            ≡ (filled_sink_output self.old).ghost_name }
-        ensures same_start { filled_sink_start self.new ≡ filled_sink_start self.old }
+        ensures { Took (filled_sink_seen self.old) (filled_sink_seen self.new)
+            (take len (to_le_bytes w64 word)) result }
     {
         self.fill();
         let bytes = word.to_le_bytes();
@@ -186,19 +156,7 @@ impl<'a, A: Allocator> FilledSink<'a, A> {
     // A piece that there are too few zeros for.
     #[inline(never)]
     fn append(&mut self, piece: &str) -> Result<(), AllocError>
-        ensures ok_taken { OnOk result
-            (filled_sink_taken self.new ≡ filled_sink_taken self.old ++ piece.now) }
-        ensures ok_failures { OnOk result
-            (filled_sink_failures self.new ≡ filled_sink_failures self.old) }
-        ensures err_taken { OnErr result (filled_sink_taken self.new ≡ filled_sink_taken self.old) }
-        ensures err_failures { OnErr result
-            (filled_sink_failures self.new ≡ filled_sink_failures self.old + 1) }
-        ensures fits { length piece.now ≤ filled_sink_room self.old → IsOk result }
-        ensures room { OnOk result (filled_sink_room self.old
-            ≤ filled_sink_room self.new + length piece.now) }
-        ensures same_reference { (filled_sink_output self.new).ghost_name
-            ≡ (filled_sink_output self.old).ghost_name }
-        ensures same_start { filled_sink_start self.new ≡ filled_sink_start self.old }
+        ensures { Took (filled_sink_seen self.old) (filled_sink_seen self.new) piece.now result }
     {
         if piece.len() > self.limit - self.end {
             self.log = self.log.after_failing();
@@ -224,25 +182,11 @@ impl<'a, A: Allocator> FilledSink<'a, A> {
 }
 
 impl<A: Allocator> Sink for FilledSink<'_, A> {
-    ghost use Rattle.hesc_sinks.specs.Sinks.{
-      filled_sink_failures,
-      filled_sink_output,
-      filled_sink_room,
-      filled_sink_start,
-      filled_sink_taken,
-    };
+    ghost use Rattle.hesc_sinks.specs.Sinks.{filled_sink_seen};
 
     type Fault = AllocError;
 
-    ghost taken = { filled_sink_taken };
-
-    ghost failures = { filled_sink_failures };
-
-    ghost room = { filled_sink_room };
-
-    ghost reference = { λ sink. (filled_sink_output sink).ghost_name };
-
-    ghost before = { λ sink. Some (filled_sink_start sink) };
+    ghost seen = { filled_sink_seen };
 
     #[inline(always)]
     fn put(&mut self, piece: &str) -> Result<(), AllocError> {
@@ -256,6 +200,7 @@ impl<A: Allocator> Sink for FilledSink<'_, A> {
 
     // Most stretches and replacements are short.
     #[inline(always)]
+    #[tactic(auto, using(crate::proofs::Took::pieces))]
     fn put_segment(&mut self, segment: Segment<'_>) -> Result<(), AllocError> {
         match segment.new {
             Replacement::Small(text) => {

@@ -31,15 +31,15 @@ pub struct StackSink<const N: usize> {
 pub struct StackFull;
 
 impl<const N: usize> StackSink<N> {
-    ghost use Rattle.std.specs.Prelude.{◌+◌, ◌++◌, [], IsOk, OnErr, OnOk};
+    ghost use Rattle.std.specs.Prelude.{◌++◌, []};
     ghost use Rattle.std.specs.Int.{to_le_bytes, w64};
-    ghost use Rattle.hesc_specs.specs.Text.Beginning.{TookBeginning};
     ghost use Rattle.hesc_sinks.specs.Sinks.{
-      stack_sink_failures,
       stack_sink_room,
+      stack_sink_seen,
       stack_sink_taken,
     };
     ghost use Rattle.hesc_sinks.specs.Text.{small_text_bytes};
+    ghost use Rattle.hesc_sinks.specs.Took.{Took, TookAll};
 
     /// Nothing taken yet.
     ///
@@ -79,11 +79,8 @@ impl<const N: usize> StackSink<N> {
     fn put_both(&mut self, segment: Segment<'_>, text: SmallText)
         requires few { length segment.kept.now ≤ 16 }
         requires fits { 24 ≤ stack_sink_room self.old }
-        ensures taken { stack_sink_taken self.new
-            ≡ stack_sink_taken self.old ++ (segment.entry.kept.now ++ small_text_bytes text) }
-        ensures failures { stack_sink_failures self.new ≡ stack_sink_failures self.old }
-        ensures room { stack_sink_room self.old ≤ stack_sink_room self.new
-            + (length segment.entry.kept.now + length (small_text_bytes text)) }
+        ensures { TookAll (stack_sink_seen self.old) (stack_sink_seen self.new)
+            (segment.entry.kept.now ++ small_text_bytes text) }
     {
         let kept = segment.kept.as_bytes();
         self.end = store_both::<16>(&mut self.bytes, self.end, segment.rest, kept.len(), text);
@@ -95,10 +92,7 @@ impl<const N: usize> StackSink<N> {
     #[inline(always)]
     fn put_padded(&mut self, text: SmallText)
         requires { 8 ≤ stack_sink_room self.old }
-        ensures taken { stack_sink_taken self.new ≡ stack_sink_taken self.old ++ small_text_bytes text }
-        ensures failures { stack_sink_failures self.new ≡ stack_sink_failures self.old }
-        ensures room { stack_sink_room self.old
-            ≤ stack_sink_room self.new + length (small_text_bytes text) }
+        ensures { TookAll (stack_sink_seen self.old) (stack_sink_seen self.new) (small_text_bytes text) }
     {
         self.end = store_padded(&mut self.bytes, self.end, text);
         self.log = self.log.after_taking(text.as_str().as_bytes());
@@ -110,18 +104,8 @@ impl<const N: usize> StackSink<N> {
     fn put_small(&mut self, word: u64, len: usize) -> Result<(), StackFull>
         requires few { len ≤ 8 }
         requires utf8 { IsUtf8 (take len (to_le_bytes w64 word)) }
-        ensures ok_taken { OnOk result (stack_sink_taken self.new
-            ≡ stack_sink_taken self.old ++ take len (to_le_bytes w64 word)) }
-        ensures ok_failures { OnOk result
-            (stack_sink_failures self.new ≡ stack_sink_failures self.old) }
-        ensures err_taken { OnErr result (TookBeginning (stack_sink_taken self.old)
-            (stack_sink_taken self.new) (take len (to_le_bytes w64 word))) }
-        ensures err_failures { OnErr result
-            (stack_sink_failures self.new ≡ stack_sink_failures self.old + 1) }
-        ensures fits { length (take len (to_le_bytes w64 word)) ≤ stack_sink_room self.old
-            → IsOk result }
-        ensures room { OnOk result (stack_sink_room self.old
-            ≤ stack_sink_room self.new + length (take len (to_le_bytes w64 word))) }
+        ensures { Took (stack_sink_seen self.old) (stack_sink_seen self.new)
+            (take len (to_le_bytes w64 word)) result }
     {
         let bytes = word.to_le_bytes();
         // It is UTF-8, as the caller says.
@@ -130,24 +114,11 @@ impl<const N: usize> StackSink<N> {
 }
 
 impl<const N: usize> Sink for StackSink<N> {
-    ghost use Rattle.std.specs.Prelude.{None};
-    ghost use Rattle.hesc_sinks.specs.Sinks.{
-      stack_sink_failures,
-      stack_sink_room,
-      stack_sink_taken,
-    };
+    ghost use Rattle.hesc_sinks.specs.Sinks.{stack_sink_seen};
 
     type Fault = StackFull;
 
-    ghost taken = { stack_sink_taken };
-
-    ghost failures = { stack_sink_failures };
-
-    ghost room = { stack_sink_room };
-
-    ghost reference = { λ _. 0 };
-
-    ghost before = { λ _. None };
+    ghost seen = { stack_sink_seen };
 
     #[inline(always)]
     fn put(&mut self, piece: &str) -> Result<(), StackFull> {
@@ -162,6 +133,7 @@ impl<const N: usize> Sink for StackSink<N> {
 
     // Most stretches and replacements are short.
     #[inline(always)]
+    #[tactic(auto, using(crate::proofs::Took::pieces))]
     fn put_segment(&mut self, segment: Segment<'_>) -> Result<(), StackFull> {
         match segment.new {
             Replacement::Small(text) => {

@@ -1,5 +1,5 @@
 //! The sink that appends to a string.
-ghost use Rattle.std.specs.Prelude.{◌≡◌, [], ◌++◌, Some};
+ghost use Rattle.std.specs.Prelude.{◌≡◌, [], ◌++◌};
 ghost use Rattle.std.specs.String.{string_bytes};
 
 use crate::ascii_texts::AsciiTexts;
@@ -52,25 +52,11 @@ impl<'a, A: Allocator> StringSink<'a, A> {
 }
 
 impl<A: Allocator> Sink for StringSink<'_, A> {
-    ghost use Rattle.hesc_sinks.specs.Room.{string_room};
-    ghost use Rattle.hesc_sinks.specs.Sinks.{
-      string_sink_failures,
-      string_sink_output,
-      string_sink_start,
-      string_sink_taken,
-    };
+    ghost use Rattle.hesc_sinks.specs.Sinks.{string_sink_seen};
 
     type Fault = AllocError;
 
-    ghost taken = { string_sink_taken };
-
-    ghost failures = { string_sink_failures };
-
-    ghost room = { λ sink. string_room (string_sink_output sink).now };
-
-    ghost reference = { λ sink. (string_sink_output sink).ghost_name };
-
-    ghost before = { λ sink. Some (string_bytes (string_sink_start sink)) };
+    ghost seen = { string_sink_seen };
 
     #[inline(always)]
     fn put(&mut self, piece: &str) -> Result<(), AllocError> {
@@ -88,6 +74,7 @@ impl<A: Allocator> Sink for StringSink<'_, A> {
 
     // As by default, and inlined.
     #[inline(always)]
+    #[tactic(auto, using(crate::proofs::Took::pieces))]
     fn put_segment(&mut self, segment: Segment<'_>) -> Result<(), AllocError> {
         self.put_some(segment.kept)?;
         self.put_some(segment.new.as_str())

@@ -1,5 +1,5 @@
 //! The sink that appends to a vector of bytes.
-ghost use Rattle.std.specs.Prelude.{◌≡◌, [], ◌++◌, Some};
+ghost use Rattle.std.specs.Prelude.{◌≡◌, [], ◌++◌};
 ghost use Rattle.std.specs.Str.{IsUtf8};
 
 use crate::ascii_texts::AsciiTexts;
@@ -54,25 +54,11 @@ impl<'a, A: Allocator> VecSink<'a, A> {
 }
 
 impl<A: Allocator> Sink for VecSink<'_, A> {
-    ghost use Rattle.hesc_sinks.specs.Room.{vec_room};
-    ghost use Rattle.hesc_sinks.specs.Sinks.{
-      vec_sink_failures,
-      vec_sink_output,
-      vec_sink_start,
-      vec_sink_taken,
-    };
+    ghost use Rattle.hesc_sinks.specs.Sinks.{vec_sink_seen};
 
     type Fault = AllocError;
 
-    ghost taken = { vec_sink_taken };
-
-    ghost failures = { vec_sink_failures };
-
-    ghost room = { λ sink. vec_room (vec_sink_output sink).now };
-
-    ghost reference = { λ sink. (vec_sink_output sink).ghost_name };
-
-    ghost before = { λ sink. Some (vec_sink_start sink).items };
+    ghost seen = { vec_sink_seen };
 
     #[inline(always)]
     fn put(&mut self, piece: &str) -> Result<(), AllocError> {
@@ -90,6 +76,7 @@ impl<A: Allocator> Sink for VecSink<'_, A> {
 
     // As by default, and inlined.
     #[inline(always)]
+    #[tactic(auto, using(crate::proofs::Took::pieces))]
     fn put_segment(&mut self, segment: Segment<'_>) -> Result<(), AllocError> {
         self.put_some(segment.kept)?;
         self.put_some(segment.new.as_str())

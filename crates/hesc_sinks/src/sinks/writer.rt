@@ -54,24 +54,11 @@ impl<'a, W: Write> WriterSink<'a, W> {
 }
 
 impl<W: Write> Sink for WriterSink<'_, W> {
-    ghost use Rattle.hesc_sinks.specs.Sinks.{
-      writer_sink_failures,
-      writer_sink_output,
-      writer_sink_start,
-      writer_sink_taken,
-    };
+    ghost use Rattle.hesc_sinks.specs.Sinks.{writer_sink_seen};
 
     type Fault = io::Error;
 
-    ghost taken = { writer_sink_taken };
-
-    ghost failures = { writer_sink_failures };
-
-    ghost room = { λ _. 0 };
-
-    ghost reference = { λ sink. (writer_sink_output sink).ghost_name };
-
-    ghost before = { λ sink. W.contents (writer_sink_start sink) };
+    ghost seen = { writer_sink_seen };
 
     #[inline(always)]
     fn put(&mut self, piece: &str) -> Result<(), io::Error> {

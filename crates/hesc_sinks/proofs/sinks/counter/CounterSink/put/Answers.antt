@@ -5,6 +5,3 @@ pub invariant_of-self : goal.invariant_of-self
 invariant_of-self c = record {
   counts = omega (arith, ap length c.after_taking-self.ensures.taken, length-append c.args.self.now.log.taken c.as_bytes.result.now, ap length c.as_bytes.ensures.value, c.in-Some.ensures, c.args.self.now.counts);
 }
-
-pub returns-in-None-clause-fits : goal.returns-in-None-clause-fits
-returns-in-None-clause-fits c fits = absurd (omega (arith, fits, c.in-None.ensures, c.args.self.now.counts))

@@ -1,4 +1,4 @@
-use Rattle.std.proofs.Common.{◌∙◌, ap, take, arith}
+use Rattle.std.proofs.Common.{◌∙◌, ap, take, refl, rules, arith}
 use Rattle.hesc_sinks.proofs.Stores.{filled_after, read_after, stored_within, taken_after}
 use Rattle.hesc_sinks.proofs.TakenText.{text_more}
 use Rattle.hesc_sinks.proofs.sinks.filled.FilledSinkSink.put_hits.Goals as goal
@@ -21,6 +21,12 @@ invariant_of-self-clause-utf8 g c =
 pub returns-clause-taken : goal.returns-clause-taken
 returns-clause-taken g c = record {
   put = c.store_hits-end.ensures.stored.put;
-  taken = read_after _ _ _ _ _ _ _ _ _ _ c.store_hits-end.ensures.stored.stored (omega arith) (omega arith) c.as_slice.ensures.value c.after_taking-self.ensures.taken;
+  took = record {
+    taken = read_after _ _ _ _ _ _ _ _ _ _ c.store_hits-end.ensures.stored.stored (omega arith) (omega arith) c.as_slice.ensures.value c.after_taking-self.ensures.taken;
+    failures = c.after_taking-self.ensures.failures;
+    room = omega (arith, c.store_hits-end.ensures.stored.stored.after);
+    same_reference = search rules;
+    same_before = refl;
+  };
   image = c.store_hits-end.ensures.stored.image;
 }

@@ -1,4 +1,4 @@
-use Rattle.std.proofs.Common.{◌∙◌, ap, take, arith}
+use Rattle.std.proofs.Common.{◌∙◌, ap, take, refl, rules, arith}
 use Rattle.hesc_sinks.proofs.Stores.{filled_after, read_after, stored_within, taken_after}
 use Rattle.hesc_sinks.proofs.TakenText.{text_more}
 use Rattle.hesc_sinks.proofs.sinks.filled.FilledSinkSink.put_in_place.Goals as goal
@@ -17,6 +17,11 @@ pub invariant_of-self-clause-utf8 : goal.invariant_of-self-clause-utf8
 invariant_of-self-clause-utf8 g c =
     text_more _ _ _ (read_after _ _ _ _ _ _ _ _ _ _ c.store_at-self.ensures.stored (omega arith) (omega arith) c.as_slice.ensures.value c.after_taking-self.ensures.taken) c.args.self.now.utf8 c.store_at-self.ensures.utf8
 
-pub returns-clause-ok_taken : goal.returns-clause-ok_taken
-returns-clause-ok_taken g c =
-    read_after _ _ _ _ _ _ _ _ _ _ c.store_at-self.ensures.stored (omega arith) (omega arith) c.as_slice.ensures.value c.after_taking-self.ensures.taken
+pub returns : goal.returns
+returns g c = record {
+  taken = read_after _ _ _ _ _ _ _ _ _ _ c.store_at-self.ensures.stored (omega arith) (omega arith) c.as_slice.ensures.value c.after_taking-self.ensures.taken;
+  failures = c.after_taking-self.ensures.failures;
+  room = omega (arith, c.store_at-self.ensures.stored.after);
+  same_reference = search rules;
+  same_before = refl;
+}

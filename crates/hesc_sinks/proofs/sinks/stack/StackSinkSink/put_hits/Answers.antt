@@ -1,4 +1,4 @@
-use Rattle.std.proofs.Common.{arith}
+use Rattle.std.proofs.Common.{refl, arith}
 use Rattle.hesc_sinks.proofs.Stores.{held_after, read_again, stored_within}
 use Rattle.hesc_sinks.proofs.TakenText.{text_more}
 use Rattle.hesc_sinks.proofs.sinks.stack.StackSinkSink.put_hits.Goals as goal
@@ -23,6 +23,12 @@ returns-clause-taken g c =
     let stored = c.store_hits-end.ensures.stored in
     record {
       put = stored.put;
-      taken = read_again _ _ _ _ _ _ _ stored.stored c.args.self.now.within c.after_taking-self.ensures.taken;
+      took = record {
+        taken = read_again _ _ _ _ _ _ _ stored.stored c.args.self.now.within c.after_taking-self.ensures.taken;
+        failures = c.after_taking-self.ensures.failures;
+        room = omega (arith, stored.stored.after, stored.stored.long);
+        same_reference = refl;
+        same_before = refl;
+      };
       image = stored.image;
     }
