@@ -2,3 +2,4 @@ pub mod HandsOn
 pub mod Seam
 mod Searches
 pub mod Segments
+pub mod Written

@@ -2,6 +2,7 @@
 use Rattle.std.specs.Prelude.{◌≡◌, ℕ, List, [], ◌++◌, IfNone, IfSome}
 use Rattle.hesc_specs.specs.Text.Changes.{Change, applied}
 use Rattle.hesc_sinks.specs.Hits.{ascii_rows}
+use Rattle.hesc_sinks.specs.Took.{Seen, TookAll}
 use Rattle.hesc_sinks.specs.declared.found.Found.{Found}
 use Rattle.hesc_engine.specs.Next.{IsNext}
 use Rattle.hesc_engine.specs.Rules.{BeginsAtSought, EndsWhereNoneBegins, ReplacesByRows}
@@ -24,7 +25,7 @@ BeginsWith source from found bytes =
     (changes_from : ℕ → List Change) → IsNext source from changes_from found → applied source from (changes_from from) ≡ bytes ++ applied source found.end (changes_from found.end)
 
 -- some bytes of what was to come were taken, and the others are still to come
-pub record TookFirst (coming later old new : List ℕ) : Type 0 where
+pub record TookFirst (coming later : List ℕ) (old new : Seen) : Type 0 where
   pub put : List ℕ
-  pub taken : new ≡ old ++ put
+  pub took : TookAll old new put
   pub left : coming ≡ put ++ later

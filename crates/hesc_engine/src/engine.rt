@@ -1,8 +1,8 @@
 //! The engine: each piece of a rule's text goes to a sink.
-ghost use Rattle.std.specs.Prelude.{◌≡◌, ◌≢◌, ◌≤◌, ◌<◌, ◌+◌, [], ◌++◌, length, IsOk, OnOk, OnErr};
+ghost use Rattle.std.specs.Prelude.{◌≤◌};
 ghost use Rattle.std.specs.Str.{IsCharBoundary};
-ghost use Rattle.hesc_specs.specs.Text.Beginning.{TookBeginning};
 ghost use Rattle.hesc_specs.specs.Text.Changes.{applied};
+ghost use Rattle.hesc_sinks.specs.Took.{Took};
 ghost use Rattle.hesc_engine.specs.Ahead.{IsAhead};
 ghost use Rattle.hesc_engine.specs.Searches.{IsSeekOf, TookFirst};
 
@@ -21,18 +21,7 @@ use hesc_sinks::sink::Sink;
 /// Of the encoder of text and `a<b` the sink takes `a&lt;b`.
 #[inline(always)]
 pub fn run<R: Rule, S: Sink>(rule: &R, text: &str, sink: &mut S) -> Result<(), S::Fault>
-    ensures ok_taken { OnOk result
-        (S.taken sink.new ≡ S.taken sink.old ++ R.made rule.now text.now) }
-    ensures ok_failures { OnOk result (S.failures sink.new ≡ S.failures sink.old) }
-    ensures err_some { OnErr result (R.made rule.now text.now ≢ []) }
-    ensures err_taken { OnErr result
-        (TookBeginning (S.taken sink.old) (S.taken sink.new) (R.made rule.now text.now)) }
-    ensures err_failures { OnErr result (S.failures sink.old < S.failures sink.new) }
-    ensures fits { length (R.made rule.now text.now) ≤ S.room sink.old → IsOk result }
-    ensures room { OnOk result
-        (S.room sink.old ≤ S.room sink.new + length (R.made rule.now text.now)) }
-    ensures same_reference { S.reference sink.new ≡ S.reference sink.old }
-    ensures same_before { S.before sink.new ≡ S.before sink.old }
+    ensures { Took (S.seen sink.old) (S.seen sink.new) (R.made rule.now text.now) result }
 {
     run_from(rule, text, 0, Ahead::nothing(text), sink)
 }
@@ -42,19 +31,8 @@ pub fn run<R: Rule, S: Sink>(rule: &R, text: &str, sink: &mut S) -> Result<(), S
 /// Of what the encoder of text makes of `a<b` the sink takes `a&lt;b`.
 #[inline(always)]
 pub fn run_made<R: Rule, S: Sink>(made: &Made<'_, R>, sink: &mut S) -> Result<(), S::Fault>
-    ensures ok_taken { OnOk result
-        (S.taken sink.new ≡ S.taken sink.old ++ R.made made.now.rule.now made.now.text.now) }
-    ensures ok_failures { OnOk result (S.failures sink.new ≡ S.failures sink.old) }
-    ensures err_some { OnErr result (R.made made.now.rule.now made.now.text.now ≢ []) }
-    ensures err_taken { OnErr result (TookBeginning (S.taken sink.old) (S.taken sink.new)
-        (R.made made.now.rule.now made.now.text.now)) }
-    ensures err_failures { OnErr result (S.failures sink.old < S.failures sink.new) }
-    ensures fits { length (R.made made.now.rule.now made.now.text.now) ≤ S.room sink.old
-        → IsOk result }
-    ensures room { OnOk result (S.room sink.old
-        ≤ S.room sink.new + length (R.made made.now.rule.now made.now.text.now)) }
-    ensures same_reference { S.reference sink.new ≡ S.reference sink.old }
-    ensures same_before { S.before sink.new ≡ S.before sink.old }
+    ensures { Took (S.seen sink.old) (S.seen sink.new)
+        (R.made made.now.rule.now made.now.text.now) result }
 {
     // What the rest takes is read first, so that it stays in registers.
     let (rule, text, from, ahead) = (made.rule, made.text, made.first.end, made.ahead);
@@ -75,18 +53,8 @@ fn run_from<R: Rule, S: Sink>(
 ) -> Result<(), S::Fault>
     requires boundary { IsCharBoundary text.now from }
     requires ahead { IsAhead (R.is_sought rule.now) text.now ahead }
-    ensures ok_taken { OnOk result (S.taken sink.new ≡ S.taken sink.old
-        ++ applied text.now from (R.changes_from rule.now text.now from)) }
-    ensures ok_failures { OnOk result (S.failures sink.new ≡ S.failures sink.old) }
-    ensures err_taken { OnErr result (TookBeginning (S.taken sink.old) (S.taken sink.new)
-        (applied text.now from (R.changes_from rule.now text.now from))) }
-    ensures err_failures { OnErr result (S.failures sink.old < S.failures sink.new) }
-    ensures fits { length (applied text.now from (R.changes_from rule.now text.now from))
-        ≤ S.room sink.old → IsOk result }
-    ensures room { OnOk result (S.room sink.old ≤ S.room sink.new
-        + length (applied text.now from (R.changes_from rule.now text.now from))) }
-    ensures same_reference { S.reference sink.new ≡ S.reference sink.old }
-    ensures same_before { S.before sink.new ≡ S.before sink.old }
+    ensures { Took (S.seen sink.old) (S.seen sink.new)
+        (applied text.now from (R.changes_from rule.now text.now from)) result }
 {
     let seek = seek_of(rule);
     let (mut place, mut known) = (from, ahead);
@@ -120,14 +88,9 @@ fn put_hits<R: Rule, S: Sink>(
     requires ahead { IsAhead (R.is_sought rule.now) text.now ahead }
     ensures taken { TookFirst (applied text.now from (R.changes_from rule.now text.now from))
         (applied text.now result (R.changes_from rule.now text.now result))
-        (S.taken sink.old) (S.taken sink.new) }
+        (S.seen sink.old) (S.seen sink.new) }
     ensures ordered { from ≤ result }
     ensures boundary { IsCharBoundary text.now result }
-    ensures failures { S.failures sink.new ≡ S.failures sink.old }
-    ensures room { S.room sink.old + length (S.taken sink.old)
-        ≤ S.room sink.new + length (S.taken sink.new) }
-    ensures same_reference { S.reference sink.new ≡ S.reference sink.old }
-    ensures same_before { S.before sink.new ≡ S.before sink.old }
 {
     let _rule = rule;
     match seek.texts {

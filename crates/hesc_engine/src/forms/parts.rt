@@ -2,6 +2,7 @@
 ghost use Rattle.std.specs.Prelude.{◌≡◌, ◌≤◌, ◌<◌, ◌-◌, ◌^◌, ℕ, List, [], ◌++◌, if◌then◌else◌, length, IfNone, IfOk, IfSome, IsOk, IsTrue, OnOk};
 ghost use Rattle.std.specs.Str.{IsUtf8};
 ghost use Rattle.std.specs.String.{string_bytes};
+ghost use Rattle.hesc_sinks.specs.Took.{Took};
 ghost use Rattle.hesc_engine.specs.Forms.{Appended, string_room, vec_room};
 
 use crate::forms::output::Output;
@@ -35,11 +36,7 @@ pub trait Parts {
     ///
     /// Of what the encoder of text makes of `a<b` it puts `a`, `&lt;` and `b`.
     fn put_into<S: Sink>(&self, sink: &mut S) -> Result<(), S::Fault>
-        ensures ok_taken { OnOk result (S.taken sink.new ≡ S.taken sink.old ++ text self.now) }
-        ensures ok_failures { OnOk result (S.failures sink.new ≡ S.failures sink.old) }
-        ensures fits { length (text self.now) ≤ S.room sink.old → IsOk result }
-        ensures same_reference { S.reference sink.new ≡ S.reference sink.old }
-        ensures same_before { S.before sink.new ≡ S.before sink.old };
+        ensures { Took (S.seen sink.old) (S.seen sink.new) (text self.now) result };
 
     /// How many bytes to have room for before the text is appended to an output that has room for
     /// `spare`: at least as many as it has, none where it has none, and no more than `spare` where
@@ -175,6 +172,7 @@ fn append_short<P: Parts, O: Output>(output: &mut O, parts: &P) -> Option<Result
 
 // A text that the array suffices for. The array is set up in this function and no other.
 #[inline(never)]
+#[tactic(auto, using(hesc_sinks::proofs::Took::outcomes))]
 fn append_whole<const N: usize, P: Parts, O: Output>(
     output: &mut O,
     parts: &P,
@@ -229,6 +227,7 @@ fn append_long<P: Parts, A: Allocator>(output: &mut Vec<u8, A>, parts: &P) -> Re
 // By one request for as much room as is found out first. A call of its own, so that a short text takes
 // no more registers than it needs.
 #[inline(never)]
+#[tactic(auto, using(hesc_sinks::proofs::Took::outcomes))]
 pub(crate) fn append_measured<P: Parts, A: Allocator>(
     output: &mut Vec<u8, A>,
     parts: &P,
@@ -253,6 +252,7 @@ pub(crate) fn append_measured<P: Parts, A: Allocator>(
 
 // Appends the text of the parts to the room that is there, or leaves the output as it was.
 #[inline(always)]
+#[tactic(auto, using(hesc_sinks::proofs::Took::outcomes))]
 fn put_in_room<P: Parts, A: Allocator>(output: &mut Vec<u8, A>, parts: &P) -> bool
     ensures items { output.new.items
         ≡ (if result then output.old.items ++ P.text parts.now else output.old.items) }

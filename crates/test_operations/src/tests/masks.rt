@@ -1,6 +1,5 @@
 //! How often a run hands a sink the mask of the changes ahead: no contract counts calls.
-ghost use Rattle.std.specs.Prelude.{◌-◌, ◌^◌, length, None};
-ghost use Rattle.hesc_engine.specs.Sinks.{counted, counter_failures};
+ghost use Rattle.hesc_engine.specs.Sinks.{counter_seen};
 
 use hesc_core::forms::made::Made;
 use hesc_core::rules::Escape;
@@ -29,15 +28,7 @@ impl Watcher {
 impl Sink for Watcher {
     type Fault = CountOverflow;
 
-    ghost taken = { λ sink. counted sink.counter };
-
-    ghost failures = { λ sink. counter_failures sink.counter };
-
-    ghost room = { λ sink. 2 ^ 64 - 1 - length (counted sink.counter) };
-
-    ghost reference = { λ _. 0 };
-
-    ghost before = { λ _. None };
+    ghost seen = { λ sink. counter_seen sink.counter };
 
     fn put(&mut self, piece: &str) -> Result<(), CountOverflow> {
         self.counter.put(piece)

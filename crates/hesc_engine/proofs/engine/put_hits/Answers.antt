@@ -11,7 +11,7 @@ returns-in-Some-clause-taken g c =
     let is_sought = g.R.Rule.is_sought c.args.rule.now in
     record {
       put = took.put;
-      taken = took.taken;
+      took = took.took;
       left = took.image is_sought (λ from. applied source from (changes from)) (c.hits_from.ensures is_sought source c.requires.boundary.0 c.requires.ahead)
           (replaces_all _ (g.R.Rule.begins_at c.args.rule.now) is_sought (g.R.Rule.changes_from c.args.rule.now) seek.begins (rw c.in-Some.is at c.requires.seek.replaces) source c.utf8.text);
     }
