@@ -1,8 +1,8 @@
 //! The rule of the encoder, and its text put into any sink.
-ghost use Rattle.std.specs.Prelude.{◌≡◌, ◌≤◌, ◌<◌, ◌+◌, ◌^◌, [], ◌++◌, length, slice_index, true, IfSome, IsOk, IsSome, OnErr, OnOk};
+ghost use Rattle.std.specs.Prelude.{◌≡◌, ◌<◌, ◌^◌, [], length, slice_index, true, IfSome, IsSome};
 ghost use Rattle.memchr.specs.Find.{is_byte};
 ghost use Rattle.hesc_specs.specs.Text.Ascii.{less_than};
-ghost use Rattle.hesc_specs.specs.Text.Beginning.{TookBeginning};
+ghost use Rattle.hesc_sinks.specs.Took.{Took};
 ghost use Rattle.hesc_engine.specs.Next.{IsChangeAt};
 ghost use Rattle.html_json.specs.Applied.{applied-json_changes};
 ghost use Rattle.html_json.specs.Encoding.{changes_at, json_changes, json_encoding};
@@ -74,15 +74,7 @@ pub fn escape_at(text: &str, place: usize) -> Found<'static>
 /// Of `"<"` the sink takes `"\u003C"`.
 #[inline(always)]
 pub fn put_json<S: Sink>(text: &str, sink: &mut S) -> Result<(), S::Fault>
-    ensures ok_taken { OnOk result (S.taken sink.new ≡ S.taken sink.old ++ json_encoding text.now) }
-    ensures ok_failures { OnOk result (S.failures sink.new ≡ S.failures sink.old) }
-    ensures err_taken { OnErr result
-        (TookBeginning (S.taken sink.old) (S.taken sink.new) (json_encoding text.now)) }
-    ensures fits { length (json_encoding text.now) ≤ S.room sink.old → IsOk result }
-    ensures room { OnOk result
-        (S.room sink.old ≤ S.room sink.new + length (json_encoding text.now)) }
-    ensures same_reference { S.reference sink.new ≡ S.reference sink.old }
-    ensures same_before { S.before sink.new ≡ S.before sink.old }
+    ensures { Took (S.seen sink.old) (S.seen sink.new) (json_encoding text.now) result }
 {
     run(&EncodeJson, text, sink)
 }

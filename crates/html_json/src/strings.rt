@@ -1,10 +1,10 @@
 //! Texts as strings of JSON, put into any sink.
-ghost use Rattle.std.specs.Prelude.{◌≡◌, ◌≤◌, ◌<◌, [], ◌++◌, length, slice_index, true, IsOk, OnErr, OnOk};
+ghost use Rattle.std.specs.Prelude.{◌≡◌, ◌<◌, [], length, slice_index, true};
 ghost use Rattle.std.specs.Char.{digit_char};
 ghost use Rattle.std.specs.Str.{IsUtf8};
 ghost use Rattle.json.specs.Print.{escape_letter, quoted};
-ghost use Rattle.hesc_specs.specs.Text.Beginning.{TookBeginning};
 ghost use Rattle.hesc_sinks.specs.Text.{small_text_bytes};
+ghost use Rattle.hesc_sinks.specs.Took.{Took};
 ghost use Rattle.hesc_engine.specs.Next.{IsChangeAt};
 ghost use Rattle.html_json.specs.AppliedStrings.{applied-content_changes};
 ghost use Rattle.html_json.specs.Encoding.{json_encoding};
@@ -114,17 +114,10 @@ fn hex(digit: u8) -> u8
 ///
 /// Of `a"<` the sink takes `"a\"\u003C"`.
 pub fn put_json_string<S: Sink>(text: &str, sink: &mut S) -> Result<(), S::Fault>
-    ensures ok_taken { OnOk result
-        (S.taken sink.new ≡ S.taken sink.old ++ json_encoding (quoted text.now)) }
-    ensures ok_failures { OnOk result (S.failures sink.new ≡ S.failures sink.old) }
-    ensures err_taken { OnErr result (TookBeginning (S.taken sink.old) (S.taken sink.new)
-        (json_encoding (quoted text.now))) }
+    ensures took { Took (S.seen sink.old) (S.seen sink.new) (json_encoding (quoted text.now)) result }
     ensures utf8 { IsUtf8 (quoted text.now) }
-    ensures same_reference { S.reference sink.new ≡ S.reference sink.old }
-    ensures same_before { S.before sink.new ≡ S.before sink.old }
 {
     sink.put("\"")?;
     run(&EncodeContent, text, sink)?;
-    sink.put("\"")?;
-    Ok(())
+    sink.put("\"")
 }
