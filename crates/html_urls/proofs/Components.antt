@@ -1,5 +1,5 @@
 -- What a component's bytes are, and that it decodes to its text.
-use Rattle.std.proofs.Common.{◌≡◌, ◌↔◌, subst, ◌≤◌, ◌+◌, ◌*◌, ℕ, true, false, not, List, [], ◌∷◌, ◌++◌, length, if◌then◌else◌, length-append, take, drop, take-append-drop, append-nil, sym, All, refl, ap, ◌∙◌, arith, inl, inr}
+use Rattle.std.proofs.Common.{◌≡◌, ◌↔◌, subst, ◌≤◌, ◌+◌, ◌*◌, ℕ, true, false, not, List, [], ◌∷◌, ◌++◌, length, if◌then◌else◌, length-append, take, drop, take-append-drop, sym, All, refl, ap, ◌∙◌, arith, inl, inr}
 use Rattle.std.proofs.lemmas.Bool.{cases_Bool, cond-true, cond-false}
 use Rattle.std.proofs.lemmas.Bool.Decides.{nat_tests}
 use Rattle.std.proofs.lemmas.List.Elements.{All-append, All-drop, All-take, All-weaker}
@@ -10,7 +10,8 @@ use Rattle.percent_encoding.specs.AsciiSet.{contains, should_percent_encode}
 use Rattle.percent_encoding.proofs.PercentLemmas.{IsByte, IsEscapeByte, All-percent_encode, percent_encode-append, percent_encode-nil, percent_encode_escaped, percent_encode_kept, percent_encode_unchanged, round_trip}
 use Rattle.url.proofs.InputLemmas.{IsNot, Passes}
 use Rattle.url.proofs.SetLemmas.{outside_pass, passing_outside, is_escape_byte, passes_from_kept, encoded_is_kept}
-use Rattle.hesc_sinks.proofs.Progress.{Progress}
+use Rattle.hesc_sinks.specs.Took.{Seen, TookAll}
+use Rattle.hesc_sinks.proofs.Took.{Progress, Progress-all}
 use Rattle.html_urls.specs.declared.component.TheConstants.{ADDRESS, COMPONENT}
 use Rattle.html_urls.specs.declared.place.UrlPlace.{UrlPlace}
 use Rattle.html_urls.specs.declared.place.UrlPlace.TheVariants.{Path, OpaquePath, Query, Fragment}
@@ -113,9 +114,8 @@ encoded_parts set text front back n is_front is_back =
     ∙ ap (λ l. percent_encode set front ++ percent_encode set l) (sym is_back)
 
 -- after the last part
-pub all_taken : (set : AsciiSet) (old now rest text : List ℕ) → length rest ≡ 0 → Progress old now (percent_encode set rest) (percent_encode set text) → now ≡ old ++ percent_encode set text
-all_taken set old now [] text none progress =
-    progress.taken ∙ ap (λ l. old ++ l) (sym (append-nil progress.done) ∙ ap (λ l. progress.done ++ l) (sym (percent_encode-nil set)) ∙ progress.left)
+pub all_taken : (set : AsciiSet) (old now : Seen) (rest text : List ℕ) → length rest ≡ 0 → Progress old now (percent_encode set rest) (percent_encode set text) → TookAll old now (percent_encode set text)
+all_taken set old now [] text none progress = Progress-all progress (percent_encode-nil set)
 all_taken set old now (b ∷ rest) text none progress = absurd (omega (arith, none))
 
 -- a text in two parts is its own component where both are

@@ -4,6 +4,7 @@ pub mod Bytes
 pub mod Components
 pub mod Encoded
 pub mod Filled
+pub mod FirstParts
 pub mod Links
 pub mod OpenEscapes
 pub mod Paths

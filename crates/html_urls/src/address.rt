@@ -1,8 +1,8 @@
 //! A text as it is written in a part of a URL: as a component, and in an opaque path as an address or a
 //! number.
-ghost use Rattle.std.specs.Prelude.{◌≡◌, ◌≤◌, ◌<◌, ◌+◌, ◌++◌, IsOk, MatchOption, OnErr, OnOk, length};
+ghost use Rattle.std.specs.Prelude.{◌≡◌, ◌≤◌, ◌<◌, ◌++◌, MatchOption, length};
 ghost use Rattle.std.specs.List.{position_or_len};
-ghost use Rattle.hesc_specs.specs.Text.Beginning.{TookBeginning};
+ghost use Rattle.hesc_sinks.specs.Took.{Took};
 ghost use Rattle.html_urls.specs.Components as spec;
 ghost use Rattle.html_urls.specs.Components.{IsPiece, address, component, component_at};
 
@@ -18,15 +18,7 @@ use hesc_engine::Sink;
 ///
 /// Of `a+b@c?d` the sink takes `a+b@c%3Fd` in an opaque path, and `a%2Bb%40c%3Fd` in a query.
 pub fn put_component_at<S: Sink>(place: UrlPlace, text: &str, sink: &mut S) -> Result<(), S::Fault>
-    ensures ok_taken { OnOk result (S.taken sink.new ≡ S.taken sink.old ++ component_at place text.now) }
-    ensures ok_failures { OnOk result (S.failures sink.new ≡ S.failures sink.old) }
-    ensures err_taken { OnErr result
-        (TookBeginning (S.taken sink.old) (S.taken sink.new) (component_at place text.now)) }
-    ensures err_failures { OnErr result (S.failures sink.old < S.failures sink.new) }
-    ensures fits { length (component_at place text.now) ≤ S.room sink.old → IsOk result }
-    ensures room { OnOk result (S.room sink.old ≤ S.room sink.new + length (component_at place text.now)) }
-    ensures same_reference { S.reference sink.new ≡ S.reference sink.old }
-    ensures same_before { S.before sink.new ≡ S.before sink.old }
+    ensures { Took (S.seen sink.old) (S.seen sink.new) (component_at place text.now) result }
 {
     match place {
         UrlPlace::OpaquePath => put_address(text.as_bytes(), sink),
@@ -36,15 +28,7 @@ pub fn put_component_at<S: Sink>(place: UrlPlace, text: &str, sink: &mut S) -> R
 
 // Its signs, and the components between them.
 fn put_address<S: Sink>(bytes: &[u8], sink: &mut S) -> Result<(), S::Fault>
-    ensures ok_taken { OnOk result (S.taken sink.new ≡ S.taken sink.old ++ address bytes.now) }
-    ensures ok_failures { OnOk result (S.failures sink.new ≡ S.failures sink.old) }
-    ensures err_taken { OnErr result
-        (TookBeginning (S.taken sink.old) (S.taken sink.new) (address bytes.now)) }
-    ensures err_failures { OnErr result (S.failures sink.old < S.failures sink.new) }
-    ensures fits { length (address bytes.now) ≤ S.room sink.old → IsOk result }
-    ensures room { OnOk result (S.room sink.old ≤ S.room sink.new + length (address bytes.now)) }
-    ensures same_reference { S.reference sink.new ≡ S.reference sink.old }
-    ensures same_before { S.before sink.new ≡ S.before sink.old }
+    ensures { Took (S.seen sink.old) (S.seen sink.new) (address bytes.now) result }
 {
     let mut rest = bytes;
     'putting: while !rest.is_empty() {
@@ -68,15 +52,7 @@ fn first_piece(bytes: &[u8]) -> (&[u8], &[u8])
 
 fn put_piece<S: Sink>(piece: &[u8], sink: &mut S) -> Result<(), S::Fault>
     requires { IsPiece piece.now }
-    ensures ok_taken { OnOk result (S.taken sink.new ≡ S.taken sink.old ++ address piece.now) }
-    ensures ok_failures { OnOk result (S.failures sink.new ≡ S.failures sink.old) }
-    ensures err_taken { OnErr result
-        (TookBeginning (S.taken sink.old) (S.taken sink.new) (address piece.now)) }
-    ensures err_failures { OnErr result (S.failures sink.old < S.failures sink.new) }
-    ensures fits { length (address piece.now) ≤ S.room sink.old → IsOk result }
-    ensures room { OnOk result (S.room sink.old ≤ S.room sink.new + length (address piece.now)) }
-    ensures same_reference { S.reference sink.new ≡ S.reference sink.old }
-    ensures same_before { S.before sink.new ≡ S.before sink.old }
+    ensures { Took (S.seen sink.old) (S.seen sink.new) (address piece.now) result }
 {
     match sign_of(piece) {
         Some(sign) => sink.put(sign),

@@ -1,6 +1,6 @@
 //! A text as one component of a URL, put into any sink.
-ghost use Rattle.std.specs.Prelude.{◌≡◌, ◌≤◌, ◌<◌, ◌+◌, ◌++◌, ◌↔◌, IsOk, IsTrue, OnErr, OnOk, length};
-ghost use Rattle.hesc_specs.specs.Text.Beginning.{TookBeginning};
+ghost use Rattle.std.specs.Prelude.{◌≤◌, ◌↔◌, IsTrue, length};
+ghost use Rattle.hesc_sinks.specs.Took.{Took};
 ghost use Rattle.html_urls.specs.Components.{IsUnreservedText, component};
 
 pub(crate) mod blocks;
@@ -63,30 +63,14 @@ impl Parts for Component<'_> {
 ///
 /// Of `a&b` the sink takes `a%26b`.
 pub fn put_component<S: Sink>(text: &str, sink: &mut S) -> Result<(), S::Fault>
-    ensures ok_taken { OnOk result (S.taken sink.new ≡ S.taken sink.old ++ component text.now) }
-    ensures ok_failures { OnOk result (S.failures sink.new ≡ S.failures sink.old) }
-    ensures err_taken { OnErr result
-        (TookBeginning (S.taken sink.old) (S.taken sink.new) (component text.now)) }
-    ensures err_failures { OnErr result (S.failures sink.old < S.failures sink.new) }
-    ensures fits { length (component text.now) ≤ S.room sink.old → IsOk result }
-    ensures room { OnOk result (S.room sink.old ≤ S.room sink.new + length (component text.now)) }
-    ensures same_reference { S.reference sink.new ≡ S.reference sink.old }
-    ensures same_before { S.before sink.new ≡ S.before sink.old }
+    ensures { Took (S.seen sink.old) (S.seen sink.new) (component text.now) result }
 {
     put_bytes(text.as_bytes(), sink)
 }
 
 /// The same of bytes.
 pub(crate) fn put_bytes<S: Sink>(bytes: &[u8], sink: &mut S) -> Result<(), S::Fault>
-    ensures ok_taken { OnOk result (S.taken sink.new ≡ S.taken sink.old ++ component bytes.now) }
-    ensures ok_failures { OnOk result (S.failures sink.new ≡ S.failures sink.old) }
-    ensures err_taken { OnErr result
-        (TookBeginning (S.taken sink.old) (S.taken sink.new) (component bytes.now)) }
-    ensures err_failures { OnErr result (S.failures sink.old < S.failures sink.new) }
-    ensures fits { length (component bytes.now) ≤ S.room sink.old → IsOk result }
-    ensures room { OnOk result (S.room sink.old ≤ S.room sink.new + length (component bytes.now)) }
-    ensures same_reference { S.reference sink.new ≡ S.reference sink.old }
-    ensures same_before { S.before sink.new ≡ S.before sink.old }
+    ensures { Took (S.seen sink.old) (S.seen sink.new) (component bytes.now) result }
 {
     let mut rest = bytes;
     'putting: while !rest.is_empty() {
@@ -100,15 +84,7 @@ pub(crate) fn put_bytes<S: Sink>(bytes: &[u8], sink: &mut S) -> Result<(), S::Fa
 #[inline(always)]
 fn put_block<S: Sink>(block: &[u8], sink: &mut S) -> Result<(), S::Fault>
     requires { length block.now ≤ 64 }
-    ensures ok_taken { OnOk result (S.taken sink.new ≡ S.taken sink.old ++ component block.now) }
-    ensures ok_failures { OnOk result (S.failures sink.new ≡ S.failures sink.old) }
-    ensures err_taken { OnErr result
-        (TookBeginning (S.taken sink.old) (S.taken sink.new) (component block.now)) }
-    ensures err_failures { OnErr result (S.failures sink.new ≡ S.failures sink.old + 1) }
-    ensures fits { length (component block.now) ≤ S.room sink.old → IsOk result }
-    ensures room { OnOk result (S.room sink.old ≤ S.room sink.new + length (component block.now)) }
-    ensures same_reference { S.reference sink.new ≡ S.reference sink.old }
-    ensures same_before { S.before sink.new ≡ S.before sink.old }
+    ensures { Took (S.seen sink.old) (S.seen sink.new) (component block.now) result }
 {
     if is_unreserved_block(block) {
         return sink.put(kept_block(block));
@@ -124,15 +100,7 @@ fn put_block<S: Sink>(block: &[u8], sink: &mut S) -> Result<(), S::Fault>
 #[inline(never)]
 fn put_long_block<S: Sink>(block: &[u8], sink: &mut S) -> Result<(), S::Fault>
     requires { length block.now ≤ 64 }
-    ensures ok_taken { OnOk result (S.taken sink.new ≡ S.taken sink.old ++ component block.now) }
-    ensures ok_failures { OnOk result (S.failures sink.new ≡ S.failures sink.old) }
-    ensures err_taken { OnErr result
-        (TookBeginning (S.taken sink.old) (S.taken sink.new) (component block.now)) }
-    ensures err_failures { OnErr result (S.failures sink.new ≡ S.failures sink.old + 1) }
-    ensures fits { length (component block.now) ≤ S.room sink.old → IsOk result }
-    ensures room { OnOk result (S.room sink.old ≤ S.room sink.new + length (component block.now)) }
-    ensures same_reference { S.reference sink.new ≡ S.reference sink.old }
-    ensures same_before { S.before sink.new ≡ S.before sink.old }
+    ensures { Took (S.seen sink.old) (S.seen sink.new) (component block.now) result }
 {
     sink.put_in_place(&MadeBlock { bytes: block })
 }
