@@ -1,7 +1,8 @@
 //! What a session held until a piece decided about it, and what is decided of the piece, as parts.
-ghost use Rattle.std.specs.Prelude.{◌≡◌, ◌≤◌, ◌<◌, ◌+◌, false, ◌++◌, length, IsOk, IsTrue, OnOk};
+ghost use Rattle.std.specs.Prelude.{◌≡◌, ◌≤◌, ◌<◌, false, ◌++◌, length, IsTrue};
 ghost use Rattle.std.specs.Str.{IsAscii};
 ghost use Rattle.hesc_specs.specs.Bodies.Openings.{is_opening};
+ghost use Rattle.hesc_sinks.specs.Took.{Took};
 ghost use Rattle.hesc_specs.specs.Bodies.Sessions.{is_partial, flushed, decided_encoding};
 
 use crate::body_encoder::carry::MOST_BYTES;
@@ -40,6 +41,7 @@ impl Parts for Flushed<'_> {
     ghost text = { λ parts.
         flushed parts.opens parts.held.now ++ decided_encoding parts.element parts.piece.now };
 
+    #[tactic(auto, using(hesc_sinks::proofs::Took::pieces))]
     fn put_into<S: Sink>(&self, sink: &mut S) -> Result<(), S::Fault> {
         put_held(self.held, self.opens, sink)?;
         run(&EncodeDecided(self.element), self.piece, sink)
@@ -57,16 +59,11 @@ impl Parts for Flushed<'_> {
     }
 }
 
+#[tactic(auto, using(hesc_sinks::proofs::Took::pieces))]
 fn put_held<S: Sink>(held: &str, opens: bool, sink: &mut S) -> Result<(), S::Fault>
     requires some { IsTrue opens → 0 < length held.now }
     requires ascii { IsAscii held.now }
-    ensures ok_taken { OnOk result (S.taken sink.new ≡ S.taken sink.old ++ flushed opens held.now) }
-    ensures ok_failures { OnOk result (S.failures sink.new ≡ S.failures sink.old) }
-    ensures room { OnOk result
-        (S.room sink.old ≤ S.room sink.new + length (flushed opens held.now)) }
-    ensures fits { length (flushed opens held.now) ≤ S.room sink.old → IsOk result }
-    ensures same_reference { S.reference sink.new ≡ S.reference sink.old }
-    ensures same_before { S.before sink.new ≡ S.before sink.old }
+    ensures { Took (S.seen sink.old) (S.seen sink.new) (flushed opens held.now) result }
 {
     if !opens {
         return sink.put(held);
