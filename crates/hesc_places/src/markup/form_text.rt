@@ -1,6 +1,7 @@
 //! The text of a form, as parts.
-ghost use Rattle.std.specs.Prelude.{◌≡◌, ◌≤◌, ◌<◌, ◌+◌, ◌-◌, ◌^◌, ◌++◌, length, map, IsOk, OnOk};
+ghost use Rattle.std.specs.Prelude.{◌≡◌, ◌≤◌, ◌<◌, ◌-◌, ◌^◌, length, map};
 ghost use Rattle.std.specs.List.{flat_map};
+ghost use Rattle.hesc_sinks.specs.Took.{Took};
 ghost use Rattle.hesc_places.specs.Pages.FormTexts.{
   attribute_text,
   form_text,
@@ -82,15 +83,8 @@ fn most_attribute(attribute: Attribute) -> usize
 }
 
 fn put_attributes<S: Sink>(attributes: &[Attribute], sink: &mut S) -> Result<(), S::Fault>
-    ensures ok_taken { OnOk result (S.taken sink.new
-        ≡ S.taken sink.old ++ flat_map attribute_text (map written attributes.now)) }
-    ensures ok_failures { OnOk result (S.failures sink.new ≡ S.failures sink.old) }
-    ensures room { OnOk result (S.room sink.old
-        ≤ S.room sink.new + length (flat_map attribute_text (map written attributes.now))) }
-    ensures fits { length (flat_map attribute_text (map written attributes.now))
-        ≤ S.room sink.old → IsOk result }
-    ensures same_reference { S.reference sink.new ≡ S.reference sink.old }
-    ensures same_before { S.before sink.new ≡ S.before sink.old }
+    ensures { Took (S.seen sink.old) (S.seen sink.new)
+        (flat_map attribute_text (map written attributes.now)) result }
 {
     let mut rest = attributes;
     'attributes: while let [attribute, others @ ..] = rest {
@@ -102,15 +96,8 @@ fn put_attributes<S: Sink>(attributes: &[Attribute], sink: &mut S) -> Result<(),
 
 // An attribute, with the space before it.
 fn put_attribute<S: Sink>(attribute: Attribute, sink: &mut S) -> Result<(), S::Fault>
-    ensures ok_taken { OnOk result
-        (S.taken sink.new ≡ S.taken sink.old ++ attribute_text (written attribute.entry)) }
-    ensures ok_failures { OnOk result (S.failures sink.new ≡ S.failures sink.old) }
-    ensures room { OnOk result (S.room sink.old
-        ≤ S.room sink.new + length (attribute_text (written attribute.entry))) }
-    ensures fits { length (attribute_text (written attribute.entry)) ≤ S.room sink.old
-        → IsOk result }
-    ensures same_reference { S.reference sink.new ≡ S.reference sink.old }
-    ensures same_before { S.before sink.new ≡ S.before sink.old }
+    ensures { Took (S.seen sink.old) (S.seen sink.new)
+        (attribute_text (written attribute.entry)) result }
 {
     sink.put(" ")?;
     sink.put(attribute.name)?;
@@ -119,14 +106,7 @@ fn put_attribute<S: Sink>(attribute: Attribute, sink: &mut S) -> Result<(), S::F
 }
 
 fn put_value<S: Sink>(quoting: Quoting, value: &str, sink: &mut S) -> Result<(), S::Fault>
-    ensures ok_taken { OnOk result
-        (S.taken sink.new ≡ S.taken sink.old ++ value_text quoting value.now) }
-    ensures ok_failures { OnOk result (S.failures sink.new ≡ S.failures sink.old) }
-    ensures room { OnOk result
-        (S.room sink.old ≤ S.room sink.new + length (value_text quoting value.now)) }
-    ensures fits { length (value_text quoting value.now) ≤ S.room sink.old → IsOk result }
-    ensures same_reference { S.reference sink.new ≡ S.reference sink.old }
-    ensures same_before { S.before sink.new ≡ S.before sink.old }
+    ensures { Took (S.seen sink.old) (S.seen sink.new) (value_text quoting value.now) result }
 {
     match quoting {
         Quoting::Unquoted => run(&Encoder::UnquotedAttribute, value, sink),

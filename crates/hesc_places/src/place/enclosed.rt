@@ -1,5 +1,6 @@
 //! What an encoder writes for a text, between the marks of a place, as parts.
-ghost use Rattle.std.specs.Prelude.{◌≡◌, ◌≤◌, ◌<◌, ◌+◌, ◌-◌, ◌^◌, ◌++◌, length, IsOk, OnOk};
+ghost use Rattle.std.specs.Prelude.{◌≤◌, ◌<◌, ◌-◌, ◌^◌, ◌++◌, length};
+ghost use Rattle.hesc_sinks.specs.Took.{Took};
 ghost use Rattle.html_escape.specs.Encoders.{encoded};
 ghost use Rattle.html_escape.specs.declared.encoder.Encoder.{Encoder};
 ghost use Rattle.hesc_places.specs.Places.Enclosed.{enclosed};
@@ -83,6 +84,7 @@ pub(crate) fn most_encoded(text: &str) -> usize
 }
 
 /// Puts what the encoder writes for the text, between two others.
+#[tactic(auto, using(hesc_sinks::proofs::Took::pieces))]
 pub(crate) fn put_between<S: Sink>(
     before: &str,
     encoder: Encoder,
@@ -90,15 +92,8 @@ pub(crate) fn put_between<S: Sink>(
     after: &str,
     sink: &mut S,
 ) -> Result<(), S::Fault>
-    ensures ok_taken { OnOk result (S.taken sink.new
-        ≡ S.taken sink.old ++ (before.now ++ (encoded encoder text.now ++ after.now))) }
-    ensures ok_failures { OnOk result (S.failures sink.new ≡ S.failures sink.old) }
-    ensures room { OnOk result (S.room sink.old
-        ≤ S.room sink.new + length (before.now ++ (encoded encoder text.now ++ after.now))) }
-    ensures fits { length (before.now ++ (encoded encoder text.now ++ after.now))
-        ≤ S.room sink.old → IsOk result }
-    ensures same_reference { S.reference sink.new ≡ S.reference sink.old }
-    ensures same_before { S.before sink.new ≡ S.before sink.old }
+    ensures { Took (S.seen sink.old) (S.seen sink.new)
+        (before.now ++ (encoded encoder text.now ++ after.now)) result }
 {
     sink.put(before)?;
     run(&encoder, text, sink)?;

@@ -1,4 +1,7 @@
 use Rattle.hesc_places.proofs.markup.form_text.put_value.Goals as goal
 
-pub returns-in-Single-clause-ok_taken : goal.returns-in-Single-clause-ok_taken
-returns-in-Single-clause-ok_taken g c = rw c.in-Single.is c.put_between.ensures.ok_taken
+pub returns-in-Single : goal.returns-in-Single
+returns-in-Single g c = rw c.in-Single.is c.put_between.ensures
+
+pub returns-in-Double : goal.returns-in-Double
+returns-in-Double g c = rw c.in-Double.is c.put_between-in-Double.ensures
