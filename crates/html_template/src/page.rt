@@ -1,8 +1,8 @@
 //! The page of pieces and texts, as parts that are put.
-ghost use Rattle.std.specs.Prelude.{◌≡◌, [], ◌<◌, ◌≤◌, ◌+◌, ◌^◌, ◌++◌, length, map, IfSome, IsOk, IsSome, OnErr, OnOk};
+ghost use Rattle.std.specs.Prelude.{◌≡◌, [], ◌<◌, ◌^◌, length, map, IfSome, IsSome};
 ghost use Rattle.std.specs.List.{list_all};
-ghost use Rattle.hesc_specs.specs.Text.Beginning.{TookBeginning};
 ghost use Rattle.hesc_specs.specs.Text.Escaped.{escaped};
+ghost use Rattle.hesc_sinks.specs.Took.{Took};
 ghost use Rattle.hesc_engine.specs.Forms.{WritesText};
 ghost use Rattle.html_template.specs.Slots.{in_quotes, json_of};
 ghost use Rattle.html_template.specs.Templates.{chunk_of, page, written};
@@ -120,15 +120,8 @@ fn text_length(slot: &StoredSlot, text: &str) -> Option<usize>
 }
 
 fn put_pieces<T: Texts, S: Sink>(pieces: &[Stored], texts: &T, sink: &mut S) -> Result<(), S::Fault>
-    ensures ok_taken { OnOk result (S.taken sink.new
-        ≡ S.taken sink.old ++ page (map chunk_of pieces.now) (T.list texts.now)) }
-    ensures ok_failures { OnOk result (S.failures sink.new ≡ S.failures sink.old) }
-    ensures err_taken { OnErr result (TookBeginning (S.taken sink.old) (S.taken sink.new)
-        (page (map chunk_of pieces.now) (T.list texts.now))) }
-    ensures fits { length (page (map chunk_of pieces.now) (T.list texts.now))
-        ≤ S.room sink.old → IsOk result }
-    ensures same_reference { S.reference sink.new ≡ S.reference sink.old }
-    ensures same_before { S.before sink.new ≡ S.before sink.old }
+    ensures { Took (S.seen sink.old) (S.seen sink.new)
+        (page (map chunk_of pieces.now) (T.list texts.now)) result }
 {
     let mut rest = pieces;
     let mut left = *texts;
@@ -153,14 +146,7 @@ fn put_pieces<T: Texts, S: Sink>(pieces: &[Stored], texts: &T, sink: &mut S) -> 
 /// Of `<p>` it puts `<p>`.
 #[inline(always)]
 pub fn put_markup<S: Sink>(markup: &StoredMarkup<'_>, sink: &mut S) -> Result<(), S::Fault>
-    ensures ok_taken { OnOk result (S.taken sink.new ≡ S.taken sink.old ++ markup.now.text.now) }
-    ensures ok_failures { OnOk result (S.failures sink.new ≡ S.failures sink.old) }
-    ensures err_taken { OnErr result
-        (TookBeginning (S.taken sink.old) (S.taken sink.new) markup.now.text.now) }
-    ensures fits { length markup.now.text.now ≤ S.room sink.old → IsOk result }
-    ensures room { OnOk result (S.room sink.old ≤ S.room sink.new + length markup.now.text.now) }
-    ensures same_reference { S.reference sink.new ≡ S.reference sink.old }
-    ensures same_before { S.before sink.new ≡ S.before sink.old }
+    ensures { Took (S.seen sink.old) (S.seen sink.new) markup.now.text.now result }
 {
     match markup.as_stretch() {
         Some(segment) => sink.put_stretch(segment),
@@ -174,17 +160,8 @@ pub fn put_markup<S: Sink>(markup: &StoredMarkup<'_>, sink: &mut S) -> Result<()
 /// Of `a<b` in text it puts `a&lt;b`.
 #[inline(always)]
 pub fn put_text<S: Sink>(slot: &StoredSlot, text: &str, sink: &mut S) -> Result<(), S::Fault>
-    ensures ok_taken { OnOk result (S.taken sink.new
-        ≡ S.taken sink.old ++ written slot.now.place slot.now.kind text.now) }
-    ensures ok_failures { OnOk result (S.failures sink.new ≡ S.failures sink.old) }
-    ensures err_taken { OnErr result (TookBeginning (S.taken sink.old) (S.taken sink.new)
-        (written slot.now.place slot.now.kind text.now)) }
-    ensures fits { length (written slot.now.place slot.now.kind text.now) ≤ S.room sink.old
-        → IsOk result }
-    ensures room { OnOk result (S.room sink.old
-        ≤ S.room sink.new + length (written slot.now.place slot.now.kind text.now)) }
-    ensures same_reference { S.reference sink.new ≡ S.reference sink.old }
-    ensures same_before { S.before sink.new ≡ S.before sink.old }
+    ensures { Took (S.seen sink.old) (S.seen sink.new)
+        (written slot.now.place slot.now.kind text.now) result }
 {
     match slot.kind {
         SlotKind::Text => put_escaped(slot.class, text, sink),
@@ -195,17 +172,8 @@ pub fn put_text<S: Sink>(slot: &StoredSlot, text: &str, sink: &mut S) -> Result<
 // The same of a slot of any kind. It is called, so that a text that is escaped makes no room for the others.
 #[inline(never)]
 fn put_kind<S: Sink>(slot: &StoredSlot, text: &str, sink: &mut S) -> Result<(), S::Fault>
-    ensures ok_taken { OnOk result (S.taken sink.new
-        ≡ S.taken sink.old ++ written slot.now.place slot.now.kind text.now) }
-    ensures ok_failures { OnOk result (S.failures sink.new ≡ S.failures sink.old) }
-    ensures err_taken { OnErr result (TookBeginning (S.taken sink.old) (S.taken sink.new)
-        (written slot.now.place slot.now.kind text.now)) }
-    ensures fits { length (written slot.now.place slot.now.kind text.now) ≤ S.room sink.old
-        → IsOk result }
-    ensures room { OnOk result (S.room sink.old
-        ≤ S.room sink.new + length (written slot.now.place slot.now.kind text.now)) }
-    ensures same_reference { S.reference sink.new ≡ S.reference sink.old }
-    ensures same_before { S.before sink.new ≡ S.before sink.old }
+    ensures { Took (S.seen sink.old) (S.seen sink.new)
+        (written slot.now.place slot.now.kind text.now) result }
 {
     match slot.kind {
         SlotKind::UrlPart(part) => put_component_at(part.place, text, sink),
@@ -241,35 +209,17 @@ fn is_blank(bytes: &[u8]) -> bool
 
 // Puts what the encoder of the class makes of a text, between two `"`.
 fn put_literal<S: Sink>(class: Class, text: &str, sink: &mut S) -> Result<(), S::Fault>
-    ensures ok_taken { OnOk result (S.taken sink.new
-        ≡ S.taken sink.old ++ in_quotes (escaped class text.now)) }
-    ensures ok_failures { OnOk result (S.failures sink.new ≡ S.failures sink.old) }
-    ensures err_taken { OnErr result
-        (TookBeginning (S.taken sink.old) (S.taken sink.new) (in_quotes (escaped class text.now))) }
-    ensures fits { length (in_quotes (escaped class text.now)) ≤ S.room sink.old → IsOk result }
-    ensures room { OnOk result
-        (S.room sink.old ≤ S.room sink.new + length (in_quotes (escaped class text.now))) }
-    ensures same_reference { S.reference sink.new ≡ S.reference sink.old }
-    ensures same_before { S.before sink.new ≡ S.before sink.old }
+    ensures { Took (S.seen sink.old) (S.seen sink.new) (in_quotes (escaped class text.now)) result }
 {
     sink.put("\"")?;
     put_escaped(class, text, sink)?;
-    sink.put("\"")?;
-    Ok(())
+    sink.put("\"")
 }
 
 // Puts what the encoder of the class makes of a text. Most texts stay as they are.
 #[inline(always)]
 fn put_escaped<S: Sink>(class: Class, text: &str, sink: &mut S) -> Result<(), S::Fault>
-    ensures ok_taken { OnOk result (S.taken sink.new ≡ S.taken sink.old ++ escaped class text.now) }
-    ensures ok_failures { OnOk result (S.failures sink.new ≡ S.failures sink.old) }
-    ensures err_taken { OnErr result
-        (TookBeginning (S.taken sink.old) (S.taken sink.new) (escaped class text.now)) }
-    ensures fits { length (escaped class text.now) ≤ S.room sink.old → IsOk result }
-    ensures room { OnOk result
-        (S.room sink.old ≤ S.room sink.new + length (escaped class text.now)) }
-    ensures same_reference { S.reference sink.new ≡ S.reference sink.old }
-    ensures same_before { S.before sink.new ≡ S.before sink.old }
+    ensures { Took (S.seen sink.old) (S.seen sink.new) (escaped class text.now) result }
 {
     let rule = Escape(class);
     match Made::of(&rule, text) {
@@ -282,16 +232,7 @@ fn put_escaped<S: Sink>(class: Class, text: &str, sink: &mut S) -> Result<(), S:
 #[inline(always)]
 fn put_kept<R: Rule, S: Sink>(rule: &R, text: &str, sink: &mut S) -> Result<(), S::Fault>
     requires { R.changes_from rule.now text.now 0 ≡ [] }
-    ensures ok_taken { OnOk result
-        (S.taken sink.new ≡ S.taken sink.old ++ R.made rule.now text.now) }
-    ensures ok_failures { OnOk result (S.failures sink.new ≡ S.failures sink.old) }
-    ensures err_taken { OnErr result
-        (TookBeginning (S.taken sink.old) (S.taken sink.new) (R.made rule.now text.now)) }
-    ensures fits { length (R.made rule.now text.now) ≤ S.room sink.old → IsOk result }
-    ensures room { OnOk result
-        (S.room sink.old ≤ S.room sink.new + length (R.made rule.now text.now)) }
-    ensures same_reference { S.reference sink.new ≡ S.reference sink.old }
-    ensures same_before { S.before sink.new ≡ S.before sink.old }
+    ensures { Took (S.seen sink.old) (S.seen sink.new) (R.made rule.now text.now) result }
 {
     let _rule = rule;
     sink.put(text)

@@ -1,22 +1,14 @@
-use Rattle.std.proofs.Common.{◌≡◌, ap, sym, ◌∙◌, arith}
-use Rattle.std.proofs.lemmas.Result.{on_ok_weaker, on_err_weaker}
-use Rattle.hesc_sinks.specs.Sinks.{writer_sink_output, writer_sink_start}
-use Rattle.hesc_sinks.proofs.Told.{told-all}
+use Rattle.std.proofs.Common.{ap, map, sym, ◌∙◌}
+use Rattle.hesc_sinks.specs.Sinks.{writer_sink_seen}
+use Rattle.hesc_sinks.proofs.Took.{took_reference}
+use Rattle.hesc_engine.proofs.Written.{writes_text}
+use Rattle.html_template.specs.Templates.{chunk_of, page}
 use Rattle.html_template.proofs.page.write_page.Goals as goal
 
-first-told : (g : _) (c : goal.After-output-1 g) → g.W.Write.contents (writer_sink_start c.put_pieces-outcome.new.sink) ≡ g.W.Write.contents c.args.output.now
-first-told g c = c.put_pieces-outcome.ensures.same_before ∙ ap g.W.Write.contents c.new-sink.ensures.start
-
-last-told : (g : _) (c : goal.After-output-1 g) → g.W.Write.contents (writer_sink_output c.put_pieces-outcome.new.sink).now ≡ g.W.Write.contents c.output-1.given.0
-last-told g c =
-    let same = sym (c.into_output-output.ensures.same_reference ∙ c.put_pieces-outcome.ensures.same_reference ∙ c.new-sink.ensures.same_reference) in
-    ap g.W.Write.contents (sym (c.output-1.given.1 same ∙ c.into_output-output.ensures.value))
-
 pub returns : goal.returns
-returns g c = record {
-  all = on_ok_weaker c.put_pieces-outcome.result (λ taken. told-all _ _ _ _ _ _ (first-told g c) (last-told g c) (rw c.new-sink.ensures.nothing at taken) c.put_pieces-outcome.new.sink.told) c.put_pieces-outcome.ensures.ok_taken;
-  began = on_err_weaker c.put_pieces-outcome.result
-      (λ taken. (taken.0, taken.1.1, told-all _ _ _ _ _ _ (first-told g c) (last-told g c) (rw c.new-sink.ensures.nothing at taken.1.0) c.put_pieces-outcome.new.sink.told))
-      c.put_pieces-outcome.ensures.err_taken;
-  empty = λ none. c.put_pieces-outcome.ensures.fits (rw none (omega arith));
-}
+returns g c =
+    let start = writer_sink_seen c.new-sink.result in let now = writer_sink_seen c.put_pieces-outcome.new.sink in
+    let reference = took_reference start now (page (map chunk_of c.args.made.now.pieces.now) (g.T.Texts.list c.args.made.now.texts)) c.put_pieces-outcome.result c.put_pieces-outcome.ensures in
+    let same = sym (c.into_output-output.ensures.same_reference ∙ reference ∙ c.new-sink.ensures.same_reference) in
+    writes_text _ _ _ start now (page (map chunk_of c.args.made.now.pieces.now) (g.T.Texts.list c.args.made.now.texts)) c.put_pieces-outcome.result c.new-sink.ensures.nothing (ap g.W.Write.contents c.new-sink.ensures.start)
+    (ap g.W.Write.contents (sym (c.output-1.given.1 same ∙ c.into_output-output.ensures.value))) c.put_pieces-outcome.new.sink.told c.put_pieces-outcome.ensures
