@@ -1,7 +1,7 @@
 -- What is put for a node, and for those behind it.
 use Rattle.std.proofs.Common.{ℕ, ◌≡◌, ◌<◌, ◌+◌, List, [], ◌∷◌, ◌++◌, IsUtf8, Option, Some, None, Result, Ok, Err, refl, sym, ap, ◌∙◌, subst, append_assoc, append-nil, arith}
 use Rattle.std.specs.List.{AllByRecursion}
-use Rattle.hesc_sinks.proofs.Progress.{TookBeginning-following, TookBeginning-front}
+use Rattle.hesc_sinks.proofs.Took.{TookBeginning-following, TookBeginning-front}
 use Rattle.hesc_specs.specs.Text.Beginning.{TookBeginning}
 use Rattle.html_template.specs.Templates.{Fill, Markup, page, written}
 use Rattle.html_template.proofs.Joined.{joined_page, joined_utf8}

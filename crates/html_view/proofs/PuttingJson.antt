@@ -2,7 +2,7 @@
 use Rattle.std.proofs.Common.{ℕ, ◌≡◌, ◌+◌, List, [], ◌++◌, IsUtf8, Option, Some, None, Result, Ok, Err, refl, sym, ap, ◌∙◌, subst, append_assoc, append-nil}
 use Rattle.std.proofs.lemmas.List.Concat.{flat_map-append}
 use Rattle.std.proofs.lemmas.Str.{IsUtf8-append, IsUtf8-nil}
-use Rattle.hesc_sinks.proofs.Progress.{TookBeginning-following, TookBeginning-front}
+use Rattle.hesc_sinks.proofs.Took.{TookBeginning-following, TookBeginning-front}
 use Rattle.hesc_specs.specs.Text.Beginning.{TookBeginning}
 use Rattle.html_json.specs.Encoding.{json_encoding, json_image}
 use Rattle.html_view.specs.Data.{Datum, Fields, Flag, Fragment, ItemList, Items, Nothing, Number, Record, Text, bare, field, item, no_items}

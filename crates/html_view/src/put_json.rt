@@ -15,9 +15,9 @@ use html_json::{put_json as put_encoded, put_json_string};
 // Puts a text that has no `<`.
 fn put_mark<S: Sink>(mark: &str, sink: &mut S) -> Result<(), Stop<S::Fault>>
     requires { json_encoding mark.now ≡ mark.now }
-    ensures puts { PutsJson (Some mark.now) (S.taken sink.old) (S.taken sink.new) result }
-    ensures same_reference { S.reference sink.new ≡ S.reference sink.old }
-    ensures same_before { S.before sink.new ≡ S.before sink.old }
+    ensures puts { PutsJson (Some mark.now) (S.seen sink.old).taken (S.seen sink.new).taken result }
+    ensures same_reference { (S.seen sink.new).reference ≡ (S.seen sink.old).reference }
+    ensures same_before { (S.seen sink.new).before ≡ (S.seen sink.old).before }
 {
     // For the proof alone that it is UTF-8.
     let _length = mark.len();
@@ -28,9 +28,9 @@ fn put_mark<S: Sink>(mark: &str, sink: &mut S) -> Result<(), Stop<S::Fault>>
 }
 
 fn put_string<S: Sink>(text: &str, sink: &mut S) -> Result<(), Stop<S::Fault>>
-    ensures puts { PutsJson (Some (quoted text.now)) (S.taken sink.old) (S.taken sink.new) result }
-    ensures same_reference { S.reference sink.new ≡ S.reference sink.old }
-    ensures same_before { S.before sink.new ≡ S.before sink.old }
+    ensures puts { PutsJson (Some (quoted text.now)) (S.seen sink.old).taken (S.seen sink.new).taken result }
+    ensures same_reference { (S.seen sink.new).reference ≡ (S.seen sink.old).reference }
+    ensures same_before { (S.seen sink.new).before ≡ (S.seen sink.old).before }
 {
     match put_json_string(text, sink) {
         Ok(()) => Ok(()),
@@ -40,9 +40,9 @@ fn put_string<S: Sink>(text: &str, sink: &mut S) -> Result<(), Stop<S::Fault>>
 
 // Puts a text that stands as it is in JSON.
 fn put_word<S: Sink>(text: &str, sink: &mut S) -> Result<(), Stop<S::Fault>>
-    ensures puts { PutsJson (Some text.now) (S.taken sink.old) (S.taken sink.new) result }
-    ensures same_reference { S.reference sink.new ≡ S.reference sink.old }
-    ensures same_before { S.before sink.new ≡ S.before sink.old }
+    ensures puts { PutsJson (Some text.now) (S.seen sink.old).taken (S.seen sink.new).taken result }
+    ensures same_reference { (S.seen sink.new).reference ≡ (S.seen sink.old).reference }
+    ensures same_before { (S.seen sink.new).before ≡ (S.seen sink.old).before }
 {
     let _length = text.len();
     match put_encoded(text, sink) {
@@ -52,17 +52,17 @@ fn put_word<S: Sink>(text: &str, sink: &mut S) -> Result<(), Stop<S::Fault>>
 }
 
 fn put_nothing<S: Sink>(sink: &mut S) -> Result<(), Stop<S::Fault>>
-    ensures puts { PutsJson (json_text data_of.Nothing) (S.taken sink.old) (S.taken sink.new) result }
-    ensures same_reference { S.reference sink.new ≡ S.reference sink.old }
-    ensures same_before { S.before sink.new ≡ S.before sink.old }
+    ensures puts { PutsJson (json_text data_of.Nothing) (S.seen sink.old).taken (S.seen sink.new).taken result }
+    ensures same_reference { (S.seen sink.new).reference ≡ (S.seen sink.old).reference }
+    ensures same_before { (S.seen sink.new).before ≡ (S.seen sink.old).before }
 {
     put_mark("null", sink)
 }
 
 fn put_flag<S: Sink>(flag: bool, sink: &mut S) -> Result<(), Stop<S::Fault>>
-    ensures puts { PutsJson (json_text (data_of.Flag flag)) (S.taken sink.old) (S.taken sink.new) result }
-    ensures same_reference { S.reference sink.new ≡ S.reference sink.old }
-    ensures same_before { S.before sink.new ≡ S.before sink.old }
+    ensures puts { PutsJson (json_text (data_of.Flag flag)) (S.seen sink.old).taken (S.seen sink.new).taken result }
+    ensures same_reference { (S.seen sink.new).reference ≡ (S.seen sink.old).reference }
+    ensures same_before { (S.seen sink.new).before ≡ (S.seen sink.old).before }
 {
     if flag {
         put_mark("true", sink)
@@ -72,19 +72,19 @@ fn put_flag<S: Sink>(flag: bool, sink: &mut S) -> Result<(), Stop<S::Fault>>
 }
 
 fn put_text<S: Sink>(text: &str, sink: &mut S) -> Result<(), Stop<S::Fault>>
-    ensures puts { PutsJson (json_text (data_of.Text text.now)) (S.taken sink.old) (S.taken sink.new)
+    ensures puts { PutsJson (json_text (data_of.Text text.now)) (S.seen sink.old).taken (S.seen sink.new).taken
         result }
-    ensures same_reference { S.reference sink.new ≡ S.reference sink.old }
-    ensures same_before { S.before sink.new ≡ S.before sink.old }
+    ensures same_reference { (S.seen sink.new).reference ≡ (S.seen sink.old).reference }
+    ensures same_before { (S.seen sink.new).before ≡ (S.seen sink.old).before }
 {
     put_string(text, sink)
 }
 
 fn put_number<S: Sink>(text: &str, sink: &mut S) -> Result<(), Stop<S::Fault>>
-    ensures puts { PutsJson (json_text (data_of.Number text.now)) (S.taken sink.old)
-        (S.taken sink.new) result }
-    ensures same_reference { S.reference sink.new ≡ S.reference sink.old }
-    ensures same_before { S.before sink.new ≡ S.before sink.old }
+    ensures puts { PutsJson (json_text (data_of.Number text.now)) (S.seen sink.old).taken
+        (S.seen sink.new).taken result }
+    ensures same_reference { (S.seen sink.new).reference ≡ (S.seen sink.old).reference }
+    ensures same_before { (S.seen sink.new).before ≡ (S.seen sink.old).before }
 {
     if json::is_number(text) {
         put_word(text, sink)
@@ -94,9 +94,9 @@ fn put_number<S: Sink>(text: &str, sink: &mut S) -> Result<(), Stop<S::Fault>>
 }
 
 fn put_comma<S: Sink>(after: bool, sink: &mut S) -> Result<(), Stop<S::Fault>>
-    ensures puts { PutsJson (Some (comma after)) (S.taken sink.old) (S.taken sink.new) result }
-    ensures same_reference { S.reference sink.new ≡ S.reference sink.old }
-    ensures same_before { S.before sink.new ≡ S.before sink.old }
+    ensures puts { PutsJson (Some (comma after)) (S.seen sink.old).taken (S.seen sink.new).taken result }
+    ensures same_reference { (S.seen sink.new).reference ≡ (S.seen sink.old).reference }
+    ensures same_before { (S.seen sink.new).before ≡ (S.seen sink.old).before }
 {
     if after {
         put_mark(",", sink)
@@ -107,10 +107,10 @@ fn put_comma<S: Sink>(after: bool, sink: &mut S) -> Result<(), Stop<S::Fault>>
 
 // Puts the name of a member, which stands behind another one or is the first.
 fn put_key<S: Sink>(after: bool, name: &str, sink: &mut S) -> Result<(), Stop<S::Fault>>
-    ensures puts { PutsJson (Some (key_text after name.now)) (S.taken sink.old) (S.taken sink.new)
+    ensures puts { PutsJson (Some (key_text after name.now)) (S.seen sink.old).taken (S.seen sink.new).taken
         result }
-    ensures same_reference { S.reference sink.new ≡ S.reference sink.old }
-    ensures same_before { S.before sink.new ≡ S.before sink.old }
+    ensures same_reference { (S.seen sink.new).reference ≡ (S.seen sink.old).reference }
+    ensures same_before { (S.seen sink.new).before ≡ (S.seen sink.old).before }
 {
     match put_comma(after, sink) {
         Ok(()) => {}
@@ -130,10 +130,10 @@ pub(crate) fn put_json<'p, 't: 'p, S: Sink>(
     value: Value<'p, 't>,
     sink: &mut S,
 ) -> Result<(), Stop<S::Fault>>
-    ensures puts { PutsJson (json_text (datum_of value.entry)) (S.taken sink.old) (S.taken sink.new)
+    ensures puts { PutsJson (json_text (datum_of value.entry)) (S.seen sink.old).taken (S.seen sink.new).taken
         result }
-    ensures same_reference { S.reference sink.new ≡ S.reference sink.old }
-    ensures same_before { S.before sink.new ≡ S.before sink.old }
+    ensures same_reference { (S.seen sink.new).reference ≡ (S.seen sink.old).reference }
+    ensures same_before { (S.seen sink.new).before ≡ (S.seen sink.old).before }
 {
     match value {
         Value::Null => put_nothing(sink),
@@ -151,10 +151,10 @@ pub(crate) fn put_json<'p, 't: 'p, S: Sink>(
 // Puts an array of these items.
 #[cycle(json)]
 fn put_items<'p, 't: 'p, S: Sink>(items: Items<'p, 't>, sink: &mut S) -> Result<(), Stop<S::Fault>>
-    ensures puts { PutsJson (json_text (data_of.Items (items_in items.entry))) (S.taken sink.old)
-        (S.taken sink.new) result }
-    ensures same_reference { S.reference sink.new ≡ S.reference sink.old }
-    ensures same_before { S.before sink.new ≡ S.before sink.old }
+    ensures puts { PutsJson (json_text (data_of.Items (items_in items.entry))) (S.seen sink.old).taken
+        (S.seen sink.new).taken result }
+    ensures same_reference { (S.seen sink.new).reference ≡ (S.seen sink.old).reference }
+    ensures same_before { (S.seen sink.new).before ≡ (S.seen sink.old).before }
 {
     match put_mark("[", sink) {
         Ok(()) => {}
@@ -183,10 +183,10 @@ fn put_fields<'p, 't: 'p, S: Sink>(
     fields: Fields<'p, 't>,
     sink: &mut S,
 ) -> Result<(), Stop<S::Fault>>
-    ensures puts { PutsJson (json_text (data_of.Record (fields_in fields.entry))) (S.taken sink.old)
-        (S.taken sink.new) result }
-    ensures same_reference { S.reference sink.new ≡ S.reference sink.old }
-    ensures same_before { S.before sink.new ≡ S.before sink.old }
+    ensures puts { PutsJson (json_text (data_of.Record (fields_in fields.entry))) (S.seen sink.old).taken
+        (S.seen sink.new).taken result }
+    ensures same_reference { (S.seen sink.new).reference ≡ (S.seen sink.old).reference }
+    ensures same_before { (S.seen sink.new).before ≡ (S.seen sink.old).before }
 {
     match put_mark("{", sink) {
         Ok(()) => {}

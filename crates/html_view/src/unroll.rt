@@ -91,10 +91,10 @@ fn put_slot<'s, 'p, 't: 'p, A: Allocator, S: Sink>(
     refusal: &mut Refusal,
 ) -> Result<(), Stop<S::Fault>>
     ensures puts { PutsFront (λ rest. unrolled (node.Slot (slot_of slot.now) rest)
-        (stack_of around.now)) (stack_of around.now) (S.taken sink.old) (S.taken sink.new)
+        (stack_of around.now)) (stack_of around.now) (S.seen sink.old).taken (S.seen sink.new).taken
         refusal.new result }
-    ensures same_reference { S.reference sink.new ≡ S.reference sink.old }
-    ensures same_before { S.before sink.new ≡ S.before sink.old }
+    ensures same_reference { (S.seen sink.new).reference ≡ (S.seen sink.old).reference }
+    ensures same_before { (S.seen sink.new).before ≡ (S.seen sink.old).before }
 {
     match &slot.asked.words {
         Words::One(word) => put_value(slot, find(around, *word), around, sink, refusal),
@@ -112,10 +112,10 @@ fn put_slot_of_words<'s, 'p, 't: 'p, A: Allocator, S: Sink>(
     refusal: &mut Refusal,
 ) -> Result<(), Stop<S::Fault>>
     ensures puts { PutsFront (λ rest. unrolled (node.Slot (slot_of slot.now) rest)
-        (stack_of around.now)) (stack_of around.now) (S.taken sink.old) (S.taken sink.new)
+        (stack_of around.now)) (stack_of around.now) (S.seen sink.old).taken (S.seen sink.new).taken
         refusal.new result }
-    ensures same_reference { S.reference sink.new ≡ S.reference sink.old }
-    ensures same_before { S.before sink.new ≡ S.before sink.old }
+    ensures same_reference { (S.seen sink.new).reference ≡ (S.seen sink.old).reference }
+    ensures same_before { (S.seen sink.new).before ≡ (S.seen sink.old).before }
 {
     put_value(
         slot,
@@ -138,10 +138,10 @@ fn put_value<'s, 'p, 't: 'p, A: Allocator, S: Sink>(
     requires means { option_map datum_of value
         ≡ data_of.look_up (words_in slot.now.asked.words) (stack_of around.now) }
     ensures puts { PutsFront (λ rest. unrolled (node.Slot (slot_of slot.now) rest)
-        (stack_of around.now)) (stack_of around.now) (S.taken sink.old) (S.taken sink.new)
+        (stack_of around.now)) (stack_of around.now) (S.seen sink.old).taken (S.seen sink.new).taken
         refusal.new result }
-    ensures same_reference { S.reference sink.new ≡ S.reference sink.old }
-    ensures same_before { S.before sink.new ≡ S.before sink.old }
+    ensures same_reference { (S.seen sink.new).reference ≡ (S.seen sink.old).reference }
+    ensures same_before { (S.seen sink.new).before ≡ (S.seen sink.old).before }
 {
     if slot.checked.is_json() {
         return put_json_value(slot, value, around, sink, refusal);
@@ -174,10 +174,10 @@ fn put_json_value<'s, 'p, 't: 'p, A: Allocator, S: Sink>(
     requires means { option_map datum_of value
         ≡ data_of.look_up (words_in slot.now.asked.words) (stack_of around.now) }
     ensures puts { PutsFront (λ rest. unrolled (node.Slot (slot_of slot.now) rest)
-        (stack_of around.now)) (stack_of around.now) (S.taken sink.old) (S.taken sink.new)
+        (stack_of around.now)) (stack_of around.now) (S.seen sink.old).taken (S.seen sink.new).taken
         refusal.new result }
-    ensures same_reference { S.reference sink.new ≡ S.reference sink.old }
-    ensures same_before { S.before sink.new ≡ S.before sink.old }
+    ensures same_reference { (S.seen sink.new).reference ≡ (S.seen sink.old).reference }
+    ensures same_before { (S.seen sink.new).before ≡ (S.seen sink.old).before }
 {
     let _around = around;
     let position = slot.asked.position;
@@ -229,10 +229,10 @@ fn put_fragment<'s, 'p, 't: 'p, A: Allocator, S: Sink>(
     refusal: &mut Refusal,
 ) -> Result<(), Stop<S::Fault>>
     ensures puts { PutsFront (λ rest. unrolled (node.Fragment (named_of slot.now) rest)
-        (stack_of around.now)) (stack_of around.now) (S.taken sink.old) (S.taken sink.new)
+        (stack_of around.now)) (stack_of around.now) (S.seen sink.old).taken (S.seen sink.new).taken
         refusal.new result }
-    ensures same_reference { S.reference sink.new ≡ S.reference sink.old }
-    ensures same_before { S.before sink.new ≡ S.before sink.old }
+    ensures same_reference { (S.seen sink.new).reference ≡ (S.seen sink.old).reference }
+    ensures same_before { (S.seen sink.new).before ≡ (S.seen sink.old).before }
 {
     match fragment_for(slot, look_up(&slot.words, around)) {
         Ok(fragment) => match put_markup(&StoredMarkup::new(fragment.as_str()), sink) {
@@ -395,9 +395,9 @@ fn put_node<'s, 'a, 'p, 't: 'p, A: Allocator, S: Sink>(
     refusal: &mut Refusal,
 ) -> Result<(), Stop<S::Fault>>
     ensures puts { PutsFront (λ rest. unrolled (placed_node node.now rest) (stack_of around.now))
-        (stack_of around.now) (S.taken sink.old) (S.taken sink.new) refusal.new result }
-    ensures same_reference { S.reference sink.new ≡ S.reference sink.old }
-    ensures same_before { S.before sink.new ≡ S.before sink.old }
+        (stack_of around.now) (S.seen sink.old).taken (S.seen sink.new).taken refusal.new result }
+    ensures same_reference { (S.seen sink.new).reference ≡ (S.seen sink.old).reference }
+    ensures same_before { (S.seen sink.new).before ≡ (S.seen sink.old).before }
 {
     match node {
         PlacedNode::Markup(markup) => match put_markup(markup, sink) {
@@ -444,9 +444,9 @@ fn put_inside<'s, 'a, 'p, 't: 'p, A: Allocator, S: Sink>(
     refusal: &mut Refusal,
 ) -> Result<(), Stop<S::Fault>>
     ensures puts { Puts (unrolled (nodes_of body.now.items) (datum_of value.entry ∷ stack_of around.now))
-        (S.taken sink.old) (S.taken sink.new) refusal.new result }
-    ensures same_reference { S.reference sink.new ≡ S.reference sink.old }
-    ensures same_before { S.before sink.new ≡ S.before sink.old }
+        (S.seen sink.old).taken (S.seen sink.new).taken refusal.new result }
+    ensures same_reference { (S.seen sink.new).reference ≡ (S.seen sink.old).reference }
+    ensures same_before { (S.seen sink.new).before ≡ (S.seen sink.old).before }
 {
     let inner = Around::Inside(value, around);
     put_nodes(body, &inner, sink, refusal)
@@ -463,9 +463,9 @@ fn put_each<'s, 'a, 'p, 't: 'p, A: Allocator, S: Sink>(
 ) -> Result<(), Stop<S::Fault>>
     ensures puts { Puts (unrolled_each (λ inner. unrolled (nodes_of body.now.items) inner)
         (item_stacks (items_in items.entry) (stack_of around.now)))
-        (S.taken sink.old) (S.taken sink.new) refusal.new result }
-    ensures same_reference { S.reference sink.new ≡ S.reference sink.old }
-    ensures same_before { S.before sink.new ≡ S.before sink.old }
+        (S.seen sink.old).taken (S.seen sink.new).taken refusal.new result }
+    ensures same_reference { (S.seen sink.new).reference ≡ (S.seen sink.old).reference }
+    ensures same_before { (S.seen sink.new).before ≡ (S.seen sink.old).before }
 {
     let mut rest = items;
     'items: while let Some((item, others)) = rest.take_first() {
@@ -488,9 +488,9 @@ pub(crate) fn put_nodes<'s, 'a, 'p, 't: 'p, A: Allocator, S: Sink>(
     refusal: &mut Refusal,
 ) -> Result<(), Stop<S::Fault>>
     ensures puts { Puts (unrolled (nodes_of nodes.now.items) (stack_of around.now))
-        (S.taken sink.old) (S.taken sink.new) refusal.new result }
-    ensures same_reference { S.reference sink.new ≡ S.reference sink.old }
-    ensures same_before { S.before sink.new ≡ S.before sink.old }
+        (S.seen sink.old).taken (S.seen sink.new).taken refusal.new result }
+    ensures same_reference { (S.seen sink.new).reference ≡ (S.seen sink.old).reference }
+    ensures same_before { (S.seen sink.new).before ≡ (S.seen sink.old).before }
 {
     for node in nodes {
         match put_node(node, around, sink, refusal) {

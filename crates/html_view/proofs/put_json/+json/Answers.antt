@@ -9,8 +9,8 @@ use Rattle.html_view.proofs.put_json.+json.Goals as goal
 pub put_items-returns-in-Err-clause-puts : goal.put_items-returns-in-Err-clause-puts
 put_items-returns-in-Err-clause-puts g t c =
     let told = json_text (Items (items_in c.args.items)) in
-    json_stop told told (Some (codes "[")) (items_text false (items_in c.args.items)) (g.S.Sink.taken c.args.sink.now) (g.S.Sink.taken c.args.sink.now)
-    (g.S.Sink.taken c.put_mark.new.sink) c.in-Err.stop no_json_yet (array_begins (items_in c.args.items)) c.in-Err.ensures.puts
+    json_stop told told (Some (codes "[")) (items_text false (items_in c.args.items)) (g.S.Sink.seen c.args.sink.now).taken (g.S.Sink.seen c.args.sink.now).taken
+    (g.S.Sink.seen c.put_mark.new.sink).taken c.in-Err.stop no_json_yet (array_begins (items_in c.args.items)) c.in-Err.ensures.puts
 
 pub put_items-items-init : goal.put_items-items-init
 put_items-items-init g t c = record {
@@ -23,7 +23,7 @@ put_items-items-init g t c = record {
 pub put_items-returns-in-Err-put_comma-clause-puts : goal.put_items-returns-in-Err-put_comma-clause-puts
 put_items-returns-in-Err-put_comma-clause-puts g t c =
     json_stop (json_text (Items (items_in c.args.items))) (items_text c.items.after (items_in c.items.rest)) (Some (comma c.items.after)) (followed (json_text (datum_of c.in-Some.item)) (items_text true (items_in c.in-Some.others)))
-    (g.S.Sink.taken c.args.sink.now) (g.S.Sink.taken c.items.sink) (g.S.Sink.taken c.put_comma.new.sink) c.in-Err-put_comma.stop c.items.invariant.so_far
+    (g.S.Sink.seen c.args.sink.now).taken (g.S.Sink.seen c.items.sink).taken (g.S.Sink.seen c.put_comma.new.sink).taken c.in-Err-put_comma.stop c.items.invariant.so_far
     (item_next c.items.after (items_in c.items.rest) (items_in c.in-Some.others) (datum_of c.in-Some.item) c.in-Some.ensures.some)
     c.in-Err-put_comma.ensures.puts
 
@@ -31,8 +31,8 @@ pub put_items-returns-in-Err-put_json-clause-puts : goal.put_items-returns-in-Er
 put_items-returns-in-Err-put_json-clause-puts g t c =
     let one = json_text (datum_of c.in-Some.item) in
     let others = items_text true (items_in c.in-Some.others) in
-    json_stop (json_text (Items (items_in c.args.items))) (followed one others) one others (g.S.Sink.taken c.args.sink.now) (g.S.Sink.taken c.put_comma.new.sink)
-    (g.S.Sink.taken c.put_json.new.sink) c.in-Err-put_json.stop
+    json_stop (json_text (Items (items_in c.args.items))) (followed one others) one others (g.S.Sink.seen c.args.sink.now).taken (g.S.Sink.seen c.put_comma.new.sink).taken
+    (g.S.Sink.seen c.put_json.new.sink).taken c.in-Err-put_json.stop
     (json_more c.items.invariant.so_far
     (item_next c.items.after (items_in c.items.rest) (items_in c.in-Some.others) (datum_of c.in-Some.item) c.in-Some.ensures.some)
     c.in-Ok-put_comma.ensures.puts)
@@ -52,15 +52,15 @@ put_items-items-preserved g t c = record {
 
 pub put_items-returns-clause-puts : goal.put_items-returns-clause-puts
 put_items-returns-clause-puts g t c =
-    json_last (json_text (Items (items_in c.args.items))) (items_text c.items.after (items_in c.items.rest)) (Some (codes "]")) (g.S.Sink.taken c.args.sink.now)
-    (g.S.Sink.taken c.items.sink) (g.S.Sink.taken c.put_mark-2.new.sink) c.put_mark-2.result c.items.invariant.so_far
+    json_last (json_text (Items (items_in c.args.items))) (items_text c.items.after (items_in c.items.rest)) (Some (codes "]")) (g.S.Sink.seen c.args.sink.now).taken
+    (g.S.Sink.seen c.items.sink).taken (g.S.Sink.seen c.put_mark-2.new.sink).taken c.put_mark-2.result c.items.invariant.so_far
     (array_ends c.items.after (items_in c.items.rest) c.in_default.ensures.none) c.put_mark-2.ensures.puts
 
 pub put_fields-returns-in-Err-clause-puts : goal.put_fields-returns-in-Err-clause-puts
 put_fields-returns-in-Err-clause-puts g t c =
     let told = json_text (Record (fields_in c.args.fields)) in
-    json_stop told told (Some (codes "{")) (members_text false (fields_in c.args.fields)) (g.S.Sink.taken c.args.sink.now) (g.S.Sink.taken c.args.sink.now)
-    (g.S.Sink.taken c.put_mark.new.sink) c.in-Err.stop no_json_yet (object_begins (fields_in c.args.fields)) c.in-Err.ensures.puts
+    json_stop told told (Some (codes "{")) (members_text false (fields_in c.args.fields)) (g.S.Sink.seen c.args.sink.now).taken (g.S.Sink.seen c.args.sink.now).taken
+    (g.S.Sink.seen c.put_mark.new.sink).taken c.in-Err.stop no_json_yet (object_begins (fields_in c.args.fields)) c.in-Err.ensures.puts
 
 pub put_fields-fields-init : goal.put_fields-fields-init
 put_fields-fields-init g t c = record {
@@ -73,7 +73,7 @@ put_fields-fields-init g t c = record {
 pub put_fields-returns-in-Err-put_key-clause-puts : goal.put_fields-returns-in-Err-put_key-clause-puts
 put_fields-returns-in-Err-put_key-clause-puts g t c =
     json_stop (json_text (Record (fields_in c.args.fields))) (members_text c.fields.after (fields_in c.fields.rest)) (Some (key_text c.fields.after c.in-Some.name.now)) (followed (json_text (datum_of c.in-Some.value)) (members_text true (fields_in c.in-Some.others)))
-    (g.S.Sink.taken c.args.sink.now) (g.S.Sink.taken c.fields.sink) (g.S.Sink.taken c.put_key.new.sink) c.in-Err-put_key.stop c.fields.invariant.so_far
+    (g.S.Sink.seen c.args.sink.now).taken (g.S.Sink.seen c.fields.sink).taken (g.S.Sink.seen c.put_key.new.sink).taken c.in-Err-put_key.stop c.fields.invariant.so_far
     (member_next c.fields.after c.in-Some.name.now (fields_in c.fields.rest) (fields_in c.in-Some.others) (datum_of c.in-Some.value) c.in-Some.ensures.some)
     c.in-Err-put_key.ensures.puts
 
@@ -81,8 +81,8 @@ pub put_fields-returns-in-Err-put_json-clause-puts : goal.put_fields-returns-in-
 put_fields-returns-in-Err-put_json-clause-puts g t c =
     let one = json_text (datum_of c.in-Some.value) in
     let others = members_text true (fields_in c.in-Some.others) in
-    json_stop (json_text (Record (fields_in c.args.fields))) (followed one others) one others (g.S.Sink.taken c.args.sink.now) (g.S.Sink.taken c.put_key.new.sink)
-    (g.S.Sink.taken c.put_json.new.sink) c.in-Err-put_json.stop
+    json_stop (json_text (Record (fields_in c.args.fields))) (followed one others) one others (g.S.Sink.seen c.args.sink.now).taken (g.S.Sink.seen c.put_key.new.sink).taken
+    (g.S.Sink.seen c.put_json.new.sink).taken c.in-Err-put_json.stop
     (json_more c.fields.invariant.so_far
     (member_next c.fields.after c.in-Some.name.now (fields_in c.fields.rest) (fields_in c.in-Some.others) (datum_of c.in-Some.value) c.in-Some.ensures.some)
     c.in-Ok-put_key.ensures.puts)
@@ -102,6 +102,6 @@ put_fields-fields-preserved g t c = record {
 
 pub put_fields-returns-clause-puts : goal.put_fields-returns-clause-puts
 put_fields-returns-clause-puts g t c =
-    json_last (json_text (Record (fields_in c.args.fields))) (members_text c.fields.after (fields_in c.fields.rest)) (Some (codes "}")) (g.S.Sink.taken c.args.sink.now)
-    (g.S.Sink.taken c.fields.sink) (g.S.Sink.taken c.put_mark-2.new.sink) c.put_mark-2.result c.fields.invariant.so_far
+    json_last (json_text (Record (fields_in c.args.fields))) (members_text c.fields.after (fields_in c.fields.rest)) (Some (codes "}")) (g.S.Sink.seen c.args.sink.now).taken
+    (g.S.Sink.seen c.fields.sink).taken (g.S.Sink.seen c.put_mark-2.new.sink).taken c.put_mark-2.result c.fields.invariant.so_far
     (object_ends c.fields.after (fields_in c.fields.rest) c.in_default.ensures.none) c.put_mark-2.ensures.puts

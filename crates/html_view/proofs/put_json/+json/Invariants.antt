@@ -16,9 +16,9 @@ decreases-put_fields g l = fields_size (fields_in l.fields)
 
 abbrev pub invariant-put_items-items : goal.invariant-put_items-items
 invariant-put_items-items g l = record {
-  so_far : IsJsonSoFar (json_text (Items (items_in l.items))) (items_text l.after (items_in l.rest)) (g.S.Sink.taken l.fn.sink) (g.S.Sink.taken l.sink);
-  reference : g.S.Sink.reference l.sink ≡ g.S.Sink.reference l.fn.sink;
-  before : g.S.Sink.before l.sink ≡ g.S.Sink.before l.fn.sink;
+  so_far : IsJsonSoFar (json_text (Items (items_in l.items))) (items_text l.after (items_in l.rest)) (g.S.Sink.seen l.fn.sink).taken (g.S.Sink.seen l.sink).taken;
+  reference : (g.S.Sink.seen l.sink).reference ≡ (g.S.Sink.seen l.fn.sink).reference;
+  before : (g.S.Sink.seen l.sink).before ≡ (g.S.Sink.seen l.fn.sink).before;
   fewer : items_size (items_in l.rest) ≤ items_size (items_in l.items);
 }
 
@@ -27,9 +27,9 @@ decreases-put_items-items g l = items_size (items_in l.rest)
 
 abbrev pub invariant-put_fields-fields : goal.invariant-put_fields-fields
 invariant-put_fields-fields g l = record {
-  so_far : IsJsonSoFar (json_text (Record (fields_in l.fields))) (members_text l.after (fields_in l.rest)) (g.S.Sink.taken l.fn.sink) (g.S.Sink.taken l.sink);
-  reference : g.S.Sink.reference l.sink ≡ g.S.Sink.reference l.fn.sink;
-  before : g.S.Sink.before l.sink ≡ g.S.Sink.before l.fn.sink;
+  so_far : IsJsonSoFar (json_text (Record (fields_in l.fields))) (members_text l.after (fields_in l.rest)) (g.S.Sink.seen l.fn.sink).taken (g.S.Sink.seen l.sink).taken;
+  reference : (g.S.Sink.seen l.sink).reference ≡ (g.S.Sink.seen l.fn.sink).reference;
+  before : (g.S.Sink.seen l.sink).before ≡ (g.S.Sink.seen l.fn.sink).before;
   fewer : fields_size (fields_in l.rest) ≤ fields_size (fields_in l.fields);
 }
 

@@ -7,19 +7,19 @@ use Rattle.html_view.proofs.put_json.put_key.Goals as goal
 pub returns-in-Err-clause-puts : goal.returns-in-Err-clause-puts
 returns-in-Err-clause-puts g c =
     let told = Some (key_text c.args.after c.args.name.now) in
-    json_stop told told (Some (comma c.args.after)) (Some (quoted c.args.name.now ++ codes ":")) (g.S.Sink.taken c.args.sink.now) (g.S.Sink.taken c.args.sink.now)
-    (g.S.Sink.taken c.put_comma.new.sink) c.in-Err.stop no_json_yet refl c.in-Err.ensures.puts
+    json_stop told told (Some (comma c.args.after)) (Some (quoted c.args.name.now ++ codes ":")) (g.S.Sink.seen c.args.sink.now).taken (g.S.Sink.seen c.args.sink.now).taken
+    (g.S.Sink.seen c.put_comma.new.sink).taken c.in-Err.stop no_json_yet refl c.in-Err.ensures.puts
 
 pub returns-in-Err-put_string-clause-puts : goal.returns-in-Err-put_string-clause-puts
 returns-in-Err-put_string-clause-puts g c =
     json_stop (Some (key_text c.args.after c.args.name.now)) (Some (quoted c.args.name.now ++ codes ":")) (Some (quoted c.args.name.now)) (Some (codes ":"))
-    (g.S.Sink.taken c.args.sink.now) (g.S.Sink.taken c.put_comma.new.sink) (g.S.Sink.taken c.put_string.new.sink) c.in-Err-put_string.stop
+    (g.S.Sink.seen c.args.sink.now).taken (g.S.Sink.seen c.put_comma.new.sink).taken (g.S.Sink.seen c.put_string.new.sink).taken c.in-Err-put_string.stop
     (json_more no_json_yet refl c.in-Ok.ensures.puts) refl c.in-Err-put_string.ensures.puts
 
 pub returns-clause-puts : goal.returns-clause-puts
 returns-clause-puts g c =
     let last = Some (codes ":") in
-    json_last (Some (key_text c.args.after c.args.name.now)) last last (g.S.Sink.taken c.args.sink.now) (g.S.Sink.taken c.put_string.new.sink)
-    (g.S.Sink.taken c.put_mark.new.sink) c.put_mark.result
+    json_last (Some (key_text c.args.after c.args.name.now)) last last (g.S.Sink.seen c.args.sink.now).taken (g.S.Sink.seen c.put_string.new.sink).taken
+    (g.S.Sink.seen c.put_mark.new.sink).taken c.put_mark.result
     (json_more {later = last} (json_more {later = Some (quoted c.args.name.now ++ codes ":")} no_json_yet refl c.in-Ok.ensures.puts) refl c.in-Ok-put_string.ensures.puts) refl
     c.put_mark.ensures.puts

@@ -7,5 +7,5 @@ use Rattle.html_view.proofs.put_json.put_nothing.Goals as goal
 
 pub returns-clause-puts : goal.returns-clause-puts
 returns-clause-puts g c =
-    json_same (Some (codes "null")) (json_text Nothing) (g.S.Sink.taken c.args.sink.now) (g.S.Sink.taken c.put_mark.new.sink) c.put_mark.result nothing_text
+    json_same (Some (codes "null")) (json_text Nothing) (g.S.Sink.seen c.args.sink.now).taken (g.S.Sink.seen c.put_mark.new.sink).taken c.put_mark.result nothing_text
     c.put_mark.ensures.puts

@@ -8,10 +8,10 @@ use Rattle.html_view.proofs.put_json.put_number.Goals as goal
 
 pub returns-then-is_number-clause-puts : goal.returns-then-is_number-clause-puts
 returns-then-is_number-clause-puts g c =
-    json_same (Some c.args.text.now) (json_text (Number c.args.text.now)) (g.S.Sink.taken c.args.sink.now) (g.S.Sink.taken c.put_word.new.sink) c.put_word.result
+    json_same (Some c.args.text.now) (json_text (Number c.args.text.now)) (g.S.Sink.seen c.args.sink.now).taken (g.S.Sink.seen c.put_word.new.sink).taken c.put_word.result
     (number_text c.args.text.now (c.is_number.ensures.0 c.if-is_number.true)) c.put_word.ensures.puts
 
 pub returns-else-is_number-clause-puts : goal.returns-else-is_number-clause-puts
 returns-else-is_number-clause-puts g c =
-    json_same (Some (quoted c.args.text.now)) (json_text (Number c.args.text.now)) (g.S.Sink.taken c.args.sink.now) (g.S.Sink.taken c.put_string.new.sink)
+    json_same (Some (quoted c.args.text.now)) (json_text (Number c.args.text.now)) (g.S.Sink.seen c.args.sink.now).taken (g.S.Sink.seen c.put_string.new.sink).taken
     c.put_string.result (no_number_text c.args.text.now (λ is. let told = c.is_number.ensures.1 is in cc)) c.put_string.ensures.puts

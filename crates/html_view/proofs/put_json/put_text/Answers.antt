@@ -8,5 +8,5 @@ use Rattle.html_view.proofs.put_json.put_text.Goals as goal
 
 pub returns-clause-puts : goal.returns-clause-puts
 returns-clause-puts g c =
-    json_same (Some (quoted c.args.text.now)) (json_text (Text c.args.text.now)) (g.S.Sink.taken c.args.sink.now) (g.S.Sink.taken c.put_string.new.sink)
+    json_same (Some (quoted c.args.text.now)) (json_text (Text c.args.text.now)) (g.S.Sink.seen c.args.sink.now).taken (g.S.Sink.seen c.put_string.new.sink).taken
     c.put_string.result (text_text c.args.text.now) c.put_string.ensures.puts

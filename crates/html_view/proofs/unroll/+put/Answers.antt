@@ -20,7 +20,7 @@ put_each-items-preserved g t c =
           (unrolled (nodes_of c.args.body.now.items) (datum_of c.in-Some.item ∷ stack))
           (unrolled_each (λ inner. unrolled (nodes_of c.args.body.now.items) inner) (item_stacks (items_in c.in-Some.others) stack)) _ _ _
           (subst (λ i. IsSoFar (unrolled_each (λ inner. unrolled (nodes_of c.args.body.now.items) inner) (item_stacks (items_in c.args.items) stack))
-          (unrolled_each (λ inner. unrolled (nodes_of c.args.body.now.items) inner) (item_stacks i stack)) (g.S.Sink.taken c.args.sink.now) (g.S.Sink.taken c.items.sink))
+          (unrolled_each (λ inner. unrolled (nodes_of c.args.body.now.items) inner) (item_stacks i stack)) (g.S.Sink.seen c.args.sink.now).taken (g.S.Sink.seen c.items.sink).taken)
           c.in-Some.ensures.some c.items.invariant.so_far)
           c.in-Ok.ensures.puts;
       reference = c.in-Ok.ensures.same_reference ∙ c.items.invariant.reference;
@@ -32,42 +32,42 @@ put_each-returns-in-Err-clause-puts g t c =
     let stack = stack_of c.args.around.now in
     stop_in_pass (unrolled_each (λ inner. unrolled (nodes_of c.args.body.now.items) inner) (item_stacks (items_in c.args.items) stack))
     (unrolled (nodes_of c.args.body.now.items) (datum_of c.in-Some.item ∷ stack))
-    (unrolled_each (λ inner. unrolled (nodes_of c.args.body.now.items) inner) (item_stacks (items_in c.in-Some.others) stack)) (g.S.Sink.taken c.args.sink.now)
-    (g.S.Sink.taken c.items.sink) (g.S.Sink.taken c.put_nodes.new.sink) c.put_nodes.new.refusal c.in-Err.stop
+    (unrolled_each (λ inner. unrolled (nodes_of c.args.body.now.items) inner) (item_stacks (items_in c.in-Some.others) stack)) (g.S.Sink.seen c.args.sink.now).taken
+    (g.S.Sink.seen c.items.sink).taken (g.S.Sink.seen c.put_nodes.new.sink).taken c.put_nodes.new.refusal c.in-Err.stop
     (nodes_fill (nodes_of c.args.body.now.items) (datum_of c.in-Some.item ∷ stack))
     (subst (λ i. IsSoFar (unrolled_each (λ inner. unrolled (nodes_of c.args.body.now.items) inner) (item_stacks (items_in c.args.items) stack))
-    (unrolled_each (λ inner. unrolled (nodes_of c.args.body.now.items) inner) (item_stacks i stack)) (g.S.Sink.taken c.args.sink.now) (g.S.Sink.taken c.items.sink))
+    (unrolled_each (λ inner. unrolled (nodes_of c.args.body.now.items) inner) (item_stacks i stack)) (g.S.Sink.seen c.args.sink.now).taken (g.S.Sink.seen c.items.sink).taken)
     c.in-Some.ensures.some c.items.invariant.so_far)
     c.in-Err.ensures.puts
 
 pub put_node-returns-in-Ok-clause-puts : goal.put_node-returns-in-Ok-clause-puts
 put_node-returns-in-Ok-clause-puts g t c =
-    markup_node {F = g.row.S-Fault.Denot} c.args.node.now c.in-Markup.markup (stack_of c.args.around.now) (g.S.Sink.taken c.args.sink.now)
-    (g.S.Sink.taken c.put_markup.new.sink) c.args.refusal.now (Ok tt) c.in-Markup.is
-    (markup_put c.in-Markup.markup.text.now (stack_of c.args.around.now) (g.S.Sink.taken c.args.sink.now) (g.S.Sink.taken c.put_markup.new.sink) c.in-Ok.ensures.ok_taken)
+    markup_node {F = g.row.S-Fault.Denot} c.args.node.now c.in-Markup.markup (stack_of c.args.around.now) (g.S.Sink.seen c.args.sink.now).taken
+    (g.S.Sink.seen c.put_markup.new.sink).taken c.args.refusal.now (Ok tt) c.in-Markup.is
+    (markup_put c.in-Markup.markup.text.now (stack_of c.args.around.now) (g.S.Sink.seen c.args.sink.now).taken (g.S.Sink.seen c.put_markup.new.sink).taken c.in-Ok.ensures.taken)
 
 pub put_node-returns-in-Err-clause-puts : goal.put_node-returns-in-Err-clause-puts
 put_node-returns-in-Err-clause-puts g t c =
-    markup_node {F = g.row.S-Fault.Denot} c.args.node.now c.in-Markup.markup (stack_of c.args.around.now) (g.S.Sink.taken c.args.sink.now)
-    (g.S.Sink.taken c.put_markup.new.sink) c.args.refusal.now (Err (Failed c.in-Err.fault)) c.in-Markup.is
-    (markup_begun c.in-Markup.markup.text.now (stack_of c.args.around.now) (g.S.Sink.taken c.args.sink.now) (g.S.Sink.taken c.put_markup.new.sink) c.in-Err.ensures.err_taken)
+    markup_node {F = g.row.S-Fault.Denot} c.args.node.now c.in-Markup.markup (stack_of c.args.around.now) (g.S.Sink.seen c.args.sink.now).taken
+    (g.S.Sink.seen c.put_markup.new.sink).taken c.args.refusal.now (Err (Failed c.in-Err.fault)) c.in-Markup.is
+    (markup_begun c.in-Markup.markup.text.now (stack_of c.args.around.now) (g.S.Sink.seen c.args.sink.now).taken (g.S.Sink.seen c.put_markup.new.sink).taken c.in-Err.ensures.taken)
 
 pub put_node-returns-in-Slot-clause-puts : goal.put_node-returns-in-Slot-clause-puts
 put_node-returns-in-Slot-clause-puts g t c =
-    slot_node c.args.node.now c.in-Slot.slot (stack_of c.args.around.now) (g.S.Sink.taken c.args.sink.now) (g.S.Sink.taken c.put_slot.new.sink)
+    slot_node c.args.node.now c.in-Slot.slot (stack_of c.args.around.now) (g.S.Sink.seen c.args.sink.now).taken (g.S.Sink.seen c.put_slot.new.sink).taken
     c.put_slot.new.refusal c.put_slot.result c.in-Slot.is c.put_slot.ensures.puts
 
 pub put_node-returns-in-Fragment-clause-puts : goal.put_node-returns-in-Fragment-clause-puts
 put_node-returns-in-Fragment-clause-puts g t c =
-    fragment_node c.args.node.now c.in-Fragment.slot (stack_of c.args.around.now) (g.S.Sink.taken c.args.sink.now) (g.S.Sink.taken c.put_fragment.new.sink)
+    fragment_node c.args.node.now c.in-Fragment.slot (stack_of c.args.around.now) (g.S.Sink.seen c.args.sink.now).taken (g.S.Sink.seen c.put_fragment.new.sink).taken
     c.put_fragment.new.refusal c.put_fragment.result c.in-Fragment.is c.put_fragment.ensures.puts
 
 pub put_node-returns-in-Never-clause-puts : goal.put_node-returns-in-Never-clause-puts
 put_node-returns-in-Never-clause-puts g t c =
     let stack = stack_of c.args.around.now in
     let opening = opened_of c.in-Section.opened in
-    section_node c.args.node.now c.in-Section.opened c.in-Section.body c.in-Section.otherwise stack (g.S.Sink.taken c.args.sink.now)
-    (g.S.Sink.taken c.put_nodes.new.sink) c.put_nodes.new.refusal c.put_nodes.result c.in-Section.is
+    section_node c.args.node.now c.in-Section.opened c.in-Section.body c.in-Section.otherwise stack (g.S.Sink.seen c.args.sink.now).taken
+    (g.S.Sink.seen c.put_nodes.new.sink).taken c.put_nodes.new.refusal c.put_nodes.result c.in-Section.is
     (section_made opening (nodes_of c.in-Section.body.items) (nodes_of c.in-Section.otherwise.items) (option_map datum_of c.look_up-value.result) stack
     (unrolled (nodes_of c.in-Section.otherwise.items) stack) _ _ _ _ c.look_up-value.ensures
     (never_told opening (refused_for c.in-Section.opened.times (option_map datum_of c.look_up-value.result)) (λ inner. unrolled (nodes_of c.in-Section.body.items) inner) (unrolled (nodes_of c.in-Section.otherwise.items) stack)
@@ -78,8 +78,8 @@ pub put_node-returns-in-Here-clause-puts : goal.put_node-returns-in-Here-clause-
 put_node-returns-in-Here-clause-puts g t c =
     let stack = stack_of c.args.around.now in
     let opening = opened_of c.in-Section.opened in
-    section_node c.args.node.now c.in-Section.opened c.in-Section.body c.in-Section.otherwise stack (g.S.Sink.taken c.args.sink.now)
-    (g.S.Sink.taken c.put_nodes-in-Here.new.sink) c.put_nodes-in-Here.new.refusal c.put_nodes-in-Here.result c.in-Section.is
+    section_node c.args.node.now c.in-Section.opened c.in-Section.body c.in-Section.otherwise stack (g.S.Sink.seen c.args.sink.now).taken
+    (g.S.Sink.seen c.put_nodes-in-Here.new.sink).taken c.put_nodes-in-Here.new.refusal c.put_nodes-in-Here.result c.in-Section.is
     (section_made opening (nodes_of c.in-Section.body.items) (nodes_of c.in-Section.otherwise.items) (option_map datum_of c.look_up-value.result) stack
     (unrolled (nodes_of c.in-Section.body.items) stack) _ _ _ _ c.look_up-value.ensures
     (stands_told opening (refused_for c.in-Section.opened.times (option_map datum_of c.look_up-value.result)) (λ inner. unrolled (nodes_of c.in-Section.body.items) inner) (unrolled (nodes_of c.in-Section.otherwise.items) stack)
@@ -90,8 +90,8 @@ pub put_node-returns-in-Inside-clause-puts : goal.put_node-returns-in-Inside-cla
 put_node-returns-in-Inside-clause-puts g t c =
     let stack = stack_of c.args.around.now in
     let opening = opened_of c.in-Section.opened in
-    section_node c.args.node.now c.in-Section.opened c.in-Section.body c.in-Section.otherwise stack (g.S.Sink.taken c.args.sink.now)
-    (g.S.Sink.taken c.put_inside.new.sink) c.put_inside.new.refusal c.put_inside.result c.in-Section.is
+    section_node c.args.node.now c.in-Section.opened c.in-Section.body c.in-Section.otherwise stack (g.S.Sink.seen c.args.sink.now).taken
+    (g.S.Sink.seen c.put_inside.new.sink).taken c.put_inside.new.refusal c.put_inside.result c.in-Section.is
     (section_made opening (nodes_of c.in-Section.body.items) (nodes_of c.in-Section.otherwise.items) (option_map datum_of c.look_up-value.result) stack
     (unrolled (nodes_of c.in-Section.body.items) (datum_of c.in-Inside.value ∷ stack)) _ _ _ _ c.look_up-value.ensures
     (stands_told opening (refused_for c.in-Section.opened.times (option_map datum_of c.look_up-value.result)) (λ inner. unrolled (nodes_of c.in-Section.body.items) inner) (unrolled (nodes_of c.in-Section.otherwise.items) stack)
@@ -102,8 +102,8 @@ pub put_node-returns-in-Each-clause-puts : goal.put_node-returns-in-Each-clause-
 put_node-returns-in-Each-clause-puts g t c =
     let stack = stack_of c.args.around.now in
     let opening = opened_of c.in-Section.opened in
-    section_node c.args.node.now c.in-Section.opened c.in-Section.body c.in-Section.otherwise stack (g.S.Sink.taken c.args.sink.now)
-    (g.S.Sink.taken c.put_each.new.sink) c.put_each.new.refusal c.put_each.result c.in-Section.is
+    section_node c.args.node.now c.in-Section.opened c.in-Section.body c.in-Section.otherwise stack (g.S.Sink.seen c.args.sink.now).taken
+    (g.S.Sink.seen c.put_each.new.sink).taken c.put_each.new.refusal c.put_each.result c.in-Section.is
     (section_made opening (nodes_of c.in-Section.body.items) (nodes_of c.in-Section.otherwise.items) (option_map datum_of c.look_up-value.result) stack
     (unrolled_each (λ inner. unrolled (nodes_of c.in-Section.body.items) inner) (item_stacks (items_in c.in-Each.items) stack)) _ _ _ _ c.look_up-value.ensures
     (each_told opening (refused_for c.in-Section.opened.times (option_map datum_of c.look_up-value.result)) (λ inner. unrolled (nodes_of c.in-Section.body.items) inner) (unrolled (nodes_of c.in-Section.otherwise.items) stack)
@@ -121,7 +121,7 @@ put_nodes-loop-node-preserved g t c =
       so_far = one_more (unrolled (nodes_of c.args.nodes.now.items) stack) (λ rest. unrolled (placed_node c.node-item.result rest) stack)
           (nodes_of (drop (c.loop-node.node-index + 1) c.args.nodes.now.items)) stack _ _ _
           (before_node (unrolled (nodes_of c.args.nodes.now.items) stack) c.deref-node-items.result.now c.args.nodes.now.items c.loop-node.node-index c.node-item.result
-          stack (g.S.Sink.taken c.args.sink.now) (g.S.Sink.taken c.loop-node.sink) c.deref-node-items.ensures.value (omega arith) c.node-item.is c.loop-node.invariant.so_far)
+          stack (g.S.Sink.seen c.args.sink.now).taken (g.S.Sink.seen c.loop-node.sink).taken c.deref-node-items.ensures.value (omega arith) c.node-item.is c.loop-node.invariant.so_far)
           c.in-Ok.ensures.puts;
       reference = c.in-Ok.ensures.same_reference ∙ c.loop-node.invariant.reference;
       before = c.in-Ok.ensures.same_before ∙ c.loop-node.invariant.before;
@@ -131,8 +131,8 @@ pub put_nodes-returns-in-Err-clause-puts : goal.put_nodes-returns-in-Err-clause-
 put_nodes-returns-in-Err-clause-puts g t c =
     let stack = stack_of c.args.around.now in
     stop_behind (unrolled (nodes_of c.args.nodes.now.items) stack) (λ rest. unrolled (placed_node c.node-item.result rest) stack)
-    (nodes_of (drop (c.loop-node.node-index + 1) c.args.nodes.now.items)) stack (g.S.Sink.taken c.args.sink.now) (g.S.Sink.taken c.loop-node.sink)
-    (g.S.Sink.taken c.put_node.new.sink) c.put_node.new.refusal c.in-Err.stop
+    (nodes_of (drop (c.loop-node.node-index + 1) c.args.nodes.now.items)) stack (g.S.Sink.seen c.args.sink.now).taken (g.S.Sink.seen c.loop-node.sink).taken
+    (g.S.Sink.seen c.put_node.new.sink).taken c.put_node.new.refusal c.in-Err.stop
     (before_node (unrolled (nodes_of c.args.nodes.now.items) stack) c.deref-node-items.result.now c.args.nodes.now.items c.loop-node.node-index c.node-item.result
-    stack (g.S.Sink.taken c.args.sink.now) (g.S.Sink.taken c.loop-node.sink) c.deref-node-items.ensures.value (omega arith) c.node-item.is c.loop-node.invariant.so_far)
+    stack (g.S.Sink.seen c.args.sink.now).taken (g.S.Sink.seen c.loop-node.sink).taken c.deref-node-items.ensures.value (omega arith) c.node-item.is c.loop-node.invariant.so_far)
     c.in-Err.ensures.puts

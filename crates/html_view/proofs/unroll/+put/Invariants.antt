@@ -10,9 +10,9 @@ abbrev pub invariant-put_each-items : goal.invariant-put_each-items
 invariant-put_each-items g l = record {
   so_far : IsSoFar (unrolled_each (λ inner. unrolled (nodes_of l.body.items) inner) (item_stacks (items_in l.items) (stack_of l.around)))
       (unrolled_each (λ inner. unrolled (nodes_of l.body.items) inner) (item_stacks (items_in l.rest) (stack_of l.around)))
-      (g.S.Sink.taken l.initial.sink) (g.S.Sink.taken l.sink);
-  reference : g.S.Sink.reference l.sink ≡ g.S.Sink.reference l.initial.sink;
-  before : g.S.Sink.before l.sink ≡ g.S.Sink.before l.initial.sink;
+      (g.S.Sink.seen l.initial.sink).taken (g.S.Sink.seen l.sink).taken;
+  reference : (g.S.Sink.seen l.sink).reference ≡ (g.S.Sink.seen l.initial.sink).reference;
+  before : (g.S.Sink.seen l.sink).before ≡ (g.S.Sink.seen l.initial.sink).before;
 }
 
 abbrev pub decreases-put_each-items : goal.decreases-put_each-items
@@ -21,7 +21,7 @@ decreases-put_each-items g l = item_count (items_in l.rest)
 abbrev pub invariant-put_nodes-loop-node : goal.invariant-put_nodes-loop-node
 invariant-put_nodes-loop-node g l = record {
   so_far : IsSoFar (unrolled (nodes_of l.nodes.items) (stack_of l.around)) (unrolled (nodes_of (drop l.node-index l.nodes.items)) (stack_of l.around))
-      (g.S.Sink.taken l.initial.sink) (g.S.Sink.taken l.sink);
-  reference : g.S.Sink.reference l.sink ≡ g.S.Sink.reference l.initial.sink;
-  before : g.S.Sink.before l.sink ≡ g.S.Sink.before l.initial.sink;
+      (g.S.Sink.seen l.initial.sink).taken (g.S.Sink.seen l.sink).taken;
+  reference : (g.S.Sink.seen l.sink).reference ≡ (g.S.Sink.seen l.initial.sink).reference;
+  before : (g.S.Sink.seen l.sink).before ≡ (g.S.Sink.seen l.initial.sink).before;
 }

@@ -7,10 +7,10 @@ use Rattle.html_view.proofs.unroll.put_fragment.Goals as goal
 
 pub returns-in-Ok-put_markup-clause-puts : goal.returns-in-Ok-put_markup-clause-puts
 returns-in-Ok-put_markup-clause-puts g c =
-    fragment_put (named_of c.args.slot.now) (stack_of c.args.around.now) (markup_of c.in-Ok.fragment) (g.S.Sink.taken c.args.sink.now)
-    (g.S.Sink.taken c.put_markup.new.sink) (search (rules, c.in-Ok.ensures)) (search (rules, c.in-Ok-put_markup.ensures.ok_taken))
+    fragment_put (named_of c.args.slot.now) (stack_of c.args.around.now) (markup_of c.in-Ok.fragment) (g.S.Sink.seen c.args.sink.now).taken
+    (g.S.Sink.seen c.put_markup.new.sink).taken (search (rules, c.in-Ok.ensures)) (search (rules, c.in-Ok-put_markup.ensures.taken))
 
 pub returns-in-Err-put_markup-clause-puts : goal.returns-in-Err-put_markup-clause-puts
 returns-in-Err-put_markup-clause-puts g c =
-    fragment_begun (named_of c.args.slot.now) (stack_of c.args.around.now) (markup_of c.in-Ok.fragment) (g.S.Sink.taken c.args.sink.now)
-    (g.S.Sink.taken c.put_markup.new.sink) (search (rules, c.in-Ok.ensures)) (search (rules, c.in-Err-put_markup.ensures.err_taken))
+    fragment_begun (named_of c.args.slot.now) (stack_of c.args.around.now) (markup_of c.in-Ok.fragment) (g.S.Sink.seen c.args.sink.now).taken
+    (g.S.Sink.seen c.put_markup.new.sink).taken (search (rules, c.in-Ok.ensures)) (search (rules, c.in-Err-put_markup.ensures.taken))

@@ -12,5 +12,5 @@ returns-in_default-clause-puts g c =
 
 pub returns-clause-puts : goal.returns-clause-puts
 returns-clause-puts g c =
-    json_puts (slot_of c.args.slot.now) (stack_of c.args.around.now) (datum_of c.in-Some.value) (g.S.Sink.taken c.args.sink.now) (g.S.Sink.taken c.put_json.new.sink)
+    json_puts (slot_of c.args.slot.now) (stack_of c.args.around.now) (datum_of c.in-Some.value) (g.S.Sink.seen c.args.sink.now).taken (g.S.Sink.seen c.put_json.new.sink).taken
     c.put_json.result c.requires.json (sym (ap (option_map datum_of) c.in-Some.is) ∙ c.requires.means) c.put_json.ensures.puts
