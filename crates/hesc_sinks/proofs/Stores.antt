@@ -1,8 +1,12 @@
 -- Stores of a constant length, of which less is wanted.
-use Rattle.std.proofs.Common.{◌≡◌, ℕ, ◌+◌, ◌-◌, ◌≤◌, List, ◌++◌, ◌∙◌, ap, sym, length, take, drop, arith, length-append, length-take, length-take-le, take-take, take_all}
-use Rattle.std.proofs.lemmas.List.{append_assoc, drop-take, drop_at, length-drop, take-append-drop, take-append-le, take_at, take_rest}
+use Rattle.std.proofs.Common.{◌≡◌, ℕ, ◌+◌, ◌-◌, ◌≤◌, List, [], ◌++◌, ◌∙◌, ap, sym, refl, length, take, drop, arith, append-nil, length-append, length-take, length-take-le, take-take}
+use Rattle.std.proofs.lemmas.List.{append_assoc, drop-take, drop_at, length-drop, take-append-drop, take_rest}
+use Rattle.std.proofs.lemmas.Str.{IsUtf8-nil}
 use Rattle.std.proofs.Math.Seq.{take-append-add}
+use Rattle.std.specs.Str.{IsUtf8}
+use Rattle.hesc_sinks.proofs.TakenText.{text_more}
 use Rattle.hesc_sinks.specs.Stores.{Stored}
+use Rattle.hesc_sinks.specs.Took.{Setting, TookAll, seen_in}
 
 -- more than is wanted after some bytes, cut off again
 pub cut_after : (old bytes long short : List ℕ) (count block len : ℕ) → len ≡ length old → count ≤ block → long ≡ old ++ take block bytes → short ≡ take (len + count) long → short ≡ old ++ take count bytes
@@ -41,64 +45,53 @@ stored_then old mid new first second place middle end one two = record {
   long = two.long ∙ one.long;
 }
 
--- what was taken before, and the bytes that were stored after it
-pub held_after : (old new taken bytes all : List ℕ) (place end : ℕ) → Stored old new place bytes end → take place old ≡ taken → all ≡ taken ++ bytes → take end new ≡ all
-held_after old new taken bytes all place end stored held is = stored.before ∙ ap (λ (l : List ℕ). l ++ bytes) held ∙ sym is
+-- bytes that stand up to an end are no more than there are
+end_within : (old new bytes : List ℕ) (place end : ℕ) → place ≤ length old → take end new ≡ take place old ++ bytes → end ≡ place + length bytes → end ≤ length new
+end_within old new bytes place end within put after =
+    omega (arith, after, length-take-le place old within, length-append (take place old) bytes, length-take end new, ap length put)
 
--- a stretch that was taken, as what was stored
-pub stretch_taken : (taken kept copy rest all : List ℕ) → copy ≡ kept → take (length kept) rest ≡ kept → all ≡ taken ++ copy → all ≡ taken ++ take (length copy) rest
-stretch_taken taken kept copy rest all is_kept begins is =
-    is ∙ ap (λ (l : List ℕ). taken ++ l) (is_kept ∙ sym begins ∙ ap (λ (l : List ℕ). take (length l) rest) (sym is_kept))
-
--- the same of a stretch and a text
-pub both_taken : (taken kept copy rest small one all : List ℕ) → copy ≡ kept → take (length kept) rest ≡ kept → one ≡ taken ++ copy → all ≡ one ++ small → all ≡ taken ++ (take (length copy) rest ++ small)
-both_taken taken kept copy rest small one all is_kept begins is_one is =
-    is ∙ ap (λ (l : List ℕ). l ++ small) (stretch_taken taken kept copy rest one is_kept begins is_one) ∙ append_assoc taken (take (length copy) rest) small
-
--- what was stored, in a vector of so many bytes
-pub taken_after : (old new before taken bytes all tail : List ℕ) (place end len : ℕ) → Stored old new place bytes end → place + length bytes ≤ length old → length old ≡ len
-    → take place old ≡ before ++ taken → all ≡ taken ++ bytes → take end (take len (new ++ tail)) ≡ before ++ all
-taken_after old new before taken bytes all tail place end len stored within long held is =
-    take-take end len (new ++ tail) (omega (arith, stored.after, within, long))
-    ∙ take-append-le end new tail (omega (arith, stored.after, stored.long, within))
-    ∙ stored.before
-    ∙ ap (λ (l : List ℕ). l ++ bytes) held
-    ∙ append_assoc before taken bytes
-    ∙ ap (λ (l : List ℕ). before ++ l) (sym is)
-
--- a store ends within the bytes that it goes into
-pub stored_within : (old new bytes : List ℕ) (place end : ℕ) → place ≤ length old → Stored old new place bytes end → end ≤ length old
-stored_within old new bytes place end within stored =
-    omega (arith, stored.after, stored.long, length-take-le place old within, length-append (take place old) bytes, length-take end new, ap length stored.before)
-
--- what was taken is what was stored, where it is read again in that vector
-pub read_after : (old new taken bytes all read tail : List ℕ) (place end len : ℕ) → Stored old new place bytes end → place ≤ length old → length old ≡ len
-    → read ≡ take len (new ++ tail) → all ≡ taken ++ take (end - place) (drop place read) → all ≡ taken ++ bytes
-read_after old new taken bytes all read tail place end len stored within long is_read is =
-    let whole : read ≡ new = is_read ∙ take_at new tail len (stored.long ∙ long) in
+-- what was stored, where it is read again
+pub read_after : (old new read taken bytes all : List ℕ) (place end : ℕ) → Stored old new place bytes end → place ≤ length old → read ≡ new → all ≡ taken ++ take (end - place) (drop place read) → all ≡ taken ++ bytes
+read_after old new read taken bytes all place end stored within is_read is =
     let there : place + (end - place) ≡ end = omega (arith, stored.after) in
     let back : take (end - place) (drop place new) ≡ bytes =
     sym (drop-take place (end - place) new)
     ∙ ap (λ n. drop place (take n new)) there
     ∙ ap (drop place) stored.before
     ∙ drop_at (take place old) bytes place (length-take-le place old within) in
-    is ∙ ap (λ (l : List ℕ). taken ++ take (end - place) (drop place l)) whole ∙ ap (λ (l : List ℕ). taken ++ l) back
+    is ∙ ap (λ (l : List ℕ). taken ++ take (end - place) (drop place l)) is_read ∙ ap (λ (l : List ℕ). taken ++ l) back
 
--- no more bytes than the vector has, which are no more than the limit
-pub filled_after : (n limit : ℕ) (bytes : List ℕ) → n ≤ limit → length (take n bytes) ≤ limit
-filled_after n limit bytes within = omega (arith, within, length-take n bytes)
+-- after what stood there at first, bytes hold a text up to an end
+pub record Holds (bytes start taken : List ℕ) (end : ℕ) : Type 0 where
+  pub within : end ≤ length bytes
+  pub holds : take end bytes ≡ start ++ taken
+  pub utf8 : ∥ IsUtf8 taken ∥₁
 
--- bytes that were appended after a place
-pub appended_after : (old mid new before taken bytes all : List ℕ) (end : ℕ) → end ≤ length old → mid ≡ take end old → new ≡ mid ++ bytes → take end old ≡ before ++ taken → all ≡ taken ++ bytes → take (end + length bytes) new ≡ before ++ all
-appended_after old mid new before taken bytes all end within cut more held is =
-    ap (take (end + length bytes)) more
-    ∙ take_all (end + length bytes) (mid ++ bytes) (omega (arith, within, length-append mid bytes, ap length cut, length-take end old))
-    ∙ ap (λ (l : List ℕ). l ++ bytes) (cut ∙ held)
-    ∙ append_assoc before taken bytes
-    ∙ ap (λ (l : List ℕ). before ++ l) (sym is)
+-- and they do after a piece was put behind it
+pub Holds-more : (old new start same taken piece all : List ℕ) (place end : ℕ) → Holds old start taken place → take end new ≡ take place old ++ piece → end ≡ place + length piece → same ≡ start → all ≡ taken ++ piece → IsUtf8 piece → Holds new same all end
+Holds-more old new start same taken piece all place end before put after is_same is more = record {
+  within = end_within old new piece place end before.within put after;
+  holds = put ∙ ap (λ (l : List ℕ). l ++ piece) before.holds ∙ append_assoc start taken piece ∙ (λ i. sym is_same i ++ sym is i);
+  utf8 = text_more taken piece all is before.utf8 more;
+}
 
--- the same, where as much is read as was stored
-pub read_again : (old new taken bytes all : List ℕ) (place end : ℕ) → Stored old new place bytes end → place ≤ length old → all ≡ taken ++ take (length (take end new) - place) (drop place (take end new)) → all ≡ taken ++ bytes
-read_again old new taken bytes all place end stored within is =
-    let back : drop place (take end new) ≡ bytes = ap (drop place) stored.before ∙ drop_at (take place old) bytes place (length-take-le place old within) in
-    is ∙ ap (λ (l : List ℕ). taken ++ l) (take_all _ _ (omega (arith, length-drop place (take end new))) ∙ back)
+-- or nothing
+pub Holds-kept : (old new start same taken all : List ℕ) (place : ℕ) → Holds old start taken place → take place new ≡ take place old → same ≡ start → all ≡ taken → Holds new same all place
+Holds-kept old new start same taken all place before kept is_same is =
+    Holds-more old new start same taken [] all place place before (kept ∙ sym (append-nil (take place old))) (omega arith) is_same (is ∙ sym (append-nil taken)) IsUtf8-nil
+
+-- where all bytes stay, those up to an end do
+pub filled_after : (old new : List ℕ) (place : ℕ) → place ≤ length old → take (length old) new ≡ old → take place new ≡ take place old
+filled_after old new place within kept = sym (take-take place (length old) new within) ∙ ap (take place) kept
+
+-- and that is what was taken
+pub took_stored : (old new : Setting) (taken piece all : List ℕ) (failures more place end : ℕ) → new ≡ old → all ≡ taken ++ piece → more ≡ failures → end ≡ place + length piece → TookAll (seen_in old place taken failures) (seen_in new end all more) piece
+took_stored old new taken piece all failures more place end same is none after =
+    rw same
+    (record {
+      taken = is;
+      failures = none;
+      room = omega (arith, after);
+      same_reference = refl;
+      same_before = refl;
+    })

@@ -1,5 +1,5 @@
 -- What a sink did with some bytes.
-use Rattle.std.specs.Prelude.{◌≡◌, ◌≤◌, ◌<◌, ◌+◌, ℕ, List, ◌++◌, length, Option, Result, Ok, Err}
+use Rattle.std.specs.Prelude.{◌≡◌, ◌≤◌, ◌<◌, ◌+◌, ◌-◌, ℕ, List, ◌++◌, length, Option, Some, Result, Ok, Err}
 use Rattle.std.specs.Borrow.{GName}
 use Rattle.hesc_specs.specs.Text.Beginning.{TookBeginning}
 
@@ -10,6 +10,22 @@ pub record Seen : Type 0 where
   pub room : ℕ
   pub reference : GName
   pub before : Option (List ℕ)
+
+-- what does not change while texts are stored in a room: what stood there at first, how long it may become with them, and the reference that it is
+pub record Setting : Type 0 where
+  pub start : List ℕ
+  pub limit : ℕ
+  pub reference : GName
+
+-- what is seen of a sink that has stored up to an end
+abbrev pub seen_in : Setting → ℕ → List ℕ → ℕ → Seen
+seen_in setting end taken failures = record {
+  taken = taken;
+  failures = failures;
+  room = setting.limit - end;
+  reference = setting.reference;
+  before = Some setting.start;
+}
 
 -- all of the bytes were taken, and no more room is lost than they need
 pub record TookAll (old new : Seen) (bytes : List ℕ) : Type 0 where

@@ -1,35 +1,37 @@
-//! A short text that is made where it is to stand.
+//! A text that is made where it is to stand.
 ghost use Rattle.std.specs.Prelude.{◌≡◌, ◌≤◌, ◌+◌, ℕ, List, length};
 ghost use Rattle.std.specs.Str.{IsUtf8};
 ghost use Rattle.hesc_sinks.specs.Stores.{Stored};
 
 use std::str;
 
-/// The most room that a text is made in: what 64 bytes become where each becomes three, and the padding of
-/// the last ones.
+/// The most room that a text asks for.
 pub const IN_PLACE_ROOM: usize = 208;
 
-/// A short text that stores itself where it is to stand, so that it is not copied there.
-pub trait InPlace {
+/// A text that stores itself where it is to stand, so that it is not copied there.
+pub trait Storing {
     ghost text: { Self → List ℕ };
 
     ghost needed: { Self → ℕ };
 
-    /// How many bytes of room the text is made in, padding included: at most [`IN_PLACE_ROOM`].
-    ///
-    /// Of the component of `a b` it is 25.
-    fn needed_room(&self) -> usize
-        ensures needed { result ≡ needed self.now }
-        ensures most { result ≤ 208 };
-
-    /// Stores the text at a place with as much room, and answers the place after it. What stands there
-    /// afterwards is lost.
+    /// Stores the text at a place with as much room as it needs, and answers the place after it. What
+    /// stands there afterwards is lost.
     ///
     /// Of the component of `a b` it stores `a%20b` and answers the place 5 bytes on.
     fn store_at(&self, room: &mut [u8], place: usize) -> usize
         requires { place + needed self.now ≤ length room.old }
         ensures stored { Stored room.old room.new place (text self.now) result }
         ensures utf8 { IsUtf8 (text self.now) };
+}
+
+/// A short one.
+pub trait InPlace: Storing {
+    /// How many bytes of room the text is made in, padding included: at most [`IN_PLACE_ROOM`].
+    ///
+    /// Of the component of `a b` it is 25.
+    fn needed_room(&self) -> usize
+        ensures needed { result ≡ Self.needed self.now }
+        ensures most { result ≤ 208 };
 }
 
 /// The text, made at the front of the room.

@@ -2,7 +2,9 @@
 pub mod counter;
 pub mod filled;
 pub mod log;
+pub mod room;
 pub mod stack;
+pub mod store;
 mod stores;
 pub mod string;
 pub mod vec;

@@ -1,45 +1,32 @@
 //! The sink that writes to the stack.
-ghost use Rattle.std.specs.Prelude.{◌≡◌, ◌≤◌, length, take};
-ghost use Rattle.std.specs.Str.{IsUtf8};
+ghost use Rattle.std.specs.Prelude.{◌≡◌, [], length};
 
 use crate::ascii_texts::AsciiTexts;
-use crate::found::Replacement;
-use crate::in_place::{IN_PLACE_ROOM, InPlace, made_in};
-use crate::segment::Segment;
-use crate::sink::Sink;
+use crate::in_place::Storing;
 use crate::sinks::log::Log;
-use crate::sinks::stores::{store, store_both, store_hits, store_padded, store_short};
-use crate::small_text::SmallText;
+use crate::sinks::room::Room;
+use crate::sinks::store::StoreSink;
+use crate::sinks::stores::store_hits;
 use std::str;
 
 /// Writes into an array, and fails where it does not suffice.
 ///
 /// A short text is made here first: its length is known before memory is asked for, and it is not
 /// looked at twice.
+pub type StackSink<const N: usize> = StoreSink<StackRoom<N>>;
+
+/// An array that texts are stored over.
 #[derive(Drop)]
-pub struct StackSink<const N: usize> {
+pub struct StackRoom<const N: usize> {
     bytes: [u8; N],
-    end: usize,
-    log: Log,
-    pub ghost within: { end ≤ length bytes },
-    pub ghost holds: { take end bytes ≡ log.taken },
-    pub ghost utf8: { ∥ IsUtf8 log.taken ∥₁ },
 }
 
 /// The array does not suffice.
 #[derive(Clone, Copy, Debug, PartialEq, Eq)]
 pub struct StackFull;
 
-impl<const N: usize> StackSink<N> {
-    ghost use Rattle.std.specs.Prelude.{◌++◌, []};
-    ghost use Rattle.std.specs.Int.{to_le_bytes, w64};
-    ghost use Rattle.hesc_sinks.specs.Sinks.{
-      stack_sink_room,
-      stack_sink_seen,
-      stack_sink_taken,
-    };
-    ghost use Rattle.hesc_sinks.specs.Text.{small_text_bytes};
-    ghost use Rattle.hesc_sinks.specs.Took.{Took, TookAll};
+impl<const N: usize> StoreSink<StackRoom<N>> {
+    ghost use Rattle.hesc_sinks.specs.Sinks.{stack_sink_room, stack_sink_taken};
 
     /// Nothing taken yet.
     ///
@@ -49,8 +36,8 @@ impl<const N: usize> StackSink<N> {
         ensures nothing { stack_sink_taken result ≡ [] }
         ensures room { stack_sink_room result ≡ N }
     {
-        StackSink {
-            bytes: [0; N],
+        StoreSink {
+            room: StackRoom { bytes: [0; N] },
             end: 0,
             log: Log::new(),
         }
@@ -64,129 +51,49 @@ impl<const N: usize> StackSink<N> {
         ensures { result.now ≡ stack_sink_taken self.now }
     {
         // The bytes are UTF-8, as the ghost field `utf8` keeps.
-        unsafe { str::from_utf8_unchecked(&self.bytes[..self.end]) }
-    }
-
-    #[inline(always)]
-    fn room(&self) -> usize
-        ensures { result ≡ stack_sink_room self.now }
-    {
-        N - self.end
-    }
-
-    // A short stretch and a short text, where a block of each fits.
-    #[inline(always)]
-    fn put_both(&mut self, segment: Segment<'_>, text: SmallText)
-        requires few { length segment.kept.now ≤ 16 }
-        requires fits { 24 ≤ stack_sink_room self.old }
-        ensures { TookAll (stack_sink_seen self.old) (stack_sink_seen self.new)
-            (segment.entry.kept.now ++ small_text_bytes text) }
-    {
-        let kept = segment.kept.as_bytes();
-        self.end = store_both::<16>(&mut self.bytes, self.end, segment.rest, kept.len(), text);
-        let log = self.log.after_taking(kept);
-        self.log = log.after_taking(text.as_str().as_bytes());
-    }
-
-    // A short text, where a block fits.
-    #[inline(always)]
-    fn put_padded(&mut self, text: SmallText)
-        requires { 8 ≤ stack_sink_room self.old }
-        ensures { TookAll (stack_sink_seen self.old) (stack_sink_seen self.new) (small_text_bytes text) }
-    {
-        self.end = store_padded(&mut self.bytes, self.end, text);
-        self.log = self.log.after_taking(text.as_str().as_bytes());
-    }
-
-    // A short text, where no block fits. Passed as a number: a reference would keep the text in memory where
-    // one fits, too.
-    #[inline(never)]
-    fn put_small(&mut self, word: u64, len: usize) -> Result<(), StackFull>
-        requires few { len ≤ 8 }
-        requires utf8 { IsUtf8 (take len (to_le_bytes w64 word)) }
-        ensures { Took (stack_sink_seen self.old) (stack_sink_seen self.new)
-            (take len (to_le_bytes w64 word)) result }
-    {
-        let bytes = word.to_le_bytes();
-        // It is UTF-8, as the caller says.
-        self.put_some(unsafe { str::from_utf8_unchecked(&bytes[..len]) })
+        unsafe { str::from_utf8_unchecked(&self.room.bytes[..self.end]) }
     }
 }
 
-impl<const N: usize> Sink for StackSink<N> {
-    ghost use Rattle.hesc_sinks.specs.Sinks.{stack_sink_seen};
+impl<const N: usize> Room for StackRoom<N> {
+    ghost use Rattle.hesc_sinks.specs.Sinks.{stack_setting};
 
     type Fault = StackFull;
 
-    ghost seen = { stack_sink_seen };
+    const HAS_LONG: bool = false;
+
+    ghost bytes = { λ room. room.bytes };
+
+    ghost setting = { λ room. stack_setting room };
 
     #[inline(always)]
-    fn put(&mut self, piece: &str) -> Result<(), StackFull> {
-        if piece.len() > self.room() {
-            self.log = self.log.after_failing();
-            return Err(StackFull);
-        }
-        self.end = store(&mut self.bytes, self.end, piece.as_bytes());
-        self.log = self.log.after_taking(piece.as_bytes());
-        Ok(())
-    }
-
-    // Most stretches and replacements are short.
-    #[inline(always)]
-    #[tactic(auto, using(crate::proofs::Took::pieces))]
-    fn put_segment(&mut self, segment: Segment<'_>) -> Result<(), StackFull> {
-        match segment.new {
-            Replacement::Small(text) => {
-                if segment.kept.len() <= 16 && self.room() >= 24 {
-                    self.put_both(segment, text);
-                    return Ok(());
-                }
-                self.put_some(segment.kept)?;
-                if self.room() >= 8 {
-                    self.put_padded(text);
-                    return Ok(());
-                }
-                self.put_small(text.word(), text.len())
-            }
-            Replacement::Borrowed(text) => {
-                self.put_stretch(segment)?;
-                self.put_some(text)
-            }
-        }
+    fn as_slice(&self) -> &[u8] {
+        &self.bytes
     }
 
     #[inline(always)]
-    fn put_stretch(&mut self, segment: Segment<'_>) -> Result<(), StackFull> {
-        if segment.kept.len() > 16 || self.room() < 16 {
-            return self.put_some(segment.kept);
-        }
-        let kept = segment.kept.as_bytes();
-        self.end = store_short::<16>(&mut self.bytes, self.end, segment.rest, kept.len());
-        self.log = self.log.after_taking(kept);
-        Ok(())
+    fn fill(&mut self) {}
+
+    #[inline(always)]
+    fn store<T: Storing>(&mut self, place: usize, text: &T) -> usize {
+        text.store_at(&mut self.bytes, place)
     }
 
     #[inline(always)]
-    fn put_in_place<T: InPlace>(&mut self, text: &T) -> Result<(), StackFull> {
-        if self.room() < text.needed_room() {
-            let mut room = [0; IN_PLACE_ROOM];
-            return self.put(made_in(text, &mut room));
-        }
-        let start = self.end;
-        self.end = text.store_at(&mut self.bytes, start);
-        let stored = &self.bytes[..self.end];
-        self.log = self.log.after_taking(&stored[start..]);
-        Ok(())
+    fn store_hits(
+        &mut self,
+        place: usize,
+        text: &str,
+        from: usize,
+        hits: u64,
+        texts: AsciiTexts,
+    ) -> (usize, usize) {
+        store_hits(&mut self.bytes, place, text, from, hits, texts)
     }
 
-    // As in a `FilledSink`.
-    #[inline(never)]
-    fn put_hits(&mut self, text: &str, from: usize, hits: u64, texts: AsciiTexts) -> usize {
-        let start = self.end;
-        let (end, reached) = store_hits(&mut self.bytes, start, text, from, hits, texts);
-        self.end = end;
-        let stored = &self.bytes[..end];
-        self.log = self.log.after_taking(&stored[start..]);
-        reached
+    #[inline(always)]
+    fn append(&mut self, place: usize, piece: &str) -> Result<usize, StackFull> {
+        let (_place, _piece) = (place, piece.len());
+        Err(StackFull)
     }
 }

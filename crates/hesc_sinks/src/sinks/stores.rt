@@ -6,8 +6,73 @@ ghost use Rattle.hesc_sinks.specs.Stores.{Stored};
 ghost use Rattle.hesc_sinks.specs.Text.{small_text_bytes};
 
 use crate::ascii_texts::AsciiTexts;
+use crate::in_place::Storing;
+use crate::segment::Segment;
 use crate::small_text::SmallText;
 use std::simd::Simd;
+
+/// A piece, which needs as much room as it has bytes.
+impl Storing for &str {
+    ghost text = { λ piece. piece.now };
+
+    ghost needed = { λ piece. length piece.now };
+
+    #[inline(always)]
+    fn store_at(&self, room: &mut [u8], place: usize) -> usize {
+        store(room, place, self.as_bytes())
+    }
+}
+
+/// A short text, which needs a block.
+impl Storing for SmallText {
+    ghost text = { small_text_bytes };
+
+    ghost needed = { λ _. 8 };
+
+    #[inline(always)]
+    fn store_at(&self, room: &mut [u8], place: usize) -> usize {
+        store_padded(room, place, *self)
+    }
+}
+
+/// The stretch of a segment, which fits into a block.
+#[derive(Clone, Copy)]
+pub(crate) struct Stretch<'t, const N: usize> {
+    pub(crate) segment: Segment<'t>,
+    pub(crate) ghost few: { length segment.kept.now ≤ N },
+}
+
+impl<const N: usize> Storing for Stretch<'_, N> {
+    ghost text = { λ stretch. stretch.segment.kept.now };
+
+    ghost needed = { λ _. N };
+
+    #[inline(always)]
+    fn store_at(&self, room: &mut [u8], place: usize) -> usize {
+        let kept = self.segment.kept.as_bytes();
+        store_short::<N>(room, place, self.segment.rest, kept.len())
+    }
+}
+
+/// Such a stretch and a short text, each of which needs a block.
+#[derive(Clone, Copy)]
+pub(crate) struct Both<'t, const N: usize> {
+    pub(crate) segment: Segment<'t>,
+    pub(crate) text: SmallText,
+    pub(crate) ghost few: { length segment.kept.now ≤ N },
+}
+
+impl<const N: usize> Storing for Both<'_, N> {
+    ghost text = { λ both. both.segment.kept.now ++ small_text_bytes both.text };
+
+    ghost needed = { λ _. N + 8 };
+
+    #[inline(always)]
+    fn store_at(&self, room: &mut [u8], place: usize) -> usize {
+        let kept = self.segment.kept.as_bytes();
+        store_both::<N>(room, place, self.segment.rest, kept.len(), self.text)
+    }
+}
 
 /// Stores a text from `from` on, with the bytes replaced that `hits` tells of, at a place of the room:
 /// as many of them as stand near enough to one another and find room for a block of each. Answers

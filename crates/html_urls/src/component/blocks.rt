@@ -5,7 +5,7 @@ ghost use Rattle.html_urls.specs.Components.{IsUnreservedText, component};
 
 use crate::component::lanes::{LANES, store_lanes};
 use crate::component::rows::store_encoded;
-use hesc_engine::in_place::InPlace;
+use hesc_engine::in_place::{InPlace, Storing};
 use percent_encoding::ascii_str;
 
 /// The bytes of a text that are encoded at once.
@@ -43,20 +43,22 @@ pub(crate) struct MadeBlock<'b> {
     pub(crate) ghost few: { length bytes.now ≤ 64 },
 }
 
-impl InPlace for MadeBlock<'_> {
+impl Storing for MadeBlock<'_> {
     ghost text = { λ block. component block.bytes.now };
 
     ghost needed = { λ block. length block.bytes.now * 3 + 16 };
 
+    #[inline(always)]
+    fn store_at(&self, room: &mut [u8], place: usize) -> usize {
+        store_block(room, place, self.bytes)
+    }
+}
+
+impl InPlace for MadeBlock<'_> {
     // Each byte becomes three at most, and the last ones have padding.
     #[inline(always)]
     fn needed_room(&self) -> usize {
         self.bytes.len() * 3 + 16
-    }
-
-    #[inline(always)]
-    fn store_at(&self, room: &mut [u8], place: usize) -> usize {
-        store_block(room, place, self.bytes)
     }
 }
 

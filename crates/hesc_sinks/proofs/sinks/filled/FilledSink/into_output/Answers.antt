@@ -1,9 +1,0 @@
-use Rattle.std.proofs.Common.{◌∙◌}
-use Rattle.std.proofs.lemmas.Str.{IsUtf8-had}
-use Rattle.hesc_sinks.proofs.sinks.filled.FilledSink.into_output.Goals as goal
-
-pub returns-clause-utf8 : goal.returns-clause-utf8
-returns-clause-utf8 g c = IsUtf8-had _ c.args.self.utf8
-
-pub returns-clause-items : goal.returns-clause-items
-returns-clause-items g c = c.truncate.ensures.items ∙ c.args.self.holds
