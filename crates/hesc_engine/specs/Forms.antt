@@ -1,5 +1,5 @@
 -- What the forms of an operation answer, and what they leave.
-use Rattle.std.specs.Prelude.{◌≡◌, ◌≢◌, ◌≤◌, ⊤, ℕ, List, [], ◌++◌, Option, Result, String, Vec, IfOk, IsOk, OnOk, OnErr, is_ok, if◌then◌else◌, length, string_bytes}
+use Rattle.std.specs.Prelude.{◌≡◌, ◌≢◌, ◌≤◌, ⊤, ℕ, List, [], Option, Result, String, Vec, IfOk, IsOk, OnOk, OnErr, length, string_bytes}
 use Rattle.std.specs.Borrow.{Bor, Fml, MutBor, follows_so, u8}
 use Rattle.std.specs.Cow.{cow_str_bytes}
 use Rattle.std.specs.Io.KnownBytes.{Appends}
@@ -12,7 +12,7 @@ use denote.RattleType.{RattleType}
 use mathlib.Core.Option.{none}
 use Rattle.hesc_specs.specs.Text.Beginning.{AppendsBeginning}
 use Rattle.hesc_specs.specs.Text.Changes.{Change}
-pub use Rattle.hesc_sinks.specs.Room.{string_room, vec_room}
+pub use Rattle.hesc_sinks.specs.Room.{Appended, string_room, vec_room}
 
 -- it borrows exactly where nothing changes, and then the source itself
 abbrev pub BorrowsUnchanged : {A : Type 0} → List ℕ → List Change → CowStr A → Type 0
@@ -24,10 +24,6 @@ pub record AnswersText {A E : Type 0} (source made : List ℕ) (changes : List C
   pub text : IfOk result (λ cow. cow_str_bytes cow ≡ made)
   pub borrows : IfOk result (BorrowsUnchanged source changes)
   pub unchanged : changes ≡ [] → IsOk result
-
--- the bytes were appended, or the output is as it was
-abbrev pub Appended : {T E : Type 0} → List ℕ → List ℕ → List ℕ → Result T E → Type 0
-Appended old new bytes result = new ≡ (if is_ok result then old ++ bytes else old)
 
 -- the answer is the part that was added; where there is room for it, it comes without memory
 pub record AnswersPart {E : Type 0} (room : ℕ) (added : List ℕ) (result : Result (Bor (List ℕ)) E) : Type 0 where

@@ -6,7 +6,6 @@
 pub mod cow;
 pub mod made;
 pub mod measure;
-mod output;
 pub mod parts;
 pub mod string;
 pub mod vec;

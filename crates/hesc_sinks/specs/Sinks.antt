@@ -1,16 +1,14 @@
 -- What a sink took, how often it failed, where it writes to, and what stood there at first.
-use Rattle.std.specs.Prelude.{◌-◌, ◌^◌, ℕ, List, [], Some, None, String, Vec, length}
+use Rattle.std.specs.Prelude.{◌-◌, ◌^◌, ℕ, List, [], Some, None, Vec, length}
 use Rattle.std.specs.Borrow.{MutBor}
-use Rattle.std.specs.String.{string_bytes}
-use Rattle.hesc_sinks.specs.Room.{string_room, vec_room}
 use Rattle.hesc_sinks.specs.Took.{Seen, Setting, seen_in}
 use Rattle.hesc_sinks.specs.declared.sinks.counter.Counter.{Counter}
 use Rattle.hesc_sinks.specs.declared.sinks.filled.FilledRoom.{FilledRoom}
+use Rattle.hesc_sinks.specs.declared.sinks.output.Output.{Ghosts as Outputs}
+use Rattle.hesc_sinks.specs.declared.sinks.output.OutputSink.{OutputSink}
 use Rattle.hesc_sinks.specs.declared.sinks.room.Room.{Ghosts as Rooms}
 use Rattle.hesc_sinks.specs.declared.sinks.stack.StackRoom.{StackRoom}
 use Rattle.hesc_sinks.specs.declared.sinks.store.StoreSink.{StoreSink}
-use Rattle.hesc_sinks.specs.declared.sinks.string.StringSink.{StringSink}
-use Rattle.hesc_sinks.specs.declared.sinks.vec.VecSink.{VecSink}
 use Rattle.hesc_sinks.specs.declared.sinks.writer.WriterSink.{WriterSink}
 use Rattle.std.specs.declared.io.Write.{Ghosts}
 
@@ -42,41 +40,23 @@ stack_sink_taken sink = sink.log.taken
 abbrev pub stack_sink_room : {N : ℕ} {F : Type 0} {rooms : Rooms (StackRoom N) F} → StoreSink (StackRoom N) F rooms → ℕ
 stack_sink_room sink = length sink.room.bytes - sink.end
 
-abbrev pub string_sink_taken : {A : Type 0} → StringSink A → List ℕ
-string_sink_taken sink = sink.log.taken
+abbrev pub output_sink_taken : {O : Type 0} {outputs : Outputs O} → OutputSink O outputs → List ℕ
+output_sink_taken sink = sink.log.taken
 
-abbrev pub string_sink_seen : {A : Type 0} → StringSink A → Seen
-string_sink_seen sink = record {
+abbrev pub output_sink_seen : {O : Type 0} {outputs : Outputs O} → OutputSink O outputs → Seen
+output_sink_seen {outputs = outputs} sink = record {
   taken = sink.log.taken;
   failures = sink.log.failures;
-  room = string_room sink.output.now;
+  room = outputs.room sink.output.now;
   reference = sink.output.ghost_name;
-  before = Some (string_bytes sink.start.value);
+  before = Some (outputs.bytes sink.start.value);
 }
 
-abbrev pub string_sink_output : {A : Type 0} → StringSink A → MutBor (String A)
-string_sink_output sink = sink.output
+abbrev pub output_sink_output : {O : Type 0} {outputs : Outputs O} → OutputSink O outputs → MutBor O
+output_sink_output sink = sink.output
 
-abbrev pub string_sink_start : {A : Type 0} → StringSink A → String A
-string_sink_start sink = sink.start.value
-
-abbrev pub vec_sink_taken : {A : Type 0} → VecSink A → List ℕ
-vec_sink_taken sink = sink.log.taken
-
-abbrev pub vec_sink_seen : {A : Type 0} → VecSink A → Seen
-vec_sink_seen sink = record {
-  taken = sink.log.taken;
-  failures = sink.log.failures;
-  room = vec_room sink.output.now;
-  reference = sink.output.ghost_name;
-  before = Some sink.start.value.items;
-}
-
-abbrev pub vec_sink_output : {A : Type 0} → VecSink A → MutBor (Vec ℕ A)
-vec_sink_output sink = sink.output
-
-abbrev pub vec_sink_start : {A : Type 0} → VecSink A → Vec ℕ A
-vec_sink_start sink = sink.start.value
+abbrev pub output_sink_start : {O : Type 0} {outputs : Outputs O} → OutputSink O outputs → O
+output_sink_start sink = sink.start.value
 
 abbrev pub filled_setting : {A : Type 0} → FilledRoom A → Setting
 filled_setting room = record { start = room.start.value.items; limit = room.limit; reference = room.output.ghost_name }

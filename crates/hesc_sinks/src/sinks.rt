@@ -2,16 +2,14 @@
 pub mod counter;
 pub mod filled;
 pub mod log;
+pub mod output;
 pub mod room;
 pub mod stack;
 pub mod store;
 mod stores;
-pub mod string;
-pub mod vec;
 pub mod writer;
 
 pub use crate::sinks::counter::{CountOverflow, Counter};
+pub use crate::sinks::output::{Output, OutputSink, StringSink, VecSink};
 pub use crate::sinks::stack::{StackFull, StackSink};
-pub use crate::sinks::string::StringSink;
-pub use crate::sinks::vec::VecSink;
 pub use crate::sinks::writer::WriterSink;

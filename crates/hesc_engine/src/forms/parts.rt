@@ -5,11 +5,11 @@ ghost use Rattle.std.specs.String.{string_bytes};
 ghost use Rattle.hesc_sinks.specs.Took.{Took};
 ghost use Rattle.hesc_engine.specs.Forms.{Appended, string_room, vec_room};
 
-use crate::forms::output::Output;
 use core::mem::replace_with;
 use hesc_sinks::sink::Sink;
 use hesc_sinks::sinks::counter::{CountOverflow, Counter};
 use hesc_sinks::sinks::filled::FilledSink;
+use hesc_sinks::sinks::output::Output;
 use hesc_sinks::sinks::stack::StackSink;
 use std::alloc::{AllocError, Allocator};
 

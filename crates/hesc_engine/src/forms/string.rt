@@ -6,9 +6,9 @@ ghost use Rattle.std.specs.String.{string_bytes};
 ghost use Rattle.hesc_engine.specs.Forms.{AnswersPart, Appended, StringAppended, string_room};
 
 use crate::forms::made::Made;
-use crate::forms::output::Output;
 use crate::forms::parts::{Parts, append_parts};
 use crate::rule::Rule;
+use hesc_sinks::sinks::output::Output;
 use std::alloc::{AllocError, Allocator};
 
 /// Appends what `rule` makes of `text`, or leaves the output as it was.

@@ -5,9 +5,9 @@ ghost use Rattle.std.specs.Str.{IsUtf8};
 ghost use Rattle.hesc_engine.specs.Forms.{AnswersPart, Appended, VecAppended, vec_room};
 
 use crate::forms::made::Made;
-use crate::forms::output::Output;
 use crate::forms::parts::{Parts, append_parts_to_vec};
 use crate::rule::Rule;
+use hesc_sinks::sinks::output::Output;
 use std::alloc::{AllocError, Allocator};
 
 /// Appends what `rule` makes of `text`, or leaves the output as it was.

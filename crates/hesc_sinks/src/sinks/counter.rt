@@ -1,7 +1,6 @@
 //! The sink that only counts.
 ghost use Rattle.std.specs.Prelude.{◌≡◌, [], length};
 
-use crate::ascii_texts::AsciiTexts;
 use crate::sink::Sink;
 use crate::sinks::log::Log;
 
@@ -64,11 +63,5 @@ impl Sink for Counter {
                 Err(CountOverflow)
             }
         }
-    }
-
-    // As by default, and inlined.
-    #[inline(always)]
-    fn put_hits(&mut self, _text: &str, from: usize, _hits: u64, _texts: AsciiTexts) -> usize {
-        from
     }
 }

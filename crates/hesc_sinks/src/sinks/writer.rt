@@ -2,7 +2,6 @@
 ghost use Rattle.std.specs.Prelude.{◌≡◌, []};
 ghost use Rattle.std.specs.Io.KnownBytes.{Appends};
 
-use crate::ascii_texts::AsciiTexts;
 use crate::sink::Sink;
 use crate::sinks::log::Log;
 use std::io::{self, ErrorKind, Write};
@@ -80,11 +79,5 @@ impl<W: Write> Sink for WriterSink<'_, W> {
             }
         }
         Ok(())
-    }
-
-    // As by default, and inlined.
-    #[inline(always)]
-    fn put_hits(&mut self, _text: &str, from: usize, _hits: u64, _texts: AsciiTexts) -> usize {
-        from
     }
 }
