@@ -60,7 +60,7 @@ fn run_from<R: Rule, S: Sink>(
     let (mut place, mut known) = (from, ahead);
     // No mask with a change begins at the end.
     let mut handed_from = text.len();
-    'putting: while let Some(found) = first_change(rule, seek, text, place, &mut known) {
+    'putting: while let Some(found) = first_change(rule, seek, text, place, place, &mut known) {
         sink.put_segment(segment_before(text, place, found.start, found.replacement))?;
         place = found.end;
         // Once for a mask: where the sink stopped, it would mostly stop again.

@@ -23,7 +23,7 @@ pub use crate::rule::Rule;
 pub use crate::search::change_from;
 pub use crate::sought::{Seek, Sought};
 pub use hesc_sinks::{
-    AsciiTexts, CountOverflow, Counter, Found, InPlace, Replacement, Segment, Sink, SmallText, Storing,
-    StackFull, StackSink, StringSink, VecSink, WriterSink, ascii_texts, found, in_place, segment,
-    sink, sinks, small_text,
+    AsciiTexts, CountOverflow, Counter, Found, InPlace, Replacement, Segment, Sink, SmallText,
+    StackFull, StackSink, Storing, StringSink, VecSink, WriterSink, ascii_texts, found, in_place,
+    segment, sink, sinks, small_text,
 };

@@ -107,7 +107,7 @@ impl<'t, R: Rule> Pieces<'t, R> {
             return None;
         }
         let (seek, from) = (seek_of(self.rule), self.from);
-        match first_change(self.rule, seek, self.text, from, &mut self.ahead) {
+        match first_change(self.rule, seek, self.text, from, from, &mut self.ahead) {
             Some(found) => {
                 self.from = found.end;
                 Some(segment_before(self.text, from, found.start, found.replacement))

@@ -33,31 +33,13 @@ pub fn change_from<'r, R: Rule>(rule: &'r R, text: &str, from: usize) -> Option<
     ensures none { IfNone result (R.changes_from rule.now text.now from ≡ []) }
     ensures found { IfSome result (IsNext text.now from (R.changes_from rule.now text.now)) }
 {
-    first_change(rule, seek_of(rule), text, from, &mut Ahead::nothing(text))
+    let ahead = &mut Ahead::nothing(text);
+    first_change(rule, seek_of(rule), text, from, from, ahead)
 }
 
-// The same, by what is known of the bytes ahead, which stays true.
+// The same, by what is known of the bytes ahead, which stays true, where no change begins before `passed`.
 #[inline(always)]
 pub(crate) fn first_change<'r, R: Rule>(
-    rule: &'r R,
-    seek: Seek,
-    text: &str,
-    from: usize,
-    ahead: &mut Ahead,
-) -> Option<Found<'r>>
-    requires boundary { IsCharBoundary text.now from }
-    requires seek { IsSeekOf R.Rule rule.now seek }
-    requires ahead { IsAhead (R.is_sought rule.now) text.now ahead.old }
-    ensures none { IfNone result (R.changes_from rule.now text.now from ≡ []) }
-    ensures found { IfSome result (IsNext text.now from (R.changes_from rule.now text.now)) }
-    ensures ahead { IsAhead (R.is_sought rule.now) text.now ahead.new }
-{
-    first_change_after(rule, seek, text, from, from, ahead)
-}
-
-// The same, where no change begins before `passed`.
-#[inline(always)]
-fn first_change_after<'r, R: Rule>(
     rule: &'r R,
     seek: Seek,
     text: &str,
@@ -105,7 +87,7 @@ pub(crate) fn change_from_hit<'r, R: Rule>(
 {
     match change_at_hit(rule, seek, text, place) {
         Some(found) => Some(found),
-        None => first_change_after(rule, seek, text, 0, place + 1, ahead),
+        None => first_change(rule, seek, text, 0, place + 1, ahead),
     }
 }
 

@@ -1,7 +1,7 @@
 use Rattle.std.proofs.Common.{sym, subst}
 use Rattle.hesc_specs.specs.Text.FirstPlace.{IsFirstPlace}
 use Rattle.hesc_engine.proofs.Searches.{first_begins}
-use Rattle.hesc_engine.proofs.search.first_change_after.Goals as goal
+use Rattle.hesc_engine.proofs.search.first_change.Goals as goal
 
 pub returns-in-Some-change_at_hit-clause-found : goal.returns-in-Some-change_at_hit-clause-found
 returns-in-Some-change_at_hit-clause-found g c =

@@ -1,6 +1,6 @@
 use Rattle.std.proofs.Common.{◌≡◌, ◌≤◌, ◌<◌, ◌-◌, ℕ, false, length}
 use Rattle.hesc_engine.specs.Ahead.{IsAhead}
-use Rattle.hesc_engine.proofs.search.first_change_after.Given as goal
+use Rattle.hesc_engine.proofs.search.first_change.Given as goal
 
 -- no change begins up to where the search has come
 abbrev pub invariant-seeking : goal.invariant-seeking
