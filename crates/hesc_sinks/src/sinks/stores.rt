@@ -31,7 +31,8 @@ impl Storing for SmallText {
 
     #[inline(always)]
     fn store_at(&self, room: &mut [u8], place: usize) -> usize {
-        store_padded(room, place, *self)
+        store_block::<8>(room, place, &self.block());
+        place + self.len()
     }
 }
 
@@ -188,7 +189,7 @@ pub(crate) fn store_both<const N: usize>(
     ensures { Stored room.old room.new place (take count bytes.now ++ small_text_bytes text) result }
 {
     let middle = store_short::<N>(room, place, bytes, count);
-    store_padded(room, middle, text)
+    text.store_at(room, middle)
 }
 
 /// Stores the bytes at a place, and answers the place after them.
@@ -242,16 +243,6 @@ pub(crate) fn store_short<const N: usize>(
         return place;
     }
     store(room, place, &bytes[..count])
-}
-
-/// Stores the text at a place where a block fits, and answers the place after it.
-#[inline(always)]
-pub(crate) fn store_padded(room: &mut [u8], place: usize, text: SmallText) -> usize
-    requires { place + 8 ≤ length room.old }
-    ensures { Stored room.old room.new place (small_text_bytes text) result }
-{
-    store_block::<8>(room, place, &text.block());
-    place + text.len()
 }
 
 // As many bytes as a block has, or up to twice as many: the last ones overlap the first.
