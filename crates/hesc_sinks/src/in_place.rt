@@ -5,8 +5,8 @@ ghost use Rattle.hesc_sinks.specs.Stores.{Stored};
 
 use std::str;
 
-/// The most room that a text asks for.
-pub const IN_PLACE_ROOM: usize = 208;
+/// The most room that a short text asks for.
+pub(crate) const IN_PLACE_ROOM: usize = 208;
 
 /// A text that stores itself where it is to stand, so that it is not copied there.
 pub trait Storing {
@@ -26,7 +26,7 @@ pub trait Storing {
 
 /// A short one.
 pub trait InPlace: Storing {
-    /// How many bytes of room the text is made in, padding included: at most [`IN_PLACE_ROOM`].
+    /// How many bytes of room the text is made in, padding included: at most 208.
     ///
     /// Of the component of `a b` it is 25.
     fn needed_room(&self) -> usize

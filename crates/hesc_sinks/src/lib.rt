@@ -14,7 +14,7 @@ pub mod small_text;
 
 pub use crate::ascii_texts::AsciiTexts;
 pub use crate::found::{Found, Replacement};
-pub use crate::in_place::{IN_PLACE_ROOM, InPlace, Storing};
+pub use crate::in_place::{InPlace, Storing};
 pub use crate::segment::Segment;
 pub use crate::sink::Sink;
 pub use crate::sinks::{

@@ -9,12 +9,11 @@ ghost use Rattle.percent_encoding.specs.Cow.{IsBorrowedStr};
 ghost use Rattle.hesc_engine.specs.Forms.{Appended, AnswersPart, StringAppended, VecAppended, WritesText, string_room, vec_room};
 ghost use Rattle.html_urls.specs.Components.{IsUnreservedText, component};
 
-use crate::component::blocks::{BLOCK, SHORT_ROOM, made_block};
+use crate::component::blocks::{BLOCK, BLOCK_ROOM, SHORT_ROOM, made_block};
 use crate::component::lanes::LANES;
 use crate::component::{Component, is_unreserved, put_component};
 use hesc_engine::WriterSink;
 use hesc_engine::forms::{append_parts, append_parts_to_vec};
-use hesc_engine::in_place::IN_PLACE_ROOM;
 use std::alloc::{AllocError, Allocator};
 use std::borrow::CowStr;
 use std::io::{self, Write};
@@ -71,7 +70,7 @@ fn append_text<A: Allocator>(output: &mut String<A>, text: &str) -> Result<(), A
         return output.push_str(made_block(text.as_bytes(), &mut short));
     }
     if text.len() <= BLOCK {
-        let mut room = [0; IN_PLACE_ROOM];
+        let mut room = [0; BLOCK_ROOM];
         return output.push_str(made_block(text.as_bytes(), &mut room));
     }
     append_parts(output, &Component(text))
@@ -125,7 +124,7 @@ fn append_text_to_vec<A: Allocator>(output: &mut Vec<u8, A>, text: &str) -> Resu
         return output.extend_from_slice(made.as_bytes());
     }
     if text.len() <= BLOCK {
-        let mut room = [0; IN_PLACE_ROOM];
+        let mut room = [0; BLOCK_ROOM];
         let made = made_block(text.as_bytes(), &mut room);
         return output.extend_from_slice(made.as_bytes());
     }

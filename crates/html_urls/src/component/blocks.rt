@@ -14,6 +14,9 @@ pub(crate) const BLOCK: usize = 64;
 /// Room for what fewer bytes than are encoded by lanes become, and for padding.
 pub(crate) const SHORT_ROOM: usize = 64;
 
+/// Room for what as many bytes become as are encoded at once, each of them three, and for padding.
+pub(crate) const BLOCK_ROOM: usize = 208;
+
 /// The first bytes, as many as are encoded at once, and the others.
 #[inline(always)]
 pub(crate) fn first_block(bytes: &[u8]) -> (&[u8], &[u8])
