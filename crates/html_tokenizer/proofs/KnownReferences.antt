@@ -11,7 +11,7 @@ use Rattle.hesc_grammars.specs.References.{body_character, digits_character, nam
 use Rattle.html_entities.proofs.References.{same_value}
 use Rattle.html_tokenizer.specs.declared.slot_place.SlotPlace.{SlotPlace}
 use Rattle.html_tokenizer.specs.declared.elements.Content.{Content}
-use Rattle.html_tokenizer.specs.Tokenizer.Values.References.{goes_on, named_characters, reference_end}
+use Rattle.html_tokenizer.specs.Tokenizer.Values.References.{behind_reference, goes_on, named_characters, reference_end}
 use Rattle.html_tokenizer.specs.Tokenizer.States.{Attribute}
 use Rattle.html_tokenizer.specs.Tokenizer.Transitions.{Transition}
 use Rattle.html_tokenizer.specs.Tokenizer.Values.{character_read}
@@ -25,7 +25,7 @@ is_held word (b ∷ body) = goes_on word b && is_held (word ++ b ∷ []) body
 pub record IsKnown (body : List ℕ) (c : ℕ) : Type 0 where
   pub held : is_held [] body ≡ true
   pub read : (p : SlotPlace) (content : Content) (attribute : Attribute) (again : Transition) →
-      reference_end p content attribute body semicolon again ≡ character_read p content attribute (Some c)
+      reference_end p content attribute body semicolon again ≡ character_read p content (behind_reference body attribute) (Some c)
 
 abbrev are_letters : List ℕ → Bool
 are_letters word = list_all is_ascii_alphanumeric word

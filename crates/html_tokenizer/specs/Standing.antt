@@ -1,11 +1,13 @@
 -- Where a slot stands in what was read, and where a page may end.
 use Rattle.std.specs.Prelude.{◌≡◌, Bool, true, false, ◌&&◌, ◌==◌, if◌then◌else◌}
 use Rattle.html_tokenizer.specs.declared.reader.Standing.{Standing}
-use Rattle.html_tokenizer.specs.declared.reader.Standing.TheVariants.{Stands, InUrl, InLink, InDeclaration, InScript, InJson, Nowhere, Barred}
+use Rattle.html_tokenizer.specs.declared.reader.Standing.TheVariants.{Stands, InUrl, InLink, InListedUrl, InDeclaration, InScript, InJson, Nowhere, Barred}
 use Rattle.html_tokenizer.specs.declared.slot_place.SlotPlace.{SlotPlace}
 use Rattle.html_tokenizer.specs.declared.slot_place.SlotPlace.TheVariants.{Text, DoubleQuoted, SingleQuoted, Unquoted, ScriptSingle, ScriptDouble, StyleSingle, StyleDouble}
 use Rattle.html_tokenizer.specs.declared.states.Code.{Code}
 use Rattle.html_tokenizer.specs.declared.states.Code.TheVariants.{Plain, Json, JsonRest}
+use Rattle.html_tokenizer.specs.declared.states.ListPart.{ListPart}
+use Rattle.html_tokenizer.specs.declared.states.ListPart.TheVariants as list
 use Rattle.html_tokenizer.specs.declared.states.StylePart.{StylePart}
 use Rattle.html_tokenizer.specs.declared.states.StylePart.TheVariants.{Value}
 use Rattle.html_tokenizer.specs.declared.elements.Content.{Content}
@@ -23,6 +25,12 @@ in_declaration Value DoubleQuoted = InDeclaration DoubleQuoted
 in_declaration Value SingleQuoted = InDeclaration SingleQuoted
 in_declaration part p = Barred
 
+-- a slot in a list: in one of its URLs, where quote marks end the attribute's value
+abbrev pub in_list : ListPart → SlotPlace → Standing
+in_list list.Url DoubleQuoted = InListedUrl DoubleQuoted
+in_list list.Url SingleQuoted = InListedUrl SingleQuoted
+in_list part p = Barred
+
 -- a slot in the value of an attribute, if its text would mean itself, or stand in a URL or in a declaration
 abbrev pub unless_forbidden : Attribute → SlotPlace → Standing
 unless_forbidden state.Ordinary p = Stands p
@@ -30,6 +38,7 @@ unless_forbidden state.Url p = InUrl p
 unless_forbidden state.RawUrl p = InUrl p
 unless_forbidden state.Link p = InLink p
 unless_forbidden (state.Declarations part) p = in_declaration part p
+unless_forbidden (state.Listed part) p = in_list part p
 unless_forbidden other p = Barred
 
 -- a slot with which a value without quotes begins: no URL
@@ -90,6 +99,7 @@ abbrev pub stands : SlotPlace → Standing → Bool
 stands p (Stands q) = is_same p q
 stands p (InUrl q) = is_same p q
 stands p (InLink q) = is_same p q
+stands p (InListedUrl q) = is_same p q
 stands p (InDeclaration q) = is_same p q
 stands p other = false
 
@@ -106,6 +116,7 @@ abbrev pub AfterStanding : Standing → Tokenizer → Tokenizer → Type 0
 AfterStanding (Stands p) old new = new ≡ state_after_slot p old
 AfterStanding (InUrl p) old new = new ≡ state_after_slot p old
 AfterStanding (InLink p) old new = new ≡ state_after_slot p old
+AfterStanding (InListedUrl p) old new = new ≡ state_after_slot p old
 AfterStanding (InDeclaration p) old new = new ≡ state_after_slot p old
 AfterStanding InJson old new = new ≡ past_json old
 AfterStanding other old new = new ≡ old

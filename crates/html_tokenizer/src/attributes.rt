@@ -1,18 +1,21 @@
 //! What the names of attributes, and the values of some of them, mean.
 pub(crate) mod declarations;
 pub(crate) mod encodings;
+pub(crate) mod lists;
 
 ghost use Rattle.std.specs.Prelude.{◌≡◌, ℕ, IsTrue, List, [], true};
-ghost use Rattle.html_tokenizer.specs.Tokenizer.Attributes.{animation_value, attribute_of, content_after, content_after_pragma, fixed, followed, holds_declarations, holds_language, holds_url, holds_urls, is_cache_header, is_javascript, is_json, is_script_tag, is_set_safely, is_shown_relation, is_switch, may_end_raw, names_script_type, raw_value, reference_read, resource_value, value_but_of, value_byte_read, value_of, without_value};
+ghost use Rattle.html_tokenizer.specs.Tokenizer.Attributes.{animation_value, attribute_of, content_after, content_after_pragma, fixed, followed, holds_declarations, holds_images, holds_language, holds_url, holds_urls, is_cache_header, is_javascript, is_json, is_script_tag, is_set_safely, is_shown_relation, is_switch, may_end_raw, names_script_type, raw_value, reference_read, resource_value, value_but_of, value_byte_read, value_of, without_value};
 ghost use Rattle.html_tokenizer.specs.Tokenizer.Elements.{is_meta};
 ghost use Rattle.html_tokenizer.specs.Tokenizer.Phases.{attribute_in, moved, word_after};
+ghost use Rattle.html_tokenizer.specs.Tokenizer.Attributes.ListParts.{list_read};
 ghost use Rattle.html_tokenizer.specs.Tokenizer.Attributes.StyleParts.{declarations_read};
-ghost use Rattle.html_tokenizer.specs.Tokenizer.States.{Declarations, Ordinary};
+ghost use Rattle.html_tokenizer.specs.Tokenizer.States.{Declarations, Listed, Ordinary};
 
 use crate::attributes::declarations::{declarations_read, is_word};
 use crate::attributes::encodings::{is_utf_8, names_no_other};
+use crate::attributes::lists::list_read;
 use crate::elements::{Content, OpenElement, is_meta, with_element};
-use crate::states::{Kind, Move, Phase, StylePart, Word, in_value, refuses};
+use crate::states::{Kind, ListPart, Move, Phase, StylePart, Word, in_value, refuses};
 
 fn holds_language(name: &[u8]) -> bool
     ensures { result ≡ holds_language name.now }
@@ -47,10 +50,14 @@ fn holds_urls(name: &[u8]) -> bool
     ensures { result ≡ holds_urls name.now }
 {
     name == b"ping".as_slice()
-        || name == b"srcset".as_slice()
-        || name == b"imagesrcset".as_slice()
         || name == b"archive".as_slice()
         || name == b"attributionsrc".as_slice()
+}
+
+fn holds_images(name: &[u8]) -> bool
+    ensures { result ≡ holds_images name.now }
+{
+    name == b"srcset".as_slice() || name == b"imagesrcset".as_slice()
 }
 
 fn is_switch(name: &[u8]) -> bool
@@ -88,6 +95,8 @@ fn attribute_of(name: &[u8]) -> Kind
         Kind::Url
     } else if holds_declarations(name) {
         Kind::BeforeDeclaration
+    } else if holds_images(name) {
+        Kind::BeforeListedUrl
     } else {
         Kind::Ordinary
     }
@@ -360,6 +369,20 @@ fn style_read(part: StylePart, byte: u8) -> Kind
     }
 }
 
+// A `srcset` after one byte more, where its value was in this part of the list.
+fn images_read(part: ListPart, byte: u8) -> Kind
+    ensures { (word : List ℕ) → attribute_in result word ≡ Listed (list_read part byte) }
+{
+    match list_read(part, byte) {
+        ListPart::BeforeUrl => Kind::BeforeListedUrl,
+        ListPart::Url => Kind::ListedUrl,
+        ListPart::FixedUrl => Kind::FixedListedUrl,
+        ListPart::Comma => Kind::ListedComma,
+        ListPart::Descriptors => Kind::Descriptors,
+        ListPart::Rest => Kind::RestOfList,
+    }
+}
+
 /// After one byte more of an attribute's value, and what becomes of the word.
 pub(crate) fn value_byte_read(kind: Kind, word: &[u8], byte: u8) -> (Kind, Word)
     ensures { attribute_in result.0 (word_after result.1 word.now)
@@ -375,6 +398,11 @@ pub(crate) fn value_byte_read(kind: Kind, word: &[u8], byte: u8) -> (Kind, Word)
         Kind::AfterDeclarationName => (style_read(StylePart::AfterName, byte), Word::New),
         Kind::DeclarationValue => (style_read(StylePart::Value, byte), Word::New),
         Kind::Important => (style_read(StylePart::Important, byte), Word::New),
+        Kind::BeforeListedUrl => (images_read(ListPart::BeforeUrl, byte), Word::New),
+        Kind::ListedUrl => (images_read(ListPart::Url, byte), Word::New),
+        Kind::FixedListedUrl => (images_read(ListPart::FixedUrl, byte), Word::New),
+        Kind::ListedComma => (images_read(ListPart::Comma, byte), Word::New),
+        Kind::Descriptors => (images_read(ListPart::Descriptors, byte), Word::New),
         _ => (kind, Word::New),
     }
 }
@@ -398,6 +426,10 @@ pub(crate) fn reference_read(kind: Kind) -> Kind
     match kind {
         Kind::Ordinary | Kind::Link | Kind::Url | Kind::FixedUrl => kind,
         Kind::RawUrl | Kind::FixedRawUrl => kind,
+        Kind::ListedUrl | Kind::FixedListedUrl => kind,
+        Kind::BeforeListedUrl | Kind::ListedComma | Kind::Descriptors | Kind::RestOfList => {
+            Kind::RestOfList
+        }
         Kind::Encoding | Kind::Pragma | Kind::PageType | Kind::Unread => Kind::Unread,
         Kind::Raw => Kind::Raw,
         Kind::BeforeDeclaration
@@ -424,6 +456,7 @@ pub(crate) fn fixed(kind: Kind) -> Kind
         | Kind::OpaqueStyle => Kind::OpaqueStyle,
         Kind::Link | Kind::Url => Kind::FixedUrl,
         Kind::RawUrl => Kind::FixedRawUrl,
+        Kind::ListedUrl => Kind::FixedListedUrl,
         _ => kind,
     }
 }

@@ -22,8 +22,9 @@ mod tags;
 mod values;
 
 pub use crate::attributes::declarations::{is_style_byte, is_style_value};
+pub use crate::attributes::lists::is_list_mark;
 pub use crate::code::scripts::is_json_space;
 pub use crate::elements::{Content, OpenElement};
 pub use crate::reader::{Reader, Standing};
 pub use crate::slot_place::SlotPlace;
-pub use crate::states::{Code, StylePart};
+pub use crate::states::{Code, ListPart, StylePart};

@@ -4,8 +4,9 @@ pub(crate) mod same;
 pub(crate) mod stretches;
 
 ghost use Rattle.std.specs.Prelude.{◌≡◌, ◌≤◌, ◌↔◌, ℕ, List, [], IfOk, OnOk, IsTrue, length};
-ghost use Rattle.html_tokenizer.specs.Standing.{AfterStanding, in_content, in_declaration, is_between_attributes, is_refused, may_end, standing, unless_forbidden};
+ghost use Rattle.html_tokenizer.specs.Standing.{AfterStanding, in_content, in_declaration, in_list, is_between_attributes, is_refused, may_end, standing, unless_forbidden};
 ghost use Rattle.html_tokenizer.specs.Tokenizer.Attributes.{reference_read};
+ghost use Rattle.html_tokenizer.specs.declared.states.ListPart.TheVariants.{Url};
 ghost use Rattle.html_tokenizer.specs.declared.states.StylePart.TheVariants.{Value};
 ghost use Rattle.html_tokenizer.specs.Tokenizer.Code.Strings.{script_escape_byte};
 ghost use Rattle.html_tokenizer.specs.Tokenizer.Phases.{HoldsLetters, IsBeforeName, IsNoScriptEscape, IsTextOrValue, ReadsOn, attribute_in, moved, tokenizer_of};
@@ -37,6 +38,8 @@ pub enum Standing {
     InUrl(SlotPlace),
     /// The same in a URL that its element only shows or follows.
     InLink(SlotPlace),
+    /// In a URL of the list of a `srcset` attribute, at this place of the page, in quotes.
+    InListedUrl(SlotPlace),
     /// In the value of a declaration of a `style` attribute, at this place of the page.
     InDeclaration(SlotPlace),
     /// In the code of a script, where a string literal would be a token of its own.
@@ -68,6 +71,16 @@ fn in_declaration(place: SlotPlace) -> Standing
     }
 }
 
+// A slot in a URL of a list, in quotes or not.
+fn in_list(place: SlotPlace) -> Standing
+    ensures { result ≡ in_list Url place }
+{
+    match place {
+        SlotPlace::DoubleQuoted | SlotPlace::SingleQuoted => Standing::InListedUrl(place),
+        _ => Standing::Barred,
+    }
+}
+
 // A slot in a value.
 fn unless_forbidden(kind: Kind, place: SlotPlace) -> Standing
     ensures { (word : List ℕ) → result ≡ unless_forbidden (attribute_in kind word) place }
@@ -77,6 +90,7 @@ fn unless_forbidden(kind: Kind, place: SlotPlace) -> Standing
         Kind::Url | Kind::RawUrl => Standing::InUrl(place),
         Kind::Link => Standing::InLink(place),
         Kind::DeclarationValue => in_declaration(place),
+        Kind::ListedUrl => in_list(place),
         _ => Standing::Barred,
     }
 }
@@ -464,6 +478,9 @@ impl<A: Allocator> Reader<A> {
     {
         match self.kind {
             Kind::Link | Kind::Url | Kind::FixedUrl | Kind::RawUrl | Kind::FixedRawUrl => true,
+            Kind::ListedUrl | Kind::FixedListedUrl => true,
+            Kind::BeforeListedUrl | Kind::ListedComma | Kind::Descriptors => false,
+            Kind::RestOfList => false,
             Kind::Ordinary | Kind::Forbidden | Kind::Unread | Kind::Raw => false,
             Kind::BeforeDeclaration | Kind::DeclarationName | Kind::AfterDeclarationName => false,
             Kind::DeclarationValue | Kind::Important | Kind::OpaqueStyle => false,
@@ -526,6 +543,7 @@ impl<A: Allocator> Reader<A> {
             Standing::Stands(place)
             | Standing::InUrl(place)
             | Standing::InLink(place)
+            | Standing::InListedUrl(place)
             | Standing::InDeclaration(place) => {
                 self.phase = Phase::In(place);
             }

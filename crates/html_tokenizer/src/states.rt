@@ -157,6 +157,23 @@ pub enum StylePart {
     Opaque,
 }
 
+/// Where in its list of URLs the value of a `srcset` attribute is.
+#[derive(Clone, Copy, Debug, PartialEq, Eq)]
+pub enum ListPart {
+    /// Before a URL, in white space and commas.
+    BeforeUrl,
+    /// In a URL.
+    Url,
+    /// In a URL that takes no slot any more.
+    FixedUrl,
+    /// Behind a comma that a URL may end in.
+    Comma,
+    /// Behind a URL, up to a comma.
+    Descriptors,
+    /// Where the list is not followed any more.
+    Rest,
+}
+
 /// What an attribute's value means, without its word.
 #[derive(Clone, Copy, PartialEq, Eq)]
 pub(crate) enum Kind {
@@ -169,6 +186,13 @@ pub(crate) enum Kind {
     DeclarationValue,
     Important,
     OpaqueStyle,
+    // A `srcset`, by where in its list the value is.
+    BeforeListedUrl,
+    ListedUrl,
+    FixedListedUrl,
+    ListedComma,
+    Descriptors,
+    RestOfList,
     Link,
     Url,
     FixedUrl,

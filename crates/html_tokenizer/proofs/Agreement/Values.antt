@@ -140,7 +140,7 @@ module _ {start : State} {mode : Mode} {p : SlotPlace} {content : Content} {mark
       let piece : List ℕ = ampersand ∷ (body ++ semicolon ∷ []) in
       let whole : piece ++ rest ≡ ampersand ∷ (body ++ semicolon ∷ rest) = ap (λ x. ampersand ∷ x) (append_assoc body (semicolon ∷ []) rest) in
       subst (λ x. Ends (Reads start p content odd) mark x found) whole
-      (goes_on n go piece (encode_utf8 c) rest found enough (inl (reference_stays reads.tokenizer body c read))
+      (goes_on n go piece (encode_utf8 c) rest found enough (inl (reference_stays reads.tokenizer (λ word. refl) body c read))
       (sym ((takes_reference {step = step} {mode = mode} reads.grammar body c none read).goes_on rest) ∙ ap (reading_after step 0 mode) whole ∙ is))
 
   by_semicolon : (n : ℕ) → GoesOn n → (bytes : List ℕ) (found : List ℕ × ℕ) → length bytes ≤ n →

@@ -17,13 +17,8 @@ use Rattle.html_tokenizer.specs.Tokenizer.Stretches.{leaves_value}
 use Rattle.html_tokenizer.specs.Tokenizer.Tokenization.{consume}
 use Rattle.html_tokenizer.specs.Tokenizer.Transitions.{Transition}
 use Rattle.html_tokenizer.proofs.Stretches.{byte_kept, value_consumed, value_kept}
+use Rattle.html_tokenizer.proofs.UrlValues.Places.{is_in_quotes}
 use Rattle.html_tokenizer.proofs.Passing.{Passes, passes_none, passes_byte}
-
--- between two quote marks
-abbrev pub is_in_quotes : SlotPlace → Bool
-is_in_quotes DoubleQuoted = true
-is_in_quotes SingleQuoted = true
-is_in_quotes other = false
 
 pub style_byte_stays : (b : ℕ) → is_style_byte b ≡ true → value_byte_read (Declarations Value) b ≡ Declarations Value
 style_byte_stays b is = rw is refl

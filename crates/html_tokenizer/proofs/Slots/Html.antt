@@ -20,7 +20,8 @@ use Rattle.html_tokenizer.specs.Tokenizer.Attributes.{may_end_raw, reference_rea
 use Rattle.html_tokenizer.specs.Tokenizer.States.{Attribute, FixedRawUrl, State, In, RawUrl, Within, BeforeValue, Ordinary, at_value}
 use Rattle.html_tokenizer.specs.Tokenizer.Tokenization.{consume, value_byte}
 use Rattle.html_tokenizer.specs.Tokenizer.Transitions.{moves}
-use Rattle.html_tokenizer.specs.Tokenizer.Values.References.{behind_word, goes_on, reference_byte}
+use Rattle.html_tokenizer.specs.Tokenizer.Values.{character_read}
+use Rattle.html_tokenizer.specs.Tokenizer.Values.References.{behind_reference, behind_word, goes_on, reference_byte}
 use Rattle.html_tokenizer.specs.Tokenizer.Stretches.{leaves_value}
 use Rattle.html_tokenizer.specs.Tokenizer.Tags.{is_space}
 use Rattle.html_tokenizer.proofs.Stretches.{byte_kept}
@@ -31,9 +32,10 @@ use Rattle.html_tokenizer.proofs.Passing.{Passes, passes_none, passes_both, pass
 pub record Remains (attribute : Attribute) : Type 0 where
   pub bytes : (b : ℕ) → value_byte_read attribute b ≡ attribute
   pub references : reference_read attribute ≡ attribute
+  pub behind : (word : List ℕ) → behind_reference word attribute ≡ attribute
 
 pub ordinary_remains : Remains Ordinary
-ordinary_remains = record { bytes = λ b. refl; references = refl }
+ordinary_remains = record { bytes = λ b. refl; references = refl; behind = λ word. refl }
 
 -- the bytes are read as the text, from the state in which a value begins or goes on
 abbrev pub Stays : Attribute → SlotPlace → State → Content → List ℕ → List ℕ → Type 0
@@ -47,7 +49,8 @@ pub record ReadsReferences (attribute : Attribute) (state : State) (p : SlotPlac
   pub within : (word : List ℕ) (b : ℕ) → consume (at_value (Within p word) content attribute) b
       ≡ reference_byte p content attribute word b (value_byte p content (behind_word word attribute) b)
 
-module _ {attribute : Attribute} {state : State} {p : SlotPlace} {content : Content} (reads : ReadsReferences attribute state p content) where
+module _ {attribute : Attribute} {state : State} {p : SlotPlace} {content : Content} (reads : ReadsReferences attribute state p content)
+    (behind : (word : List ℕ) → behind_reference word attribute ≡ attribute) where
   -- the body of a reference is read on
   passes_body : (word body : List ℕ) → is_held word body ≡ true →
       Passes (at_value (Within p word) content attribute) body [] (at_value (Within p (word ++ body)) content attribute)
@@ -64,7 +67,8 @@ module _ {attribute : Attribute} {state : State} {p : SlotPlace} {content : Cont
   reference_stays body c is =
       let reference : IsKnown body c = known body c is in
       let ends : consume (at_value (Within p body) content attribute) semicolon ≡ moves (at_value (In p) content attribute) (map (read_byte p) (encode_utf8 c)) =
-      reads.within body semicolon ∙ reference.read p content attribute (value_byte p content (behind_word body attribute) semicolon) in
+      reads.within body semicolon ∙ reference.read p content attribute (value_byte p content (behind_word body attribute) semicolon)
+      ∙ ap (λ a. character_read p content a (Some c)) (behind body) in
       passes_byte reads.begins
       (passes_both (passes_body [] body reference.held) (passes_one (map (read_byte p) (encode_utf8 c)) ends))
 
@@ -82,6 +86,7 @@ module _ {attribute : Attribute} {state : State} {p : SlotPlace} {content : Cont
 
 pub record ReadsMarked (attribute : Attribute) (p : SlotPlace) (content : Content) (mark : ℕ) : Type 0 where
   pub references : ReadsReferences attribute (In p) p content
+  pub behind : (word : List ℕ) → behind_reference word attribute ≡ attribute
   pub no_reference : (ampersand == mark) ≡ false
   pub kept : (b : ℕ) → (b == mark) ≡ false → (b == ampersand) ≡ false → may_end_raw attribute b ≡ false →
       consume (at_value (In p) content attribute) b ≡ moves (at_value (In p) content attribute) (read_byte p b ∷ [])
@@ -99,21 +104,39 @@ marked_stays {attribute} {p} {content} {mark} reads class html has less keeps te
     let no : (b c : ℕ) → in_class class b ≡ false → in_class class c ≡ true → (b == c) ≡ false =
     λ b c kept replaced. ne_eqb b c (kept_is_other class b c kept replaced) in
     subst (Stays attribute p (In p) content (encoding class text)) (read_back-text class keeps text)
-    (encoding_reads (pieces_stay reads.references html
+    (encoding_reads (pieces_stay reads.references reads.behind html
     (λ b kept. reads.kept b (no b mark kept has) (no b ampersand kept (in_class-ampersand class html)) (ends_no_raw attribute b (no b less_than kept less))))
     passes_none (λ first v second w. passes_texts (read_byte p) v w) text)
 
-module _ {attribute : Attribute} (remains : Remains attribute) (content : Content) where
-  -- in a reference it is the same attribute
+-- in a reference it is the same attribute
+module _ {attribute : Attribute} (settled : reference_read attribute ≡ attribute) (content : Content) where
   read_within : (p : SlotPlace) (word : List ℕ) (b : ℕ) →
       reference_byte p content (reference_read attribute) word b (value_byte p content (behind_word word (reference_read attribute)) b)
       ≡ reference_byte p content attribute word b (value_byte p content (behind_word word attribute) b)
-  read_within p word b = ap (λ a. reference_byte p content a word b (value_byte p content (behind_word word a) b)) remains.references
+  read_within p word b = ap (λ a. reference_byte p content a word b (value_byte p content (behind_word word a) b)) settled
 
+  text_references : ReadsReferences attribute (In place.Text) place.Text content
+  unfolding consume
+  text_references = record { begins = rw settled refl; within = read_within place.Text }
+
+  pub double_references : ReadsReferences attribute (In place.DoubleQuoted) place.DoubleQuoted content
+  unfolding consume
+  double_references = record { begins = rw settled refl; within = read_within place.DoubleQuoted }
+
+  pub single_references : ReadsReferences attribute (In place.SingleQuoted) place.SingleQuoted content
+  unfolding consume
+  single_references = record { begins = rw settled refl; within = read_within place.SingleQuoted }
+
+  pub unquoted_references : ReadsReferences attribute (In place.Unquoted) place.Unquoted content
+  unfolding consume
+  unquoted_references = record { begins = rw settled refl; within = read_within place.Unquoted }
+
+module _ {attribute : Attribute} (remains : Remains attribute) (content : Content) where
   pub text_reads : ReadsMarked attribute place.Text content less_than
   unfolding consume
   text_reads = record {
-    references = record { begins = rw remains.references refl; within = read_within place.Text };
+    references = text_references remains.references content;
+    behind = remains.behind;
     no_reference = refl;
     kept = λ b no_mark no_reference no_end. rw (no_mark, no_reference, remains.bytes b) refl;
   }
@@ -121,7 +144,8 @@ module _ {attribute : Attribute} (remains : Remains attribute) (content : Conten
   pub double_reads : ReadsMarked attribute place.DoubleQuoted content double_quote
   unfolding consume
   double_reads = record {
-    references = record { begins = rw remains.references refl; within = read_within place.DoubleQuoted };
+    references = double_references remains.references content;
+    behind = remains.behind;
     no_reference = refl;
     kept = λ b no_mark no_reference no_end. rw (no_mark, no_reference, no_end, remains.bytes b) refl;
   }
@@ -129,14 +153,11 @@ module _ {attribute : Attribute} (remains : Remains attribute) (content : Conten
   pub single_reads : ReadsMarked attribute place.SingleQuoted content single_quote
   unfolding consume
   single_reads = record {
-    references = record { begins = rw remains.references refl; within = read_within place.SingleQuoted };
+    references = single_references remains.references content;
+    behind = remains.behind;
     no_reference = refl;
     kept = λ b no_mark no_reference no_end. rw (no_mark, no_reference, no_end, remains.bytes b) refl;
   }
-
-  pub unquoted_references : ReadsReferences attribute (In place.Unquoted) place.Unquoted content
-  unfolding consume
-  unquoted_references = record { begins = rw remains.references refl; within = read_within place.Unquoted }
 
   pub double_stays_in : (text : List ℕ) → Stays attribute place.DoubleQuoted (In place.DoubleQuoted) content (encoding class.DoubleQuotedAttribute text) text
   double_stays_in text = marked_stays double_reads class.DoubleQuotedAttribute refl refl refl refl text
@@ -165,7 +186,7 @@ pub record ReadsUnquoted (state : State) (content : Content) : Type 0 where
 
 pub unquoted_reads : (content : Content) → ReadsUnquoted (In place.Unquoted) content
 unquoted_reads content = record {
-  references = unquoted_references ordinary_remains content;
+  references = unquoted_references ordinary_remains.references content;
   kept = λ b remains. byte_kept place.Unquoted content Ordinary b refl remains refl;
 }
 
@@ -186,7 +207,7 @@ first_reads content = record {
 }
 
 unquoted_pieces : {state : State} {content : Content} → ReadsUnquoted state content → ReadsPieces class.UnquotedAttribute (Stays Ordinary place.Unquoted state content)
-unquoted_pieces reads = pieces_stay reads.references refl (λ b kept. reads.kept b (grind (arith, nat_tests)))
+unquoted_pieces reads = pieces_stay reads.references (λ word. refl) refl (λ b kept. reads.kept b (grind (arith, nat_tests)))
 
 unquoted_images_stay : (content : Content) (text : List ℕ) →
     Stays Ordinary place.Unquoted (In place.Unquoted) content (encoding class.UnquotedAttribute text) (flat_map (read_image class.UnquotedAttribute) text)

@@ -2,7 +2,7 @@
 use Rattle.std.proofs.Common.{ℕ, ◌≡◌, false, List, [], ◌∷◌, ◌++◌, if◌then◌else◌, refl, ap, ◌∙◌, sym, append_assoc}
 use Rattle.html_tokenizer.specs.Tokenizer.States.{Tokenizer}
 use Rattle.html_tokenizer.specs.Tokenizer.Tokenization.{consume, state_after}
-use Rattle.html_tokenizer.specs.UrlValues.{ends_url, is_url, open_url, url_after, urls_from}
+use Rattle.html_tokenizer.specs.UrlValues.{ended_url, ends_url, is_url, open_url, url_after, urls_from}
 
 pub open_url-append : (t : Tokenizer) (value first second : List ℕ) →
     open_url t value (first ++ second) ≡ open_url (state_after t first) (open_url t value first) second
@@ -15,7 +15,7 @@ urls_from-append t value [] second = refl
 urls_from-append t value (b ∷ first) second =
     let next : Tokenizer = (consume t b).next in
     let held : List ℕ = url_after t value b in
-    let ended : List (List ℕ) = if ends_url t b then held ∷ [] else [] in
+    let ended : List (List ℕ) = if ends_url t b then ended_url t value b ∷ [] else [] in
     ap (λ more. ended ++ more) (urls_from-append next held first second)
     ∙ sym (append_assoc ended (urls_from next held first) (urls_from (state_after next first) (open_url next held first) second))
 

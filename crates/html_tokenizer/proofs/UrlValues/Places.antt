@@ -9,3 +9,9 @@ is_value_place DoubleQuoted = true
 is_value_place SingleQuoted = true
 is_value_place Unquoted = true
 is_value_place other = false
+
+-- between two quote marks
+abbrev pub is_in_quotes : SlotPlace → Bool
+is_in_quotes DoubleQuoted = true
+is_in_quotes SingleQuoted = true
+is_in_quotes other = false

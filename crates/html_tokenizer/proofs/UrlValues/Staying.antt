@@ -1,13 +1,12 @@
 -- Bytes at which a URL stays open.
-use Rattle.std.proofs.Common.{ℕ, ◌≡◌, true, List, [], ◌++◌, map, refl, sym, append-nil}
-use Rattle.html_tokenizer.specs.declared.slot_place.SlotPlace.TheVariants.{DoubleQuoted}
+use Rattle.std.proofs.Common.{ℕ, ◌≡◌, true, List, [], ◌∷◌, ◌++◌, map, refl, ◌∙◌, sym, append-nil, append_assoc}
 use Rattle.html_tokenizer.specs.Tokenizer.Actions.{ValueByte}
 use Rattle.html_tokenizer.specs.Tokenizer.States.{Tokenizer}
+use Rattle.html_tokenizer.specs.Tokenizer.Tokenization.{consume}
+use Rattle.html_tokenizer.specs.Tokenizer.Transitions.{moves}
 use Rattle.html_tokenizer.specs.UrlValues.{is_url, open_url, urls_from}
-use Rattle.html_tokenizer.proofs.Passing.{Passes, passes_none}
-use Rattle.html_tokenizer.proofs.UrlValues.Apart.Bytes.{KeepsUrl}
-use Rattle.html_tokenizer.proofs.UrlValues.Apart.Texts.{text_in_url}
-use Rattle.html_tokenizer.proofs.UrlValues.Slots.Tame.{IsTame}
+use Rattle.html_tokenizer.proofs.Passing.{Passes, passes_none, passes_one, passes_texts}
+use Rattle.html_tokenizer.proofs.UrlValues.Apart.OneByte.{value_bytes-map}
 
 -- the bytes lead from one state to the other, add others to the URL that is open, and none ends in them
 pub record StaysUrl (t : Tokenizer) (bytes added : List ℕ) (u : Tokenizer) : Type 0 where
@@ -18,9 +17,11 @@ pub record StaysUrl (t : Tokenizer) (bytes added : List ℕ) (u : Tokenizer) : T
 pub stays_none : {t : Tokenizer} → StaysUrl t [] [] t
 stays_none = record { passes = passes_none; value = λ before. sym (append-nil before); none_ends = λ before. refl }
 
--- bytes that are read as others of the value alone
-pub stays_url : {t u : Tokenizer} {bytes added : List ℕ} → IsTame t → is_url t.attribute ≡ true → is_url u.attribute ≡ true →
-    Passes t bytes (map ValueByte added) u → StaysUrl t bytes added u
-stays_url {t} {u} {bytes} {added} tame here there passes =
-    let keeps : KeepsUrl t bytes added = text_in_url DoubleQuoted t u bytes added refl tame here there passes in
-    record { passes = passes; value = keeps.value; none_ends = keeps.none_ends }
+-- one byte, and then others
+pub stays_byte : {t u v : Tokenizer} {b : ℕ} {bytes added : List ℕ} (first : List ℕ) → is_url t.attribute ≡ true → is_url u.attribute ≡ true →
+    consume t b ≡ moves u (map ValueByte first) → StaysUrl u bytes added v → StaysUrl t (b ∷ bytes) (first ++ added) v
+stays_byte {added = added} first here there is later = record {
+  passes = passes_texts ValueByte first added (passes_one (map ValueByte first) is) later.passes;
+  value = λ before. rw (here, is, value_bytes-map first) (later.value (before ++ first) ∙ append_assoc before first added);
+  none_ends = λ before. rw (here, is, there, value_bytes-map first) (later.none_ends (before ++ first));
+}

@@ -1,5 +1,6 @@
 -- What the names of attributes, and the values of some of them, mean to the tokenizer.
 pub mod Encodings
+pub mod ListParts
 pub mod StyleParts
 use Rattle.std.specs.Prelude.{ℕ, Bool, true, false, ◌&&◌, ◌||◌, not, List, [], ◌∷◌, ◌++◌, ◌+◌, ◌-◌, ◌==◌, Option, Some, None, if◌then◌else◌, bytes_eq, codes}
 use Rattle.std.specs.Char.{to_ascii_lowercase}
@@ -7,13 +8,15 @@ use Rattle.std.specs.List.{list_all}
 use Rattle.hesc_specs.specs.Text.Ascii.{less_than}
 use Rattle.hesc_specs.specs.Text.Words.{begins}
 use Rattle.html_tokenizer.specs.declared.elements.Content.{Content}
+use Rattle.html_tokenizer.specs.declared.states.ListPart.TheVariants as list
 use Rattle.html_tokenizer.specs.declared.states.StylePart.TheVariants as style
 use Rattle.html_tokenizer.specs.Declarations.{is_word_byte}
 use Rattle.html_tokenizer.specs.declared.elements.OpenElement.{OpenElement}
 use Rattle.html_tokenizer.specs.declared.elements.OpenElement.TheVariants.{Normal, ResourceTag, Script, TypedScript, DataBlock, JsonBlock, Meta, MetaContent, MetaPragma, MetaType, LinkTag, EmbedTag, SvgAnimationTag, SvgEmbedTag, MathEmbedTag, SelectEmbedTag, NoScript, NoScriptStyle, NoScriptFrame}
+use Rattle.html_tokenizer.specs.Tokenizer.Attributes.ListParts.{fixed_part, list_read, list_reference}
 use Rattle.html_tokenizer.specs.Tokenizer.Attributes.StyleParts.{declarations_read}
 use Rattle.html_tokenizer.specs.Tokenizer.Attributes.Encodings.{is_utf_8, names_no_other}
-use Rattle.html_tokenizer.specs.Tokenizer.States.{Tokenizer, Attribute, Ordinary, Forbidden, Declarations, Link, Url, FixedUrl, RawUrl, FixedRawUrl, ScriptType, Encoding, Pragma, PageType, Relation, Unread, Raw, BeforeValue, at_value, refused}
+use Rattle.html_tokenizer.specs.Tokenizer.States.{Tokenizer, Attribute, Ordinary, Forbidden, Declarations, Listed, Link, Url, FixedUrl, RawUrl, FixedRawUrl, ScriptType, Encoding, Pragma, PageType, Relation, Unread, Raw, BeforeValue, at_value, refused}
 use Rattle.html_tokenizer.specs.Tokenizer.Elements.{with_element}
 
 -- event handlers and pages
@@ -32,11 +35,13 @@ holds_url name =
     bytes_eq name (codes "background") || bytes_eq name (codes "longdesc") ||
     bytes_eq name (codes "manifest") || bytes_eq name (codes "codebase")
 
--- lists of URLs: 4.8.4.2.1 Srcset attributes, 4.6.2 Links created by a and area elements
+-- 4.8.4.2.1 Srcset attributes: its value is a list of URLs of images
+abbrev pub holds_images : List ℕ → Bool
+holds_images name = bytes_eq name (codes "srcset") || bytes_eq name (codes "imagesrcset")
+
+-- other lists of URLs: 4.6.2 Links created by a and area elements
 abbrev pub holds_urls : List ℕ → Bool
-holds_urls name =
-    bytes_eq name (codes "ping") || bytes_eq name (codes "srcset") || bytes_eq name (codes "imagesrcset") ||
-    bytes_eq name (codes "archive") || bytes_eq name (codes "attributionsrc")
+holds_urls name = bytes_eq name (codes "ping") || bytes_eq name (codes "archive") || bytes_eq name (codes "attributionsrc")
 
 -- values that decide what runs: a framed page's scripts, in this page's origin too, and what else it may do (4.8.5 The
 -- iframe element); what an `embed` or an `object` runs (4.8.6, 4.8.7); the event at which an old script is run
@@ -54,7 +59,8 @@ attribute_of name =
     if holds_language name || is_switch name || holds_urls name then Forbidden
     else (if holds_url name then Url
     else (if holds_declarations name then Declarations style.BeforeName
-    else Ordinary))
+    else (if holds_images name then Listed list.BeforeUrl
+    else Ordinary)))
 
 -- the same where the element only shows or follows its URLs
 abbrev pub followed : Attribute → Attribute
@@ -224,6 +230,7 @@ abbrev pub value_byte_read : Attribute → ℕ → Attribute
 value_byte_read Ordinary b = Ordinary
 value_byte_read Forbidden b = Forbidden
 value_byte_read (Declarations part) b = Declarations (declarations_read part b)
+value_byte_read (Listed part) b = Listed (list_read part b)
 value_byte_read Link b = Link
 value_byte_read Url b = Url
 value_byte_read FixedUrl b = FixedUrl
@@ -247,6 +254,7 @@ may_end_raw other b = false
 abbrev pub reference_read : Attribute → Attribute
 reference_read Ordinary = Ordinary
 reference_read (Declarations part) = Declarations style.Opaque
+reference_read (Listed part) = Listed (list_reference part)
 reference_read Link = Link
 reference_read Url = Url
 reference_read FixedUrl = FixedUrl
@@ -263,6 +271,7 @@ reference_read other = Forbidden
 abbrev pub fixed : Attribute → Attribute
 fixed Ordinary = Forbidden
 fixed (Declarations part) = Declarations style.Opaque
+fixed (Listed part) = Listed (fixed_part part)
 fixed Link = FixedUrl
 fixed Url = FixedUrl
 fixed RawUrl = FixedRawUrl

@@ -2,6 +2,7 @@
 use Rattle.std.specs.Prelude.{⊤, ℕ, ◌≡◌, ◌≤◌, false, true, List, [], ◌∷◌, ◌++◌, length, take}
 use Rattle.html_tokenizer.specs.declared.slot_place.SlotPlace.TheVariants as place
 use Rattle.html_tokenizer.specs.declared.reader.Reader.{Reader}
+use Rattle.html_tokenizer.specs.declared.states.ListPart.TheVariants as list
 use Rattle.html_tokenizer.specs.declared.states.StylePart.TheVariants as style
 use Rattle.html_tokenizer.specs.declared.states.Kind.{Kind}
 use Rattle.html_tokenizer.specs.declared.states.Kind.TheVariants as kind
@@ -66,6 +67,12 @@ attribute_in kind.AfterDeclarationName word = state.Declarations style.AfterName
 attribute_in kind.DeclarationValue word = state.Declarations style.Value
 attribute_in kind.Important word = state.Declarations style.Important
 attribute_in kind.OpaqueStyle word = state.Declarations style.Opaque
+attribute_in kind.BeforeListedUrl word = state.Listed list.BeforeUrl
+attribute_in kind.ListedUrl word = state.Listed list.Url
+attribute_in kind.FixedListedUrl word = state.Listed list.FixedUrl
+attribute_in kind.ListedComma word = state.Listed list.Comma
+attribute_in kind.Descriptors word = state.Listed list.Descriptors
+attribute_in kind.RestOfList word = state.Listed list.Rest
 attribute_in kind.Link word = state.Link
 attribute_in kind.Url word = state.Url
 attribute_in kind.FixedUrl word = state.FixedUrl

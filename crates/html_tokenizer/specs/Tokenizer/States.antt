@@ -7,6 +7,7 @@ use Rattle.html_tokenizer.specs.declared.slot_place.SlotPlace.{SlotPlace}
 use Rattle.html_tokenizer.specs.declared.slot_place.SlotPlace.TheVariants as place
 use Rattle.html_tokenizer.specs.declared.elements.Content.{Content}
 use Rattle.html_tokenizer.specs.declared.states.Code.{Code}
+use Rattle.html_tokenizer.specs.declared.states.ListPart.{ListPart}
 use Rattle.html_tokenizer.specs.declared.states.StylePart.{StylePart}
 use Rattle.html_tokenizer.specs.declared.elements.OpenElement.TheVariants.{Normal}
 
@@ -81,10 +82,12 @@ pub data State : Type 0 where
 pub data Attribute : Type 0 where
   -- itself
   Ordinary : Attribute
-  -- code, a page, or a list of URLs
+  -- code, a page, or a list of URLs that is not followed
   Forbidden : Attribute
   -- the declarations of a `style`, and where in one the value is
   Declarations : StylePart → Attribute
+  -- the list of a `srcset`, and where in it the value is
+  Listed : ListPart → Attribute
   -- a URL, of an element that only shows or follows it, and of another one; one that takes no slot any more
   Link : Attribute
   Url : Attribute

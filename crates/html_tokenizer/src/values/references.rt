@@ -1,12 +1,12 @@
 //! What a byte does in a character reference, and after a `&` that begins none.
 ghost use Rattle.std.specs.List.{list_any};
 ghost use Rattle.std.specs.Option.{is_some};
-ghost use Rattle.std.specs.Prelude.{◌≡◌, bytes_eq};
+ghost use Rattle.std.specs.Prelude.{◌≡◌, ℕ, List, bytes_eq};
 ghost use Rattle.hesc_specs.specs.Text.Words.{begins};
 ghost use Rattle.html_tokenizer.specs.Tokenizer.Attributes.{reference_read};
 ghost use Rattle.html_tokenizer.specs.Tokenizer.Phases.{LeadsOn, attribute_in, moved};
 ghost use Rattle.html_tokenizer.specs.Tokenizer.Transitions.{Transition};
-ghost use Rattle.html_tokenizer.specs.Tokenizer.Values.References.{begins_with_legacy, goes_on, is_legacy, named_characters, reference_end, unnamed_end};
+ghost use Rattle.html_tokenizer.specs.Tokenizer.Values.References.{begins_with_legacy, behind_reference, goes_on, is_legacy, named_characters, reference_end, unnamed_end};
 
 use crate::attributes::reference_read;
 use crate::elements::Content;
@@ -64,6 +64,22 @@ fn is_legacy(word: &[u8]) -> bool
     is_one(&LEGACY_NAMES, word)
 }
 
+// Behind a reference: in a URL of a list any but `&amp;` may be white space or a comma.
+fn behind_reference(word: &[u8], kind: Kind) -> Kind
+    ensures { (held : List ℕ) → attribute_in result held
+        ≡ behind_reference word.now (attribute_in kind held) }
+{
+    match kind {
+        Kind::BeforeListedUrl
+        | Kind::ListedUrl
+        | Kind::FixedListedUrl
+        | Kind::ListedComma
+        | Kind::Descriptors
+            if word != b"amp".as_slice() => Kind::RestOfList,
+        kind => kind,
+    }
+}
+
 // After a word that is no name with its `;`: what the Standard calls an error is refused.
 fn unnamed_end(place: SlotPlace, word: &[u8], byte: u8, again: Move, fixed: Move) -> Move
     ensures { (t : Transition) → LeadsOn again fixed word.now t
@@ -106,7 +122,8 @@ pub(crate) fn reference_end(
         _ => return unnamed_end(place, word, byte, again, fixed),
     };
     if is_read {
-        in_value(Phase::In(place), content, reference_read(kind), Word::New)
+        let kind = behind_reference(word, reference_read(kind));
+        in_value(Phase::In(place), content, kind, Word::New)
     } else {
         refuses()
     }

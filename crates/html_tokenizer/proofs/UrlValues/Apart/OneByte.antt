@@ -6,7 +6,8 @@ use Rattle.std.proofs.lemmas.List.Folds.{list_any-append}
 use Rattle.html_tokenizer.specs.declared.slot_place.SlotPlace.{SlotPlace}
 use Rattle.html_tokenizer.specs.declared.slot_place.SlotPlace.TheVariants.{Text, DoubleQuoted, SingleQuoted, Unquoted}
 use Rattle.html_tokenizer.specs.Tokenizer.Actions.{Action, NewAttribute, StringEnd, StringStart, ValueByte, read_byte}
-use Rattle.html_tokenizer.specs.UrlValues.{value_bytes, is_url}
+use Rattle.html_tokenizer.specs.UrlValues.{value_bytes}
+use Rattle.html_tokenizer.proofs.UrlValues.Attributes.{before_itself, is_of_urls}
 use Rattle.html_tokenizer.proofs.UrlValues.Places.{is_value_place}
 use Rattle.html_tokenizer.specs.declared.elements.Content.{Content}
 use Rattle.html_tokenizer.specs.Tokenizer.States.{Attribute, BeforeName, BeforeValue, In, State, Tokenizer, Within}
@@ -63,9 +64,9 @@ text_in_value other text place = absurd (false≢true place)
 
 -- ---- a byte at which no attribute begins
 
--- no URL is open, nor a name, after which one may open
+-- no value of URLs is open, nor a name, after which one may open
 pub record IsApart (t : Tokenizer) : Type 0 where
-  pub no_url : is_url t.attribute ≡ false
+  pub no_url : is_of_urls t.attribute ≡ false
   pub unnamed : is_named t.state ≡ false
 
 -- ---- apart from URLs
@@ -80,7 +81,7 @@ both_apart x none = record {
   unnamed = opens_unnamed x.next.state x.next.attribute none;
 }
 
-byte_in_apart : (s : State) (content : Content) (attribute : Attribute) (b : ℕ) → is_named s ≡ false → is_url attribute ≡ false →
+byte_in_apart : (s : State) (content : Content) (attribute : Attribute) (b : ℕ) → is_named s ≡ false → is_of_urls attribute ≡ false →
     BeginsNone (byte_in s content attribute b).actions → IsApart (byte_in s content attribute b).next
 byte_in_apart BeforeName content attribute b unnamed no_url none = record {
   no_url = in_tag_holds_none BeforeName content b (first_name_byte content b) (first_name_holds_none content b);
@@ -98,14 +99,14 @@ apart_next t b apart none = byte_in_apart t.state t.content t.attribute b apart.
 before_value_unnamed : (content : Content) (attribute : Attribute) (b : ℕ) → is_named (before_value_byte content attribute b).next.state ≡ false
 before_value_unnamed content attribute b = grind arith
 
-byte_in_unnamed : (s : State) (content : Content) (attribute : Attribute) (b : ℕ) → is_url attribute ≡ true → may_hold_url s ≡ true →
+byte_in_unnamed : (s : State) (content : Content) (attribute : Attribute) (b : ℕ) → is_of_urls attribute ≡ true → may_hold_url s ≡ true →
     is_named (byte_in s content attribute b).next.state ≡ false
 byte_in_unnamed BeforeValue content attribute b url may = before_value_unnamed content attribute b
-byte_in_unnamed (In p) content attribute b url may = (value_follows p content attribute b may url).unnamed
-byte_in_unnamed (Within p word) content attribute b url may = (within_follows p content attribute word b may url).unnamed
+byte_in_unnamed (In p) content attribute b url may = (value_follows p content attribute b may (before_itself attribute url)).unnamed
+byte_in_unnamed (Within p word) content attribute b url may = (within_follows p content attribute word b may (before_itself attribute url)).unnamed
 byte_in_unnamed other content attribute b url may = absurd (false≢true may)
 
-pub apart_at_end : (t : Tokenizer) (b : ℕ) → is_url t.attribute ≡ true → IsTame t → is_url (consume t b).next.attribute ≡ false →
+pub apart_at_end : (t : Tokenizer) (b : ℕ) → is_of_urls t.attribute ≡ true → IsTame t → is_of_urls (consume t b).next.attribute ≡ false →
     IsApart (consume t b).next
 unfolding consume
 apart_at_end t b url tame ends = record { no_url = ends; unnamed = byte_in_unnamed t.state t.content t.attribute b url (tame url) }

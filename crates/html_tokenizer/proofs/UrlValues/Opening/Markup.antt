@@ -11,7 +11,7 @@ use Rattle.html_tokenizer.specs.Tokenizer.States.{BeforeName, Ordinary, State, T
 use Rattle.html_tokenizer.specs.Tokenizer.Transitions.{Transition, refuses}
 use Rattle.html_tokenizer.specs.Tokenizer.Tags.{after_element_name, closed_itself, end_tag_byte, end_tag_name_byte, ends_name, first_name_byte, in_tag, name_byte, opened, tag_name_byte, tag_open_byte}
 use Rattle.html_tokenizer.specs.Tokenizer.Tags.EndTags.{is_appropriate, held_end_tag_byte}
-use Rattle.html_tokenizer.specs.UrlValues.{is_url}
+use Rattle.html_tokenizer.proofs.UrlValues.Attributes.{is_of_urls}
 use Rattle.html_tokenizer.proofs.UrlValues.Names.{content_unnamed, is_named, may_open, neither_opens}
 use Rattle.html_tokenizer.specs.declared.states.Code.{Code}
 use Rattle.html_tokenizer.specs.declared.states.Code.TheVariants as code
@@ -26,7 +26,7 @@ OpensNone x = may_open x.next.state x.next.attribute ≡ false
 
 -- no URL is open after it
 abbrev pub HoldsNone : Transition → Type 0
-HoldsNone x = is_url x.next.attribute ≡ false
+HoldsNone x = is_of_urls x.next.attribute ≡ false
 
 pub end_tag_opens_none : (content : Content) (b : ℕ) → OpensNone (end_tag_byte content b)
 end_tag_opens_none content b = grind arith

@@ -1,25 +1,26 @@
 -- Where a URL may be open, and that its value holds nothing before its first byte.
-use Rattle.std.proofs.Common.{ℕ, ◌≡◌, true, false, List, [], ◌∷◌, ◌++◌, refl, ◌∙◌, sym, subst, ⊎_elim}
+use Rattle.std.proofs.Common.{ℕ, ◌≡◌, Bool, true, false, if◌then◌else◌, List, [], ◌∷◌, ◌++◌, refl, ◌∙◌, sym, subst, ⊎_elim}
 use Rattle.std.proofs.lemmas.Bool.{cases_Bool, false≢true}
 use Rattle.html_tokenizer.specs.declared.slot_place.SlotPlace.{SlotPlace}
 use Rattle.html_tokenizer.specs.declared.slot_place.SlotPlace.TheVariants.{Text, DoubleQuoted, SingleQuoted, Unquoted, ScriptSingle, ScriptDouble, StyleSingle, StyleDouble}
 use Rattle.html_tokenizer.specs.Standing.{is_same}
-use Rattle.html_tokenizer.specs.Tokenizer.States.{BeforeValue, In, State, Tokenizer, Within, data_state}
+use Rattle.html_tokenizer.specs.Tokenizer.States.{Attribute, BeforeValue, In, State, Tokenizer, Within, data_state}
 use Rattle.html_tokenizer.specs.Tokenizer.Tokenization.{consume, state_after}
 use Rattle.html_tokenizer.specs.Tokenizer.Transitions.{Transition}
 use Rattle.html_tokenizer.specs.UrlValues.{is_url, open_url, url_after, value_bytes}
+use Rattle.html_tokenizer.proofs.UrlValues.Attributes.{is_of_urls, no_url_of_none}
 use Rattle.html_tokenizer.proofs.UrlValues.Bytes.{Begins, OpenUrl, before, is_at, may_hold_url, start_state, starts, stays_open, unquoted, within}
 use Rattle.html_tokenizer.proofs.UrlValues.Following.{in_value}
 use Rattle.html_tokenizer.proofs.UrlValues.Opening.AllStates.{opens_at_equals}
 use Rattle.html_tokenizer.proofs.UrlValues.Places.{is_value_place}
 
--- a URL is open only in these states
+-- a value of URLs is open only in these states
 abbrev pub IsTame : Tokenizer → Type 0
-IsTame t = is_url t.attribute ≡ true → may_hold_url t.state ≡ true
+IsTame t = is_of_urls t.attribute ≡ true → may_hold_url t.state ≡ true
 
--- a URL whose value has not begun holds nothing
+-- one that has not begun holds nothing
 abbrev pub IsFresh : Tokenizer → List ℕ → Type 0
-IsFresh t value = is_url t.attribute ≡ true → t.state ≡ BeforeValue → value ≡ []
+IsFresh t value = is_of_urls t.attribute ≡ true → t.state ≡ BeforeValue → value ≡ []
 
 -- ---- one byte
 
@@ -64,20 +65,20 @@ start_holds : (q : SlotPlace) → is_value_place q ≡ true → may_hold_url (st
 start_holds Unquoted place = refl
 start_holds q place = place
 
-begins_holds : {b : ℕ} {x : Transition} → Begins b x → may_hold_url x.next.state ≡ true
-begins_holds (starts q place mark next actions) = rw next (start_holds q place)
-begins_holds {x = x} (unquoted stays) = inside_holds Unquoted x.next.state refl stays.inside
+begins_holds : {attribute : Attribute} {b : ℕ} {x : Transition} → Begins attribute b x → may_hold_url x.next.state ≡ true
+begins_holds (starts q place mark next same actions) = rw next (start_holds q place)
+begins_holds {x = x} (unquoted stays steps) = inside_holds Unquoted x.next.state refl stays.inside
 
-open_holds : {s : State} {b : ℕ} {x : Transition} → OpenUrl s b x → may_hold_url x.next.state ≡ true
+open_holds : {s : State} {attribute : Attribute} {b : ℕ} {x : Transition} → OpenUrl s attribute b x → may_hold_url x.next.state ≡ true
 open_holds (before is begins) = begins_holds begins
-open_holds {x = x} (within p place inside stays) = inside_holds p x.next.state place stays.inside
+open_holds {x = x} (within p place inside stays steps) = inside_holds p x.next.state place stays.inside
 
 pub tame_next : (t : Tokenizer) (b : ℕ) → IsTame t → IsTame (consume t b).next
 tame_next t b tame is =
     ⊎_elim
-    (λ (url : is_url t.attribute ≡ true). open_holds (stays_open t b url (tame url) is))
-    (λ (none : is_url t.attribute ≡ false). rw (opens_at_equals t b none is).before_value refl)
-    (cases_Bool (is_url t.attribute))
+    (λ (url : is_of_urls t.attribute ≡ true). open_holds (stays_open t b url (tame url) is))
+    (λ (none : is_of_urls t.attribute ≡ false). rw (opens_at_equals t b none is).before_value refl)
+    (cases_Bool (is_of_urls t.attribute))
 
 pub tame_after : (t : Tokenizer) (bytes : List ℕ) → IsTame t → IsTame (state_after t bytes)
 tame_after t [] tame = tame
@@ -91,21 +92,28 @@ data_state_is_tame is = absurd (false≢true is)
 not_before : (p : SlotPlace) (s : State) → in_value p s ≡ true → s ≡ BeforeValue → ⊥
 not_before p s inside is = false≢true (rw is at inside)
 
-begins_fresh : {b : ℕ} {x : Transition} (value : List ℕ) → value ≡ [] → Begins b x → x.next.state ≡ BeforeValue → value ++ value_bytes x.actions ≡ []
-begins_fresh value fresh (starts q place mark next actions) is = rw (fresh, actions) refl
-begins_fresh {x = x} value fresh (unquoted stays) is = absurd (not_before Unquoted x.next.state stays.inside is)
-
-open_fresh : {s : State} {b : ℕ} {x : Transition} (value : List ℕ) → (s ≡ BeforeValue → value ≡ []) → OpenUrl s b x → x.next.state ≡ BeforeValue →
+begins_fresh : {attribute : Attribute} {b : ℕ} {x : Transition} (value : List ℕ) → value ≡ [] → Begins attribute b x → x.next.state ≡ BeforeValue →
     value ++ value_bytes x.actions ≡ []
+begins_fresh value fresh (starts q place mark next same actions) is = rw (fresh, actions) refl
+begins_fresh {x = x} value fresh (unquoted stays steps) is = absurd (not_before Unquoted x.next.state stays.inside is)
+
+open_fresh : {s : State} {attribute : Attribute} {b : ℕ} {x : Transition} (value : List ℕ) → (s ≡ BeforeValue → value ≡ []) → OpenUrl s attribute b x →
+    x.next.state ≡ BeforeValue → value ++ value_bytes x.actions ≡ []
 open_fresh value fresh (before here begins) is = begins_fresh value (fresh here) begins is
-open_fresh {x = x} value fresh (within p place inside stays) is = absurd (not_before p x.next.state stays.inside is)
+open_fresh {x = x} value fresh (within p place inside stays steps) is = absurd (not_before p x.next.state stays.inside is)
+
+-- what is kept of a value that holds nothing
+pub none_kept : (kept : Bool) (value : List ℕ) → value ≡ [] → (if kept then value else []) ≡ []
+none_kept true value none = none
+none_kept false value none = refl
 
 pub fresh_next : (t : Tokenizer) (value : List ℕ) (b : ℕ) → IsTame t → IsFresh t value → IsFresh (consume t b).next (url_after t value b)
 fresh_next t value b tame fresh is next =
     ⊎_elim
-    (λ (url : is_url t.attribute ≡ true). rw url (open_fresh value (fresh url) (stays_open t b url (tame url) is) next))
-    (λ (none : is_url t.attribute ≡ false). rw (none, (opens_at_equals t b none is).nothing) refl)
-    (cases_Bool (is_url t.attribute))
+    (λ (url : is_of_urls t.attribute ≡ true).
+    open_fresh (if is_url t.attribute then value else []) (λ here. none_kept (is_url t.attribute) value (fresh url here)) (stays_open t b url (tame url) is) next)
+    (λ (none : is_of_urls t.attribute ≡ false). rw (no_url_of_none t.attribute none, (opens_at_equals t b none is).nothing) refl)
+    (cases_Bool (is_of_urls t.attribute))
 
 pub fresh_after : (t : Tokenizer) (value bytes : List ℕ) → IsTame t → IsFresh t value → IsFresh (state_after t bytes) (open_url t value bytes)
 fresh_after t value [] tame fresh = fresh

@@ -3,7 +3,7 @@
 -- what the standard calls errors has no reading. The names of 13.5 are of letters and digits, and most end in a
 -- `;`: so the longest one that follows a `&` is known at the first other byte. It is the word before that byte
 -- with a `;`, or else a name without one that begins the word.
-use Rattle.std.specs.Prelude.{ℕ, Bool, ◌&&◌, ◌||◌, not, List, [], ◌∷◌, ◌++◌, ◌==◌, Option, Some, None, bytes_eq, if◌then◌else◌, length, map}
+use Rattle.std.specs.Prelude.{ℕ, Bool, ◌&&◌, ◌||◌, not, List, [], ◌∷◌, ◌++◌, ◌==◌, Option, Some, None, bytes_eq, codes, if◌then◌else◌, length, map}
 use Rattle.std.specs.Char.{is_ascii_alphanumeric}
 use Rattle.std.specs.List.{list_any}
 use Rattle.hesc_specs.specs.References.Rows as rows
@@ -14,6 +14,7 @@ use Rattle.html_entities.specs.NamedReferences.{named_references}
 use Rattle.html_tokenizer.specs.declared.slot_place.SlotPlace.{SlotPlace}
 use Rattle.html_tokenizer.specs.declared.slot_place.SlotPlace.TheVariants.{Text}
 use Rattle.html_tokenizer.specs.declared.elements.Content.{Content}
+use Rattle.html_tokenizer.specs.declared.states.ListPart.TheVariants as list
 use Rattle.html_tokenizer.specs.Tokenizer.Actions.{read_byte}
 use Rattle.html_tokenizer.specs.Tokenizer.Attributes.{fixed}
 use Rattle.html_tokenizer.specs.Tokenizer.Values.LegacyNames.{legacy_names}
@@ -42,6 +43,11 @@ goes_on word b = is_ascii_alphanumeric b || (b == number_sign && length word == 
 -- parser of fragments (`innerHTML`) looks for a `;` behind the `&`, which may be one of the text, and reads the name by it
 abbrev pub behind_word : List ℕ → Attribute → Attribute
 behind_word word attribute = if begins_with_legacy word then fixed attribute else attribute
+
+-- behind a reference: in a URL of a list any but `&amp;` may be white space or a comma, and the list is followed no further
+abbrev pub behind_reference : List ℕ → Attribute → Attribute
+behind_reference word (state.Listed part) = state.Listed (if bytes_eq word (codes "amp") then part else list.Rest)
+behind_reference word other = other
 
 -- flush code points consumed as a character reference, and reconsume the byte in the return state
 abbrev pub flushes : SlotPlace → List ℕ → Transition → Transition
@@ -72,13 +78,13 @@ characters_read p content attribute (Some characters) otherwise =
 -- 13.2.5.73
 abbrev pub name_end : SlotPlace → Content → Attribute → List ℕ → ℕ → Transition → Transition
 name_end p content attribute word b again =
-    if b == semicolon then characters_read p content attribute (named_characters word) (unnamed_end p word b again)
+    if b == semicolon then characters_read p content (behind_reference word attribute) (named_characters word) (unnamed_end p word b again)
     else unnamed_end p word b again
 
 -- 13.2.5.75 Numeric character reference state to 13.2.5.80
 abbrev pub number_end : SlotPlace → Content → Attribute → List ℕ → ℕ → Transition
 number_end p content attribute word b =
-    if b == semicolon then character_read p content attribute (body_character word) else refuses
+    if b == semicolon then character_read p content (behind_reference word attribute) (body_character word) else refuses
 
 -- where a reference ends, and the byte alone would lead on so
 abbrev pub reference_end : SlotPlace → Content → Attribute → List ℕ → ℕ → Transition → Transition
