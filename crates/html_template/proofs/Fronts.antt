@@ -5,9 +5,9 @@ use Rattle.std.proofs.lemmas.Bool.{cases_Bool}
 use Rattle.std.specs.Char.{is_ascii_alphanumeric}
 use Rattle.std.specs.Option.{option_map}
 use Rattle.html_template.specs.declared.open_url.OpenUrl.{OpenUrl}
-use Rattle.html_template.specs.declared.open_url.OpenUrl.TheVariants.{Outside, Within, Whole, Front, Declaration}
+use Rattle.html_template.specs.declared.open_url.OpenUrl.TheVariants.{Outside, Within, Listed, Whole, Front, Declaration}
 use Rattle.html_template.specs.declared.open_url.PlacedSlot.{PlacedSlot}
-use Rattle.html_template.specs.OpenUrls.{before, begun, behind_link, url_markup, value_length}
+use Rattle.html_template.specs.OpenUrls.{before, begun, behind_link, url_markup, url_length}
 use Rattle.html_tokenizer.specs.Tokenizer.Values.References.{goes_on}
 use Rattle.html_tokenizer.specs.declared.slot_place.SlotPlace.{SlotPlace}
 use Rattle.html_tokenizer.specs.UrlValues.{url_text, url_text_from}
@@ -70,7 +70,7 @@ taken_begins (suc n) (b ∷ markup) behind is = is
 
 front_told : (p : SlotPlace) (behind : BehindBase) (markup : List ℕ) (opened : OpenUrl) → url_markup (Front p behind) markup ≡ Ok opened → behind_base markup ≡ Some behind
 front_told p behind markup opened told =
-    let n : ℕ = value_length p markup in
+    let n : ℕ = url_length false p markup in
     let ended : Bool = nat_lt n (length markup) in
     let front = base_told p behind ended (take n markup) opened told in
     taken_begins n markup behind (text_begins ended (take n markup) front.text behind front.adds.read (same_behind behind front.text front.goes))
@@ -89,6 +89,7 @@ begun_told : (found : PlacedSlot) (url : OpenUrl) (guess : Option BehindBase) (m
     url_markup (begun found url guess).url markup ≡ Ok opened → begun found url (behind_base markup) ≡ begun found url guess
 begun_told found Outside guess markup opened is told = refl
 begun_told found (Within p part) guess markup opened is told = refl
+begun_told found (Listed p part) guess markup opened is told = refl
 begun_told found (Front p behind) guess markup opened is told = refl
 begun_told found (Declaration p) guess markup opened is told = refl
 begun_told found (Whole p) guess markup opened is told = ap (begun found (Whole p)) (whole_told found p guess markup opened is told)

@@ -79,7 +79,10 @@ last_told : (number : ℕ) (walk : Walk) (found : PlacedSlot) (parts : List Give
     IsTame (behind_slot walk (before (next_markup parts) found)).tokenizer →
     OpenStands (behind_slot walk (before (next_markup parts) found)).url (behind_slot walk (before (next_markup parts) found)).tokenizer →
     (before [] found).url ≡ Outside
-last_told number walk found parts rest none told tame stands = grind (arith, nat_tests)
+last_told number walk found [] rest none told tame stands =
+    let here : Walk = behind_slot walk (before [] found) in
+    none_open here.url here.tokenizer tame (at_end number here rest told).may stands
+last_told number walk found (part ∷ parts) rest none told tame stands = absurd (cc)
 
 same_next : (first second : List Given) (found : PlacedSlot) → (first ≡ [] → (before [] found).url ≡ Outside) →
     before (next_markup (first ++ second)) found ≡ before (next_markup first) found
@@ -103,7 +106,7 @@ joined_from number walk (GivenSlot ∷ first) second one two told tame stands ne
     let suited = (before_suits (next_markup first) walk.markup walk.url (standing walk.tokenizer) here.found here.placed).suited in
     let goes : after_slot slot.place slot.kind walk.tokenizer ≡ past_slot slot.place slot.kind walk.tokenizer = rw suited refl in
     let behind = told_behind_slot walk slot goes (tame_behind (next_markup first) walk.markup walk.url walk.tokenizer here.found tame here.placed)
-    (slot_stands (next_markup first) walk.markup walk.url walk.tokenizer (standing walk.tokenizer) here.found refl here.placed) in
+    (slot_stands (next_markup first) walk.markup walk.url walk.tokenizer (standing walk.tokenizer) here.found refl here.placed stands) in
     let ends : first ≡ [] → (before [] here.found).url ≡ Outside = λ none. last_told (number + 1) walk here.found first here.rest none here.told behind.0 behind.1 in
     rw here.whole
     (slot_before number walk (first ++ second) here.found slot (here.rest ++ two) here.placed (same_next first second here.found ends)

@@ -14,6 +14,8 @@ use Rattle.html_tokenizer.specs.declared.slot_place.SlotPlace.TheVariants as pla
 use Rattle.html_tokenizer.specs.declared.states.Code.{Code}
 use Rattle.html_tokenizer.specs.declared.states.Code.TheVariants as code
 use Rattle.html_tokenizer.specs.declared.states.Code.TheVariants.{Plain}
+use Rattle.html_tokenizer.specs.declared.states.ListPart.{ListPart}
+use Rattle.html_tokenizer.specs.declared.states.ListPart.TheVariants as list
 use Rattle.html_tokenizer.specs.declared.states.StylePart.{StylePart}
 use Rattle.html_tokenizer.specs.declared.states.StylePart.TheVariants.{Value}
 use Rattle.html_tokenizer.specs.Declarations.{is_style_byte}
@@ -22,10 +24,10 @@ use Rattle.html_tokenizer.specs.declared.elements.OpenElement.{OpenElement}
 use Rattle.html_tokenizer.specs.Tokenizer.Actions.{read_byte}
 use Rattle.html_tokenizer.specs.Tokenizer.Code.{is_script}
 use Rattle.html_tokenizer.specs.Tokenizer.States as state
-use Rattle.html_tokenizer.specs.Tokenizer.States.{State, Attribute, Ordinary, Declarations, RawUrl, Url, Tokenizer, In, BeforeValue, Refused, InCode, at, at_value, refused, data_state}
+use Rattle.html_tokenizer.specs.Tokenizer.States.{State, Attribute, Ordinary, Declarations, Listed, RawUrl, Url, Tokenizer, In, BeforeValue, Refused, InCode, at, at_value, refused, data_state}
 use Rattle.html_tokenizer.specs.declared.reader.Standing.{Standing}
-use Rattle.html_tokenizer.specs.declared.reader.Standing.TheVariants.{Barred, InDeclaration, InLink, InUrl, Stands}
-use Rattle.html_tokenizer.specs.Standing.{in_code, in_content, in_declaration, is_same, unless_forbidden, standing_in, standing}
+use Rattle.html_tokenizer.specs.declared.reader.Standing.TheVariants.{Barred, InDeclaration, InLink, InListedUrl, InUrl, Stands}
+use Rattle.html_tokenizer.specs.Standing.{in_code, in_content, in_declaration, in_list, is_same, unless_forbidden, standing_in, standing}
 use Rattle.html_tokenizer.specs.UrlValues.{is_url}
 use Rattle.html_template.specs.declared.parts.SlotKind.{SlotKind}
 use Rattle.html_template.specs.declared.parts.SlotKind.TheVariants.{Text, UrlPart, Link, OwnPath, Base, OwnBase, Literal, Json, StyleValue}
@@ -34,8 +36,8 @@ use Rattle.html_template.specs.Slots.{FitsPlace, base_kind, is_quoted, json_of, 
 use Rattle.html_template.specs.Templates.{Chunk, Markup, Slot, after_slot, encoder_for, handed, state_after_all, page, actions_all, MayFill, Fill, written}
 use Rattle.html_tokenizer.specs.Tokenizer.Tokenization.{state_after}
 use Rattle.html_tokenizer.proofs.Slots.Html.{Remains, text_stays, double_stays, double_stays_in, single_stays, single_stays_in, unquoted_stays, first_stays}
-use Rattle.html_tokenizer.proofs.UrlValues.Attributes.{byte_settled, reference_settled}
-use Rattle.html_tokenizer.proofs.UrlValues.Slots.Components.{component_stays, is_written_byte}
+use Rattle.html_tokenizer.proofs.UrlValues.Attributes.{byte_settled, is_listed, is_open, open_so, reference_settled, whole_behind}
+use Rattle.html_tokenizer.proofs.UrlValues.Slots.Components.{component_settled, component_stays, is_written_byte}
 use Rattle.html_tokenizer.proofs.Passing.{Passes, passes_itself, passes_both, stays_refused}
 use Rattle.html_tokenizer.proofs.Slots.Scripts.{json_passes, literal_passes, script_stays, script_single_reads, script_double_reads}
 use Rattle.url.proofs.InputLemmas.{list_all_from_All}
@@ -73,6 +75,13 @@ not_declared : (kind : SlotKind) (p : SlotPlace) (part : StylePart) (q : SlotPla
 not_declared kind p Value place.DoubleQuoted double single barred may = no (sym double ∙ may)
 not_declared kind p Value place.SingleQuoted double single barred may = no (sym single ∙ may)
 not_declared kind p part q double single barred may = no (sym barred ∙ may)
+
+-- nor in a list of URLs
+not_listed : (kind : SlotKind) (p : SlotPlace) (part : ListPart) (q : SlotPlace) → suits kind p (InListedUrl place.DoubleQuoted) ≡ false →
+    suits kind p (InListedUrl place.SingleQuoted) ≡ false → suits kind p Barred ≡ false → suits kind p (in_list part q) ≡ true → ⊥
+not_listed kind p list.Url place.DoubleQuoted double single barred may = no (sym double ∙ may)
+not_listed kind p list.Url place.SingleQuoted double single barred may = no (sym single ∙ may)
+not_listed kind p part q double single barred may = no (sym barred ∙ may)
 
 -- ---- a slot for a text
 
@@ -119,6 +128,11 @@ pub record IsInUrl (p : SlotPlace) (state : State) (attribute : Attribute) : Typ
   pub state_is : state ≡ In p
   pub attribute_is : is_url attribute ≡ true
 
+part_in_list : (slot : UrlSlot) (p : SlotPlace) (part : ListPart) (q : SlotPlace) → suits (UrlPart slot) p (in_list part q) ≡ true → IsInUrl p (In q) (Listed part)
+part_in_list slot p list.Url place.DoubleQuoted may = record { state_is = ap In (sym (same_place p place.DoubleQuoted may)); attribute_is = refl }
+part_in_list slot p list.Url place.SingleQuoted may = record { state_is = ap In (sym (same_place p place.SingleQuoted may)); attribute_is = refl }
+part_in_list slot p part q may = absurd (no may)
+
 pub part_in_url : (slot : UrlSlot) (p : SlotPlace) (state : State) (content : Content) (attribute : Attribute) →
     suits (UrlPart slot) p (standing_in state content attribute) ≡ true → IsInUrl p state attribute
 part_in_url slot p (In q) content Url may =
@@ -129,6 +143,7 @@ part_in_url slot p (In q) content state.Link may =
     record { state_is = ap In (sym (same_place p q (in_any (UrlPart slot) p content.element (InLink q) may))); attribute_is = refl }
 part_in_url slot p (In q) content (Declarations part) may =
     absurd (not_declared (UrlPart slot) p part q refl refl refl (in_any (UrlPart slot) p content.element (in_declaration part q) may))
+part_in_url slot p (In q) content (Listed part) may = part_in_list slot p part q (in_any (UrlPart slot) p content.element (in_list part q) may)
 part_in_url slot p (In q) content other may = absurd (no (in_any (UrlPart slot) p content.element (unless_forbidden other q) may))
 part_in_url slot p BeforeValue content Ordinary may = absurd (no may)
 part_in_url slot p BeforeValue content other may = absurd (no may)
@@ -138,7 +153,7 @@ part_in_url slot p elsewhere content attribute may = absurd (no may)
 -- and in quotes
 pub record IsInQuotes (p : SlotPlace) (state : State) (attribute : Attribute) : Type 0 where
   pub state_is : state ≡ In p
-  pub attribute_is : is_url attribute ≡ true
+  pub attribute_is : is_open false attribute ≡ true
   pub quoted : is_quoted p ≡ true
 
 link_in_url : (p : SlotPlace) (state : State) (content : Content) (attribute : Attribute) →
@@ -148,6 +163,8 @@ link_in_url p (In q) content state.Link may =
     record { state_is = ap In (sym (same_place p q parts.1)); attribute_is = refl; quoted = parts.0 }
 link_in_url p (In q) content (Declarations part) may =
     absurd (not_declared kind.Link p part q refl refl refl (in_any kind.Link p content.element (in_declaration part q) may))
+link_in_url p (In q) content (Listed part) may =
+    absurd (not_listed kind.Link p part q refl refl refl (in_any kind.Link p content.element (in_list part q) may))
 link_in_url p (In q) content other may = absurd (no (in_any kind.Link p content.element (unless_forbidden other q) may))
 link_in_url p BeforeValue content Ordinary may = absurd (no may)
 link_in_url p BeforeValue content other may = absurd (no may)
@@ -164,6 +181,8 @@ own_in_url p (In q) content RawUrl may =
     record { state_is = ap In (sym (same_place p q parts.1)); attribute_is = refl; quoted = parts.0 }
 own_in_url p (In q) content (Declarations part) may =
     absurd (not_declared OwnPath p part q refl refl refl (in_any OwnPath p content.element (in_declaration part q) may))
+own_in_url p (In q) content (Listed part) may =
+    absurd (not_listed OwnPath p part q refl refl refl (in_any OwnPath p content.element (in_list part q) may))
 own_in_url p (In q) content other may = absurd (no (in_any OwnPath p content.element (unless_forbidden other q) may))
 own_in_url p BeforeValue content Ordinary may = absurd (no may)
 own_in_url p BeforeValue content other may = absurd (no may)
@@ -179,11 +198,15 @@ pub base_in_url : (is_followed : Bool) (behind : BehindBase) (p : SlotPlace) (st
     suits (base_kind behind (whole_kind is_followed)) p (standing_in state content attribute) ≡ true → IsInQuotes p state attribute
 base_in_url is_followed behind p state content attribute may = grind (arith, nat_tests, whole_in_url, base_stands)
 
-url_remains_so : (attribute : Attribute) → is_url attribute ≡ true → Remains attribute
-url_remains_so attribute url = record { bytes = λ b. byte_settled attribute b url; references = reference_settled attribute url }
+url_remains_so : (attribute : Attribute) → is_open false attribute ≡ true → Remains attribute
+url_remains_so attribute url = record {
+  bytes = λ b. byte_settled false attribute b url refl;
+  references = reference_settled false attribute url;
+  behind = whole_behind attribute url;
+}
 
 -- what is written for a whole URL stays in quotes
-quoted_passes : (p : SlotPlace) (content : Content) (attribute : Attribute) (text : List ℕ) → is_quoted p ≡ true → is_url attribute ≡ true →
+quoted_passes : (p : SlotPlace) (content : Content) (attribute : Attribute) (text : List ℕ) → is_quoted p ≡ true → is_open false attribute ≡ true →
     Passes (at_value (In p) content attribute) (encoded (encoder_for p) text) (map (read_byte p) (read_back (encoder_for p) text)) (at_value (In p) content attribute)
 quoted_passes place.DoubleQuoted content attribute text quoted url =
     double_stays_in (url_remains_so attribute url) content text
@@ -193,6 +216,19 @@ quoted_passes other content attribute text quoted url = absurd (no quoted)
 
 -- ---- a slot for a string literal
 
+-- it stands in no value
+no_value : (kind : SlotKind) (p : SlotPlace) (attribute : Attribute) (q : SlotPlace) → suits kind p (Stands q) ≡ false → suits kind p (InUrl q) ≡ false →
+    suits kind p (InLink q) ≡ false → suits kind p (InDeclaration place.DoubleQuoted) ≡ false → suits kind p (InDeclaration place.SingleQuoted) ≡ false →
+    suits kind p (InListedUrl place.DoubleQuoted) ≡ false → suits kind p (InListedUrl place.SingleQuoted) ≡ false → suits kind p Barred ≡ false →
+    suits kind p (unless_forbidden attribute q) ≡ true → ⊥
+no_value kind p Ordinary q stands url link double single listed_double listed_single barred may = no (sym stands ∙ may)
+no_value kind p Url q stands url link double single listed_double listed_single barred may = no (sym url ∙ may)
+no_value kind p RawUrl q stands url link double single listed_double listed_single barred may = no (sym url ∙ may)
+no_value kind p state.Link q stands url link double single listed_double listed_single barred may = no (sym link ∙ may)
+no_value kind p (Declarations part) q stands url link double single listed_double listed_single barred may = not_declared kind p part q double single barred may
+no_value kind p (Listed part) q stands url link double single listed_double listed_single barred may = not_listed kind p part q listed_double listed_single barred may
+no_value kind p other q stands url link double single listed_double listed_single barred may = no (sym barred ∙ may)
+
 -- it stands in the code of a script, between words
 pub record IsInScript (p : SlotPlace) (state : State) (content : Content) (attribute : Attribute) : Type 0 where
   pub place_is : p ≡ place.ScriptDouble
@@ -200,9 +236,17 @@ pub record IsInScript (p : SlotPlace) (state : State) (content : Content) (attri
   pub script : is_script content.element ≡ true
   pub attribute_is : attribute ≡ Ordinary
 
+literal_in_code : (p : SlotPlace) (code : Code) (content : Content) (attribute : Attribute) → suits Literal p (in_code code content attribute) ≡ true →
+    IsInScript p (InCode code) content attribute
+literal_in_code p code content attribute may = grind (arith, nat_tests)
+
 pub literal_in_script : (p : SlotPlace) (state : State) (content : Content) (attribute : Attribute) →
     suits Literal p (standing_in state content attribute) ≡ true → IsInScript p state content attribute
-literal_in_script p state content attribute may = grind (arith, nat_tests)
+literal_in_script p (In q) content attribute may = absurd (no_value Literal p attribute q refl refl refl refl refl refl refl refl (in_any Literal p content.element (unless_forbidden attribute q) may))
+literal_in_script p BeforeValue content Ordinary may = absurd (no may)
+literal_in_script p BeforeValue content other may = absurd (no may)
+literal_in_script p (InCode code) content attribute may = literal_in_code p code content attribute may
+literal_in_script p elsewhere content attribute may = absurd (no may)
 
 -- ---- a slot for JSON
 
@@ -213,9 +257,17 @@ pub record IsInJson (p : SlotPlace) (state : State) (content : Content) (attribu
   pub script : is_script content.element ≡ true
   pub attribute_is : attribute ≡ Ordinary
 
+json_in_code : (p : SlotPlace) (code : Code) (content : Content) (attribute : Attribute) → suits Json p (in_code code content attribute) ≡ true →
+    IsInJson p (InCode code) content attribute
+json_in_code p code content attribute may = grind (arith, nat_tests)
+
 pub json_in_block : (p : SlotPlace) (state : State) (content : Content) (attribute : Attribute) →
     suits Json p (standing_in state content attribute) ≡ true → IsInJson p state content attribute
-json_in_block p state content attribute may = grind (arith, nat_tests)
+json_in_block p (In q) content attribute may = absurd (no_value Json p attribute q refl refl refl refl refl refl refl refl (in_any Json p content.element (unless_forbidden attribute q) may))
+json_in_block p BeforeValue content Ordinary may = absurd (no may)
+json_in_block p BeforeValue content other may = absurd (no may)
+json_in_block p (InCode code) content attribute may = json_in_code p code content attribute may
+json_in_block p elsewhere content attribute may = absurd (no may)
 
 -- ---- a slot in a declaration
 
@@ -235,6 +287,8 @@ pub style_in_declaration : (p : SlotPlace) (state : State) (content : Content) (
     suits StyleValue p (standing_in state content attribute) ≡ true → IsInDeclaration p state attribute
 style_in_declaration p (In q) content (Declarations part) may =
     found_in_declaration p part q (in_any StyleValue p content.element (in_declaration part q) may)
+style_in_declaration p (In q) content (Listed part) may =
+    absurd (not_listed StyleValue p part q refl refl refl (in_any StyleValue p content.element (in_list part q) may))
 style_in_declaration p (In q) content other may = absurd (no (in_any StyleValue p content.element (unless_forbidden other q) may))
 style_in_declaration p BeforeValue content Ordinary may = absurd (no may)
 style_in_declaration p BeforeValue content other may = absurd (no may)
@@ -273,7 +327,7 @@ slot_passes p Text state content attribute text may full utf8 = text_passes p st
 slot_passes p (UrlPart slot) state content attribute text may full utf8 =
     let here = part_in_url slot p state content attribute may in
     rw here.state_is
-    (component_stays p content attribute (component_at slot.place text) (λ b. byte_settled attribute b here.attribute_is)
+    (component_stays p content attribute (component_at slot.place text) (λ b. component_settled (is_listed attribute) attribute b (open_so attribute here.attribute_is))
     (list_all_from_All is_written_byte (component_at slot.place text) (written_bytes slot.place text)))
 slot_passes p Link state content attribute text may full utf8 =
     let here = link_in_url p state content attribute may in

@@ -3,7 +3,7 @@ use Rattle.std.proofs.Common.{ℕ, ◌≡◌, ◌≤◌, ◌+◌, Bool, true, fa
 use Rattle.std.proofs.lemmas.Bool.Decides.{nat_tests}
 use Rattle.html_template.specs.declared.faults.PartFault.{PartFault}
 use Rattle.html_template.specs.declared.open_url.OpenUrl.{OpenUrl}
-use Rattle.html_template.specs.declared.open_url.OpenUrl.TheVariants.{Outside, Within, Whole, Front, Declaration}
+use Rattle.html_template.specs.declared.open_url.OpenUrl.TheVariants.{Outside, Within, Listed, Whole, Front, Declaration}
 use Rattle.html_template.specs.declared.open_url.PlacedSlot.{PlacedSlot}
 use Rattle.html_template.specs.OpenUrls.{before, begun, behind_front, behind_text, first_slot, in_part, open_at, plain_text, url_slot, whole_slot}
 use Rattle.html_template.specs.Slots.{after_slot, base_kind, past_slot, suits}
@@ -11,25 +11,26 @@ use Rattle.html_template.specs.TemplateFaults.{Walk, next_markup, pieces_from, p
 use Rattle.html_template.specs.declared.parts.SlotKind.{SlotKind}
 use Rattle.html_template.specs.Templates.{Given, GivenSlot}
 use Rattle.html_tokenizer.specs.declared.reader.Standing.{Standing}
-use Rattle.html_tokenizer.specs.declared.reader.Standing.TheVariants.{Stands, InUrl, InLink, InDeclaration, InScript, InJson, Nowhere, Barred}
+use Rattle.html_tokenizer.specs.declared.reader.Standing.TheVariants.{Stands, InUrl, InLink, InListedUrl, InDeclaration, InScript, InJson, Nowhere, Barred}
 use Rattle.html_tokenizer.specs.declared.slot_place.SlotPlace.{SlotPlace}
 use Rattle.html_tokenizer.specs.Standing.{AfterStanding, is_same, standing, state_after_slot, stands}
 use Rattle.html_tokenizer.specs.Tokenizer.States.{In, Tokenizer, at_value}
-use Rattle.html_tokenizer.specs.UrlValues.{after_last, begins_value}
+use Rattle.html_tokenizer.specs.UrlValues.{after_last, begins_url}
 use Rattle.html_urls.specs.declared.base.BehindBase.{BehindBase}
 use Rattle.html_urls.specs.declared.open_part.OpenPart.{OpenPart}
 
 pub same_itself : (p : SlotPlace) → is_same p p ≡ true
 same_itself p = grind (arith, nat_tests)
 
-abbrev url_standing : Bool → SlotPlace → Standing
-url_standing true p = InLink p
-url_standing false p = InUrl p
+abbrev url_standing : Bool → Bool → SlotPlace → Standing
+url_standing true is_followed p = InListedUrl p
+url_standing false true p = InLink p
+url_standing false false p = InUrl p
 
 -- the slot stands at this place, in a URL
-record IsInUrl (is_followed : Bool) (p : SlotPlace) (slot : PlacedSlot) : Type 0 where
+record IsInUrl (listed is_followed : Bool) (p : SlotPlace) (slot : PlacedSlot) : Type 0 where
   place : slot.place ≡ p
-  suited : suits slot.kind p (url_standing is_followed p) ≡ true
+  suited : suits slot.kind p (url_standing listed is_followed p) ≡ true
 
 abbrev as_told : PlacedSlot → Result PlacedSlot PartFault
 as_told slot = Ok slot
@@ -37,41 +38,37 @@ as_told slot = Ok slot
 pub ok_slot : {first second : PlacedSlot} → as_told first ≡ as_told second → first ≡ second
 ok_slot same = cc
 
-open_suits : (is_followed : Bool) (p : SlotPlace) (part : Option OpenPart) (slot : PlacedSlot) →
-    in_part p part ≡ Ok slot → IsInUrl is_followed p slot
-open_suits is_followed p part slot told = grind (arith, nat_tests)
+module _ (listed is_followed : Bool) (p : SlotPlace) where
+  open_suits : (part : Option OpenPart) (slot : PlacedSlot) → in_part listed p part ≡ Ok slot → IsInUrl listed is_followed p slot
+  open_suits part slot told = grind (arith, nat_tests)
 
-text_suits : (is_followed : Bool) (p : SlotPlace) (text : Option (List ℕ)) (slot : PlacedSlot) →
-    behind_text p is_followed text ≡ Ok slot → IsInUrl is_followed p slot
-text_suits is_followed p None slot told = absurd (cc)
-text_suits is_followed p (Some text) slot told = open_suits is_followed p (open_at is_followed text) slot told
+  text_suits : (text : Option (List ℕ)) (slot : PlacedSlot) → behind_text listed p is_followed text ≡ Ok slot → IsInUrl listed is_followed p slot
+  text_suits None slot told = absurd (cc)
+  text_suits (Some text) slot told = open_suits (open_at is_followed text) slot told
 
-whole_suits : (is_followed : Bool) (p : SlotPlace) (slot : PlacedSlot) →
-    whole_slot p is_followed ≡ Ok slot → IsInUrl is_followed p slot
-whole_suits is_followed p slot told = grind (arith, nat_tests)
+  whole_suits : (slot : PlacedSlot) → whole_slot listed p is_followed ≡ Ok slot → IsInUrl listed is_followed p slot
+  whole_suits slot told = grind (arith, nat_tests)
 
-front_suits : (is_followed : Bool) (p : SlotPlace) (markup : Option (List ℕ)) (slot : PlacedSlot) →
-    first_slot p is_followed markup ≡ Ok slot → IsInUrl is_followed p slot
-front_suits is_followed p None slot told = absurd (cc)
-front_suits is_followed p (Some []) slot told = whole_suits is_followed p slot told
-front_suits is_followed p (Some (b ∷ markup)) slot told = text_suits is_followed p (plain_text false (b ∷ markup)) slot told
+  front_suits : (markup : Option (List ℕ)) (slot : PlacedSlot) → first_slot listed p is_followed markup ≡ Ok slot → IsInUrl listed is_followed p slot
+  front_suits None slot told = absurd (cc)
+  front_suits (Some []) slot told = whole_suits slot told
+  front_suits (Some (b ∷ markup)) slot told = text_suits (plain_text false (b ∷ markup)) slot told
+
+  base_suits : (behind : BehindBase) (slot : PlacedSlot) → behind_front p behind ≡ Ok slot → IsInUrl listed is_followed p slot
+  base_suits behind slot told = grind (arith, nat_tests)
+
+  url_suits : (markup : List ℕ) (url : OpenUrl) (slot : PlacedSlot) → url_slot listed p is_followed markup url ≡ Ok slot → IsInUrl listed is_followed p slot
+  url_suits markup Outside slot told = front_suits (after_last (begins_url listed p) markup) slot told
+  url_suits markup (Within q part) slot told = open_suits (Some part) slot told
+  url_suits markup (Listed q part) slot told = open_suits (Some part) slot told
+  url_suits markup (Whole q) slot told = absurd (cc)
+  url_suits markup (Front q behind) slot told = base_suits behind slot told
+  url_suits markup (Declaration q) slot told = absurd (cc)
 
 -- where the markup is not empty
-pub some_front : (p : SlotPlace) (is_followed : Bool) (markup : List ℕ) → 1 ≤ length markup →
-    first_slot p is_followed (Some markup) ≡ behind_text p is_followed (plain_text false markup)
-some_front p is_followed markup some = grind (arith, nat_tests)
-
-base_suits : (is_followed : Bool) (p : SlotPlace) (behind : BehindBase) (slot : PlacedSlot) →
-    behind_front p behind ≡ Ok slot → IsInUrl is_followed p slot
-base_suits is_followed p behind slot told = grind (arith, nat_tests)
-
-url_suits : (is_followed : Bool) (p : SlotPlace) (markup : List ℕ) (url : OpenUrl) (slot : PlacedSlot) →
-    url_slot p is_followed markup url ≡ Ok slot → IsInUrl is_followed p slot
-url_suits is_followed p markup Outside slot told = front_suits is_followed p (after_last (begins_value p) markup) slot told
-url_suits is_followed p markup (Within q part) slot told = open_suits is_followed p (Some part) slot told
-url_suits is_followed p markup (Whole q) slot told = absurd (cc)
-url_suits is_followed p markup (Front q behind) slot told = base_suits is_followed p behind slot told
-url_suits is_followed p markup (Declaration q) slot told = absurd (cc)
+pub some_front : (listed : Bool) (p : SlotPlace) (is_followed : Bool) (markup : List ℕ) → 1 ≤ length markup →
+    first_slot listed p is_followed (Some markup) ≡ behind_text listed p is_followed (plain_text false markup)
+some_front listed p is_followed markup some = grind (arith, nat_tests)
 
 abbrev pub in_script : Standing → Bool
 in_script InScript = true
@@ -83,18 +80,16 @@ pub record IsSuited (s : Standing) (slot : PlacedSlot) : Type 0 where
   pub suited : suits slot.kind slot.place s ≡ true
   pub stood : in_script s ≡ false → stands slot.place s ≡ true
 
-in_url_suited : (p : SlotPlace) (slot : PlacedSlot) → IsInUrl false p slot → IsSuited (InUrl p) slot
-in_url_suited p slot is = grind (arith, nat_tests)
-
-in_link_suited : (p : SlotPlace) (slot : PlacedSlot) → IsInUrl true p slot → IsSuited (InLink p) slot
-in_link_suited p slot is = grind (arith, nat_tests)
+in_url_suited : (listed is_followed : Bool) (p : SlotPlace) (slot : PlacedSlot) → IsInUrl listed is_followed p slot → IsSuited (url_standing listed is_followed p) slot
+in_url_suited listed is_followed p slot is = grind (arith, nat_tests)
 
 pub slot_suits : (markup : List ℕ) (url : OpenUrl) (s : Standing) (slot : PlacedSlot) →
     slot_at markup url s ≡ Ok slot → IsSuited s slot
 slot_suits markup url (Stands p) slot told =
     subst (IsSuited (Stands p)) (ok_slot told) (record { suited = same_itself p; stood = λ outside. same_itself p })
-slot_suits markup url (InUrl p) slot told = in_url_suited p slot (url_suits false p markup url slot told)
-slot_suits markup url (InLink p) slot told = in_link_suited p slot (url_suits true p markup url slot told)
+slot_suits markup url (InUrl p) slot told = in_url_suited false false p slot (url_suits false false p markup url slot told)
+slot_suits markup url (InLink p) slot told = in_url_suited false true p slot (url_suits false true p markup url slot told)
+slot_suits markup url (InListedUrl p) slot told = in_url_suited true false p slot (url_suits true false p markup url slot told)
 slot_suits markup url (InDeclaration p) slot told =
     subst (IsSuited (InDeclaration p)) (ok_slot told) (record { suited = same_itself p; stood = λ outside. same_itself p })
 slot_suits markup url InScript slot told =

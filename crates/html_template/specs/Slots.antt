@@ -5,7 +5,7 @@ use Rattle.hesc_specs.specs.Text.Ascii.{double_quote}
 use Rattle.html_escape.specs.Encoders.{encoded}
 use Rattle.hesc_places.specs.Places.ReadBack.{read_back}
 use Rattle.html_tokenizer.specs.declared.reader.Standing.{Standing}
-use Rattle.html_tokenizer.specs.declared.reader.Standing.TheVariants.{Stands, InUrl, InLink, InDeclaration, InScript, InJson}
+use Rattle.html_tokenizer.specs.declared.reader.Standing.TheVariants.{Stands, InUrl, InLink, InListedUrl, InDeclaration, InScript, InJson}
 use Rattle.html_tokenizer.specs.declared.slot_place.SlotPlace.{SlotPlace}
 use Rattle.html_tokenizer.specs.declared.slot_place.SlotPlace.TheVariants as place
 use Rattle.html_tokenizer.specs.declared.slot_place.SlotPlace.TheVariants.{DoubleQuoted, SingleQuoted, Unquoted, ScriptDouble}
@@ -90,6 +90,7 @@ abbrev pub suits : SlotKind → SlotPlace → Standing → Bool
 suits Text p (Stands q) = is_same p q
 suits (UrlPart slot) p (InUrl q) = is_same p q
 suits (UrlPart slot) p (InLink q) = is_same p q
+suits (UrlPart slot) p (InListedUrl q) = is_same p q
 suits Link p (InLink q) = is_quoted p && is_same p q
 suits OwnPath p (InUrl q) = is_quoted p && is_same p q
 suits (Base behind) p (InLink q) = is_quoted p && is_same p q

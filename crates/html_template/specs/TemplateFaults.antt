@@ -13,7 +13,7 @@ use Rattle.html_template.specs.declared.open_url.PlacedSlot.{PlacedSlot}
 use Rattle.html_template.specs.OpenUrls.{before, url_markup, url_slot}
 use Rattle.html_template.specs.Templates.{Chunk, Markup, Slot, Given, GivenMarkup, GivenSlot, after_slot}
 use Rattle.html_tokenizer.specs.declared.reader.Standing.{Standing}
-use Rattle.html_tokenizer.specs.declared.reader.Standing.TheVariants.{Stands, InUrl, InLink, InDeclaration, InScript, InJson, Nowhere, Barred}
+use Rattle.html_tokenizer.specs.declared.reader.Standing.TheVariants.{Stands, InUrl, InLink, InListedUrl, InDeclaration, InScript, InJson, Nowhere, Barred}
 use Rattle.html_tokenizer.specs.declared.slot_place.SlotPlace.TheVariants.{ScriptDouble, Text}
 use Rattle.html_tokenizer.specs.Standing.{is_refused, may_end, standing}
 use Rattle.html_tokenizer.specs.Tokenizer.States.{Tokenizer, data_state}
@@ -31,8 +31,9 @@ at_beginning = record { tokenizer = data_state; markup = []; url = Outside }
 -- a slot behind this markup, by where it stands
 abbrev pub slot_at : List ℕ → OpenUrl → Standing → Result PlacedSlot PartFault
 slot_at markup url (Stands p) = Ok (record { place = p; kind = kind.Text; url = Outside })
-slot_at markup url (InUrl p) = url_slot p false markup url
-slot_at markup url (InLink p) = url_slot p true markup url
+slot_at markup url (InUrl p) = url_slot false p false markup url
+slot_at markup url (InLink p) = url_slot false p true markup url
+slot_at markup url (InListedUrl p) = url_slot true p false markup url
 slot_at markup url (InDeclaration p) = Ok (record { place = p; kind = kind.StyleValue; url = Declaration p })
 slot_at markup url InScript = Ok (record { place = ScriptDouble; kind = kind.Literal; url = Outside })
 slot_at markup url InJson = Ok (record { place = Text; kind = kind.Json; url = Outside })

@@ -13,6 +13,8 @@ pub enum PartFault {
     Forbidden,
     /// Markup of a URL that holds a slot, and in that URL it has white space, a control, a `\`, or a
     /// reference other than `&amp;`; or it ends in a `%`, or in one and a hexadecimal digit, before a slot.
+    /// Or, in the list of a `srcset`, a comma behind such a URL with neither white space nor the end of the
+    /// value behind it.
     NotPlain,
     /// A slot where the scheme or the host of a URL is still open, or in a URL with another scheme than
     /// `http`, `https`, `mailto` and `tel`, but for the image of a `data:` URL on an element that only shows it;

@@ -14,16 +14,18 @@ ghost use Rattle.html_template.specs.OpenUrls.{
   in_part,
   is_slash,
   open_at,
+  part_markup,
   url_end,
   url_markup,
   url_slot,
   whole_slot,
+  within,
 };
-ghost use Rattle.html_template.specs.declared.open_url.OpenUrl.TheVariants.{Front, Within};
+ghost use Rattle.html_template.specs.declared.open_url.OpenUrl.TheVariants.{Front, Listed};
 ghost use Rattle.html_template.specs.Slots.{base_kind, is_quoted, whole_kind};
 
 use crate::faults::PartFault;
-use crate::open_url::markup::{after_last, ends_value, plain_text, value_length};
+use crate::open_url::markup::{after_last, ends_listed, ends_value, plain_text, url_length};
 use crate::parts::SlotKind;
 use html_tokenizer::{SlotPlace, is_style_byte};
 use html_urls::{
@@ -39,6 +41,8 @@ pub enum OpenUrl {
     Outside,
     /// In a value at this place, this part of a URL.
     Within(SlotPlace, OpenPart),
+    /// In a list of URLs at this place, this part of one.
+    Listed(SlotPlace, OpenPart),
     /// In a value at this place, a URL that is all of it.
     Whole(SlotPlace),
     /// In a value at this place, a base with which the URL begins, and which goes on so.
@@ -61,9 +65,24 @@ fn is_quoted(place: SlotPlace) -> bool
     matches!(place, SlotPlace::DoubleQuoted | SlotPlace::SingleQuoted)
 }
 
+// This part of a URL is open, by whether it is one of a list.
+fn within(is_listed: bool, place: SlotPlace, open_part: OpenPart) -> OpenUrl
+    ensures { result ≡ within is_listed place open_part }
+{
+    if is_listed {
+        OpenUrl::Listed(place, open_part)
+    } else {
+        OpenUrl::Within(place, open_part)
+    }
+}
+
 // A slot where this part of a URL is open.
-fn in_part(place: SlotPlace, open_part: Option<OpenPart>) -> Result<PlacedSlot, PartFault>
-    ensures { result ≡ in_part place open_part }
+fn in_part(
+    is_listed: bool,
+    place: SlotPlace,
+    open_part: Option<OpenPart>,
+) -> Result<PlacedSlot, PartFault>
+    ensures { result ≡ in_part is_listed place open_part }
 {
     let Some(open_part) = open_part else {
         return Err(PartFault::NotFixed);
@@ -74,7 +93,7 @@ fn in_part(place: SlotPlace, open_part: Option<OpenPart>) -> Result<PlacedSlot, 
     Ok(PlacedSlot {
         place,
         kind: SlotKind::UrlPart(slot),
-        url: OpenUrl::Within(place, after_text(open_part)),
+        url: within(is_listed, place, after_text(open_part)),
     })
 }
 
@@ -89,11 +108,11 @@ fn whole_kind(is_followed: bool) -> SlotKind
     }
 }
 
-// A slot that is a whole URL, if it stands in quotes.
-fn whole_slot(place: SlotPlace, is_followed: bool) -> Result<PlacedSlot, PartFault>
-    ensures { result ≡ whole_slot place is_followed }
+// A slot that is a whole URL, if it stands in quotes and is none of a list.
+fn whole_slot(is_listed: bool, place: SlotPlace, is_followed: bool) -> Result<PlacedSlot, PartFault>
+    ensures { result ≡ whole_slot is_listed place is_followed }
 {
-    if !is_quoted(place) {
+    if is_listed || !is_quoted(place) {
         return Err(PartFault::NotFixed);
     }
     Ok(PlacedSlot {
@@ -148,19 +167,23 @@ fn open_at(is_followed: bool, text: &[u8]) -> Option<OpenPart>
 #[tactic(auto, using(crate::proofs::Walks::some_front))]
 fn first_slot<A: Allocator>(
     alloc: A,
+    is_listed: bool,
     place: SlotPlace,
     is_followed: bool,
     markup: Option<&[u8]>,
 ) -> Result<Result<PlacedSlot, PartFault>, AllocError>
     ensures { IfOk result (λ slot. slot
-        ≡ first_slot place is_followed (option_map (λ bytes. bytes.now) markup.entry)) }
+        ≡ first_slot is_listed place is_followed (option_map (λ bytes. bytes.now) markup.entry)) }
 {
     match markup {
         None => Ok(Err(PartFault::NotFixed)),
-        Some([]) => Ok(whole_slot(place, is_followed)),
+        Some([]) => Ok(whole_slot(is_listed, place, is_followed)),
         Some(markup) => match plain_text(alloc, markup, false)? {
             None => Ok(Err(PartFault::NotPlain)),
-            Some(text) => Ok(in_part(place, open_at(is_followed, text.as_bytes()))),
+            Some(text) => {
+                let open_part = open_at(is_followed, text.as_bytes());
+                Ok(in_part(is_listed, place, open_part))
+            }
         },
     }
 }
@@ -170,39 +193,48 @@ fn behind_front(place: SlotPlace, behind: BehindBase) -> Result<PlacedSlot, Part
     ensures { result ≡ behind_front place behind }
 {
     match behind {
-        BehindBase::Segment => in_part(place, Some(OpenPart::NewSegment)),
+        BehindBase::Segment => in_part(false, place, Some(OpenPart::NewSegment)),
         BehindBase::Slash | BehindBase::Tail => Err(PartFault::AfterLink),
     }
 }
 
-/// A slot in a URL, where this is the part before it. It is the markup before that is not plain.
+/// A slot in a URL, or in one of a list, where this is the part before it. It is the markup before that is not plain.
 pub fn url_slot<A: Allocator>(
     alloc: A,
+    is_listed: bool,
     place: SlotPlace,
     is_followed: bool,
     markup: &[u8],
     url: OpenUrl,
 ) -> Result<Result<PlacedSlot, PartFault>, AllocError>
-    ensures { IfOk result (λ slot. slot ≡ url_slot place is_followed markup.now url) }
+    ensures { IfOk result (λ slot. slot
+        ≡ url_slot is_listed place is_followed markup.now url) }
 {
     match url {
         OpenUrl::Outside => {
-            let front = after_last(place, markup);
-            first_slot(alloc, place, is_followed, front)
+            let front = after_last(is_listed, place, markup);
+            first_slot(alloc, is_listed, place, is_followed, front)
         }
-        OpenUrl::Within(_, open_part) => Ok(in_part(place, Some(open_part))),
+        OpenUrl::Within(_, open_part) | OpenUrl::Listed(_, open_part) => {
+            Ok(in_part(is_listed, place, Some(open_part)))
+        }
         OpenUrl::Whole(_) => Ok(Err(PartFault::AfterLink)),
         OpenUrl::Front(_, behind) => Ok(behind_front(place, behind)),
         OpenUrl::Declaration(_) => Ok(Err(PartFault::AfterStyleValue)),
     }
 }
 
-// At the end of the value, or of the markup before.
-fn url_end(place: SlotPlace, is_ended: bool, open_part: OpenPart) -> Result<OpenUrl, PartFault>
-    ensures { result ≡ url_end place is_ended open_part }
+// At the end of the URL, or of the markup before.
+fn url_end(
+    is_listed: bool,
+    place: SlotPlace,
+    is_ended: bool,
+    open_part: OpenPart,
+) -> Result<OpenUrl, PartFault>
+    ensures { result ≡ url_end is_listed place is_ended open_part }
 {
     if !is_ended {
-        Ok(OpenUrl::Within(place, open_part))
+        Ok(within(is_listed, place, open_part))
     } else if may_be_dots(open_part) {
         Err(PartFault::DotSegment)
     } else {
@@ -223,15 +255,16 @@ fn behind_link(place: SlotPlace, markup: &[u8]) -> Result<OpenUrl, PartFault>
 
 // Behind markup in the part of a URL that is open, unless a dot segment ends in it.
 fn behind_part(
+    is_listed: bool,
     place: SlotPlace,
     is_ended: bool,
     open_part: Option<OpenPart>,
 ) -> Result<OpenUrl, PartFault>
-    ensures { result ≡ behind_part place is_ended open_part }
+    ensures { result ≡ behind_part is_listed place is_ended open_part }
 {
     match open_part {
         None => Err(PartFault::DotSegment),
-        Some(open_part) => url_end(place, is_ended, open_part),
+        Some(open_part) => url_end(is_listed, place, is_ended, open_part),
     }
 }
 
@@ -250,19 +283,21 @@ fn after_base(
     if !is_ended && text == b"/".as_slice() {
         return Ok(OpenUrl::Front(place, BehindBase::Segment));
     }
-    behind_part(place, is_ended, after_markup(open_behind(behind), text))
+    let after = after_markup(open_behind(behind), text);
+    behind_part(false, place, is_ended, after)
 }
 
 // What is open after markup, where this part of a URL was.
-fn within_markup<A: Allocator>(
+fn part_markup<A: Allocator>(
     alloc: A,
+    is_listed: bool,
     place: SlotPlace,
     open_part: OpenPart,
     markup: &[u8],
 ) -> Result<Result<OpenUrl, PartFault>, AllocError>
-    ensures { IfOk result (λ opened. opened ≡ url_markup (Within place open_part) markup.now) }
+    ensures { IfOk result (λ opened. opened ≡ part_markup is_listed place open_part markup.now) }
 {
-    let end = value_length(place, markup);
+    let end = url_length(is_listed, place, markup);
     let is_ended = end < markup.len();
     let Some(text) = plain_text(alloc, &markup[..end], is_ended)? else {
         return Ok(Err(PartFault::NotPlain));
@@ -271,7 +306,23 @@ fn within_markup<A: Allocator>(
         return Ok(Err(PartFault::NotFixed));
     }
     let after = after_markup(open_part, text.as_bytes());
-    Ok(behind_part(place, is_ended, after))
+    Ok(behind_part(is_listed, place, is_ended, after))
+}
+
+// The same of a URL of a list.
+fn listed_markup<A: Allocator>(
+    alloc: A,
+    place: SlotPlace,
+    open_part: OpenPart,
+    markup: &[u8],
+) -> Result<Result<OpenUrl, PartFault>, AllocError>
+    ensures { IfOk result (λ opened. opened ≡ url_markup (Listed place open_part) markup.now) }
+{
+    let end = url_length(true, place, markup);
+    if !ends_listed(place, &markup[end..]) {
+        return Ok(Err(PartFault::NotPlain));
+    }
+    part_markup(alloc, true, place, open_part, markup)
 }
 
 // And where a base was.
@@ -283,7 +334,7 @@ fn front_markup<A: Allocator>(
 ) -> Result<Result<OpenUrl, PartFault>, AllocError>
     ensures { IfOk result (λ opened. opened ≡ url_markup (Front place behind) markup.now) }
 {
-    let end = value_length(place, markup);
+    let end = url_length(false, place, markup);
     let is_ended = end < markup.len();
     let Some(text) = plain_text(alloc, &markup[..end], is_ended)? else {
         return Ok(Err(PartFault::NotPlain));
@@ -318,7 +369,8 @@ pub fn url_markup<A: Allocator>(
 {
     match url {
         OpenUrl::Outside => Ok(Ok(OpenUrl::Outside)),
-        OpenUrl::Within(place, open_part) => within_markup(alloc, place, open_part, markup),
+        OpenUrl::Within(place, open_part) => part_markup(alloc, false, place, open_part, markup),
+        OpenUrl::Listed(place, open_part) => listed_markup(alloc, place, open_part, markup),
         OpenUrl::Whole(place) => Ok(behind_link(place, markup)),
         OpenUrl::Front(place, behind) => front_markup(alloc, place, behind, markup),
         OpenUrl::Declaration(place) => Ok(behind_value(place, markup)),

@@ -41,8 +41,9 @@ pub fn placed<A: Allocator>(
             kind: SlotKind::Text,
             url: OpenUrl::Outside,
         })),
-        Standing::InUrl(place) => url_slot(alloc, place, false, markup, url),
-        Standing::InLink(place) => url_slot(alloc, place, true, markup, url),
+        Standing::InUrl(place) => url_slot(alloc, false, place, false, markup, url),
+        Standing::InLink(place) => url_slot(alloc, false, place, true, markup, url),
+        Standing::InListedUrl(place) => url_slot(alloc, true, place, false, markup, url),
         Standing::InDeclaration(place) => Ok(Ok(PlacedSlot {
             place,
             kind: SlotKind::StyleValue,

@@ -14,10 +14,11 @@ use Rattle.html_tokenizer.specs.declared.slot_place.SlotPlace.{SlotPlace}
 use Rattle.html_tokenizer.specs.Standing.{standing}
 use Rattle.html_tokenizer.specs.Tokenizer.States.{Tokenizer}
 use Rattle.html_tokenizer.specs.Tokenizer.Tokenization.{state_after}
-use Rattle.html_tokenizer.specs.UrlValues.{is_url, urls_from}
+use Rattle.html_tokenizer.specs.UrlValues.{urls_from}
 use Rattle.html_tokenizer.proofs.UrlValues.Appending.{urls_from-anew}
 use Rattle.html_tokenizer.proofs.UrlValues.Apart.Bytes.{StaysApart}
 use Rattle.html_tokenizer.proofs.UrlValues.Apart.OneByte.{IsApart}
+use Rattle.html_tokenizer.proofs.UrlValues.Attributes.{is_of_urls, no_url_of_none}
 use Rattle.html_tokenizer.proofs.UrlValues.Names.{is_named}
 use Rattle.html_tokenizer.proofs.UrlValues.Apart.Texts.{literal_apart, text_apart}
 use Rattle.html_template.proofs.PageUrls.Filled.{HasLater, IsFilled}
@@ -36,7 +37,7 @@ json_stands_apart p t suited = grind (arith, nat_tests)
 pub style_stands_apart : (p : SlotPlace) (t : Tokenizer) → suits kind.StyleValue p (standing t) ≡ true → IsApart t
 style_stands_apart p t suited =
     let here = style_in_declaration p t.state t.content t.attribute suited in
-    record { no_url = ap is_url here.attribute_is; unnamed = ap is_named here.state_is }
+    record { no_url = ap is_of_urls here.attribute_is; unnamed = ap is_named here.state_is }
 
 -- the text of such a slot is in no URL
 record IsApartKind (found : SlotKind) : Type 0 where
@@ -57,11 +58,11 @@ style_kind : IsApartKind kind.StyleValue
 style_kind = record { first = λ text. refl; none = λ text. refl; opens = λ held. refl }
 
 module _ {found : SlotKind} (apart_kind : IsApartKind found) (p : SlotPlace) (t next : Tokenizer) (value : List ℕ) (chunks : List Chunk)
-    (suited : suits found p (standing t) ≡ true) (goes_to : past_slot p found t ≡ next) (no_url : is_url next.attribute ≡ false)
+    (suited : suits found p (standing t) ≡ true) (goes_to : past_slot p found t ≡ next) (no_url : is_of_urls next.attribute ≡ false)
     (passes : (text : List ℕ) → MayFill p found text → IsUtf8 text → StaysApart t (written p found text) next × (state_after t (written p found text) ≡ next)) where
   filled_apart : (later : HasLater next [] chunks) (texts : List (List ℕ)) → Fill (Slot p found ∷ chunks) texts → AllByRecursion IsUtf8 texts →
       IsFilled (urls_from t value (page (Slot p found ∷ chunks) texts)) (first_texts (Slot p found ∷ chunks) texts) later.urls (url_texts (Slot p found ∷ chunks) texts)
-  filled_apart later texts full utf8 = grind (arith, nat_tests, behind_bytes, urls_from-anew)
+  filled_apart later texts full utf8 = grind (arith, nat_tests, behind_bytes, no_url_of_none, urls_from-anew)
 
   goes_apart : Goes Outside next [] chunks → HasLater t value (Slot p found ∷ chunks)
   goes_apart goes =

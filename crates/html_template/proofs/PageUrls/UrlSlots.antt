@@ -17,6 +17,7 @@ use Rattle.html_tokenizer.specs.Tokenizer.States.{In, Tokenizer, at_value}
 use Rattle.html_tokenizer.specs.UrlValues.{urls_from}
 use Rattle.html_tokenizer.proofs.Passing.{Passes}
 use Rattle.html_tokenizer.proofs.UrlValues.Places.{is_value_place}
+use Rattle.html_tokenizer.proofs.UrlValues.Attributes.{is_listed, open_so, open_url_is}
 use Rattle.html_tokenizer.proofs.UrlValues.Apart.Bytes.{KeepsUrl}
 use Rattle.html_tokenizer.proofs.UrlValues.Apart.Texts.{text_in_url}
 use Rattle.html_tokenizer.proofs.UrlValues.Slots.Components.{component_added, is_written_byte}
@@ -48,7 +49,9 @@ module _ (t : Tokenizer) (p : SlotPlace) (slot : UrlSlot) (chunks : List Chunk) 
   component_in bytes =
       let stands = part_in_url slot p t.state t.content t.attribute suited in
       subst (λ s. StaysUrl (at_value s t.content t.attribute) (component_at slot.place bytes) (component_at slot.place bytes) part_next) (sym stands.state_is)
-      (component_added p t.content t.attribute (component_at slot.place bytes) (value_place p t tame stands) stands.attribute_is
+      (component_added (is_listed t.attribute) p t.content t.attribute (component_at slot.place bytes)
+      (value_place (is_listed t.attribute) p t tame (record { state_is = stands.state_is; attribute_is = open_so t.attribute stands.attribute_is }))
+      (open_so t.attribute stands.attribute_is)
       (list_all_from_All is_written_byte (component_at slot.place bytes) (written_bytes slot.place bytes)))
 
   -- the text, and then what the URL goes on with
@@ -128,7 +131,7 @@ itself_back : (p : SlotPlace) → is_quoted p ≡ true → (bytes : List ℕ) �
 itself_back p quoted bytes = grind (arith, nat_tests)
 
 pub quoted_place : (p : SlotPlace) (t : Tokenizer) → IsTame t → IsInQuotes p t.state t.attribute → is_value_place p ≡ true
-quoted_place p t tame stands = value_place p t tame (record { state_is = stands.state_is; attribute_is = stands.attribute_is })
+quoted_place p t tame stands = value_place false p t tame (record { state_is = stands.state_is; attribute_is = stands.attribute_is })
 
 module _ (t : Tokenizer) (p : SlotPlace) (chunks : List Chunk) (tame : IsTame t) where
   abbrev whole_next : Tokenizer
@@ -137,7 +140,9 @@ module _ (t : Tokenizer) (p : SlotPlace) (chunks : List Chunk) (tame : IsTame t)
   -- what is written for the text is read as the text, and then what is behind it
   text_keeps : (text bytes : List ℕ) → IsInQuotes p t.state t.attribute →
       Passes t bytes (map (read_byte p) (read_back (encoder_for p) text)) whole_next → KeepsUrl t bytes text
-  text_keeps text bytes stands passes = grind (arith, nat_tests, itself_back, text_in_url, quoted_place)
+  text_keeps text bytes stands passes =
+      text_in_url p t whole_next bytes text (quoted_place p t tame stands) tame stands.attribute_is (open_url_is false t.attribute stands.attribute_is)
+      (subst (λ (x : List ℕ). Passes t bytes (map (read_byte p) x) whole_next) (itself_back p stands.quoted text) passes)
 
   text_filled : (kind : SlotKind) (text bytes : List ℕ) (texts : List (List ℕ)) (end : EndsBehind whole_next [] chunks) → IsInQuotes p t.state t.attribute →
       Passes t bytes (map (read_byte p) (read_back (encoder_for p) text)) whole_next → MayBegin kind text → Fill chunks texts → AllByRecursion IsUtf8 texts →

@@ -8,7 +8,7 @@ ghost use Rattle.html_template.specs.OpenUrls as open_urls;
 ghost use Rattle.html_template.specs.OpenUrls.PlainTexts.{bytes_of};
 ghost use Rattle.html_template.specs.OpenUrls.UrlTexts.{Takes};
 
-use html_tokenizer::SlotPlace;
+use html_tokenizer::{SlotPlace, is_list_mark};
 use html_urls::is_plain;
 use std::alloc::{AllocError, Allocator};
 
@@ -29,6 +29,17 @@ fn begins_value(place: SlotPlace, byte: u8) -> bool
     }
 }
 
+// Whether a URL begins after the byte, by whether it is one of a list.
+fn begins_url(is_listed: bool, place: SlotPlace, byte: u8) -> bool
+    ensures { result ≡ spec.begins_url is_listed place byte }
+{
+    if is_listed {
+        begins_value(place, byte) || is_list_mark(byte)
+    } else {
+        begins_value(place, byte)
+    }
+}
+
 /// Whether a value at this place ends before the byte.
 pub(crate) fn ends_value(place: SlotPlace, byte: u8) -> bool
     ensures { result ≡ spec.ends_value place byte }
@@ -40,15 +51,26 @@ pub(crate) fn ends_value(place: SlotPlace, byte: u8) -> bool
     }
 }
 
-/// What stands after the last byte that a value at this place begins after.
+/// Whether a URL ends before the byte, by whether it is one of a list.
+pub(crate) fn closes_url(is_listed: bool, place: SlotPlace, byte: u8) -> bool
+    ensures { result ≡ spec.closes_url is_listed place byte }
+{
+    if is_listed {
+        ends_value(place, byte) || is_list_mark(byte)
+    } else {
+        ends_value(place, byte)
+    }
+}
+
+/// What stands after the last byte that a URL begins after.
 #[tactic(auto, using(crate::proofs::Markup::none_at_end, crate::proofs::Markup::none_one_before, crate::proofs::Markup::last_before, crate::proofs::Markup::none_at_all))]
-pub(crate) fn after_last(place: SlotPlace, markup: &[u8]) -> Option<&[u8]>
+pub(crate) fn after_last(is_listed: bool, place: SlotPlace, markup: &[u8]) -> Option<&[u8]>
     ensures { option_map (λ bytes. bytes.now) result
-        ≡ spec.after_last (spec.begins_value place) markup.now }
+        ≡ spec.after_last (spec.begins_url is_listed place) markup.now }
 {
     let mut start = markup.len();
     'bytes: while start > 0 {
-        if begins_value(place, markup[start - 1]) {
+        if begins_url(is_listed, place, markup[start - 1]) {
             return Some(&markup[start..]);
         }
         start -= 1;
@@ -56,19 +78,43 @@ pub(crate) fn after_last(place: SlotPlace, markup: &[u8]) -> Option<&[u8]>
     None
 }
 
-/// How many of the bytes are of a value at this place.
-pub(crate) fn value_length(place: SlotPlace, markup: &[u8]) -> usize
-    ensures value { result ≡ position_or_len (spec.ends_value place) markup.now }
+/// How many of the bytes are of a URL, by whether it is one of a list.
+pub(crate) fn url_length(is_listed: bool, place: SlotPlace, markup: &[u8]) -> usize
+    ensures value { result ≡ position_or_len (spec.closes_url is_listed place) markup.now }
     ensures within { result ≤ length markup.now }
 {
     let mut rest = markup;
     'bytes: while let [byte, others @ ..] = rest {
-        if ends_value(place, *byte) {
+        if closes_url(is_listed, place, *byte) {
             return markup.len() - rest.len();
         }
         rest = others;
     }
     markup.len()
+}
+
+// Behind a comma that ends a URL of a list: whether white space or the end of the value comes, but for other commas.
+fn behind_comma(place: SlotPlace, markup: &[u8]) -> bool
+    ensures { result ≡ open_urls.behind_comma place markup.now }
+{
+    let mut rest = markup;
+    'commas: while let [byte, others @ ..] = rest {
+        if *byte != b',' {
+            return closes_url(true, place, *byte);
+        }
+        rest = others;
+    }
+    false
+}
+
+/// Behind a URL of a list: whether a comma ends it, if one comes.
+pub(crate) fn ends_listed(place: SlotPlace, markup: &[u8]) -> bool
+    ensures { result ≡ open_urls.ends_listed place markup.now }
+{
+    match markup {
+        [b',', others @ ..] => behind_comma(place, others),
+        _ => true,
+    }
 }
 
 /// What markup adds to a URL.

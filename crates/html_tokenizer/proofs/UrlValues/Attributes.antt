@@ -45,6 +45,10 @@ open_url_is false other is = is
 pub of_open : (attribute : Attribute) → is_open false attribute ≡ true → is_of_urls attribute ≡ true
 of_open attribute is = url_of_urls attribute (open_url_is false attribute is)
 
+pub open_so : (attribute : Attribute) → is_url attribute ≡ true → is_open (is_listed attribute) attribute ≡ true
+open_so (Listed part) is = is
+open_so other is = is
+
 pub open_is_listed : (listed : Bool) (attribute : Attribute) → is_open listed attribute ≡ true → is_listed attribute ≡ listed
 open_is_listed true (Listed part) is = refl
 open_is_listed true other is = absurd (false≢true is)

@@ -1,11 +1,11 @@
 use Rattle.std.proofs.Common.{◌≡◌, ◌≤◌, false, length, drop}
 use Rattle.std.specs.List.{list_any}
-use Rattle.html_tokenizer.specs.UrlValues.{begins_value}
+use Rattle.html_tokenizer.specs.UrlValues.{begins_url}
 use Rattle.html_template.proofs.open_url.markup.after_last.Given as goal
 
 abbrev pub invariant-bytes : goal.invariant-bytes
 invariant-bytes l = record {
-  none : list_any (begins_value l.place) (drop l.start l.markup) ≡ false;
+  none : list_any (begins_url l.is_listed l.place) (drop l.start l.markup) ≡ false;
   within : l.start ≤ length l.markup;
 }
 
