@@ -22,6 +22,11 @@ is_url FixedRawUrl = true
 is_url (Listed part) = is_in_listed_url part
 is_url other = false
 
+-- the value is a URL, or a list of them
+abbrev pub is_of_urls : Attribute → Bool
+is_of_urls (Listed part) = true
+is_of_urls other = is_url other
+
 -- the bytes that actions append to the value of an attribute
 abbrev pub value_bytes : List Action → List ℕ
 value_bytes [] = []

@@ -13,7 +13,7 @@ ghost use Rattle.html_tokenizer.specs.Tokenizer.Phases.{HoldsLetters, IsBeforeNa
 ghost use Rattle.html_tokenizer.specs.Tokenizer.States.{at, data_state};
 ghost use Rattle.html_tokenizer.specs.Tokenizer.Stretches.{IsSettled};
 ghost use Rattle.html_tokenizer.specs.Tokenizer.Tokenization.{consume, state_after};
-ghost use Rattle.html_tokenizer.specs.UrlValues.{is_url};
+ghost use Rattle.html_tokenizer.specs.UrlValues.{is_of_urls};
 ghost use Rattle.html_tokenizer.specs.declared.states.Kind.TheVariants as kind;
 ghost use Rattle.html_tokenizer.specs.declared.states.Phase.TheVariants as phase;
 
@@ -470,17 +470,16 @@ impl<A: Allocator> Reader<A> {
         self.word.as_slice() == other.word.as_slice()
     }
 
-    /// Whether the value of an attribute that holds a URL is read.
+    /// Whether the value of an attribute that holds a URL, or a list of URLs, is read.
     ///
     /// After `<a href="` it is `true`, and after `<a title="` `false`.
     pub fn is_in_url(&self) -> bool
-        ensures { result ≡ is_url (tokenizer_of self.now).attribute }
+        ensures { result ≡ is_of_urls (tokenizer_of self.now).attribute }
     {
         match self.kind {
             Kind::Link | Kind::Url | Kind::FixedUrl | Kind::RawUrl | Kind::FixedRawUrl => true,
-            Kind::ListedUrl | Kind::FixedListedUrl => true,
-            Kind::BeforeListedUrl | Kind::ListedComma | Kind::Descriptors => false,
-            Kind::RestOfList => false,
+            Kind::BeforeListedUrl | Kind::ListedUrl | Kind::FixedListedUrl => true,
+            Kind::ListedComma | Kind::Descriptors | Kind::RestOfList => true,
             Kind::Ordinary | Kind::Forbidden | Kind::Unread | Kind::Raw => false,
             Kind::BeforeDeclaration | Kind::DeclarationName | Kind::AfterDeclarationName => false,
             Kind::DeclarationValue | Kind::Important | Kind::OpaqueStyle => false,

@@ -1,7 +1,7 @@
 -- Where a way is refused, the parts of its unrolling are no template.
 use Rattle.std.proofs.Common.{ℕ, ◌≡◌, ◌⊎◌, ◌==◌, ◌+◌, Bool, true, false, if◌then◌else◌, List, [], ◌∷◌, ◌++◌, length, Option, Some, None, Result, Ok, Err, refl, sym, ap, ◌∙◌, subst, inl, inr, ⊎_elim, append_assoc, arith}
 use Rattle.std.specs.List.{list_any}
-use Rattle.std.proofs.lemmas.Bool.{cases_Bool, cond-false, cond-true, ne_eqb, true≢false}
+use Rattle.std.proofs.lemmas.Bool.{cases_Bool, cond-false, cond-true, ne_eqb, or_right, true≢false}
 use Rattle.html_template.specs.OpenUrls.{before, begun, first_slot, plain_text, url_markup}
 use Rattle.html_template.specs.Slots.{base_kind, past_slot as past_place, suits}
 use Rattle.html_template.specs.TemplateFaults.{Walk, at_beginning, behind_markup, behind_slot, faulty_part, pieces_from, put, put_all, slot_at, template_of, told_behind, Told}
@@ -11,20 +11,23 @@ use Rattle.html_template.specs.declared.faults.PartFault.TheVariants as fault
 use Rattle.html_template.specs.declared.faults.TemplateFault.{TemplateFault}
 use Rattle.html_template.specs.declared.faults.TemplateFault.TheVariants as template
 use Rattle.html_template.specs.declared.open_url.OpenUrl.{OpenUrl}
-use Rattle.html_template.specs.declared.open_url.OpenUrl.TheVariants.{Outside, Within, Whole, Front, Declaration}
+use Rattle.html_template.specs.declared.open_url.OpenUrl.TheVariants.{Outside, Within, Listed, Whole, Front, Declaration}
 use Rattle.html_template.specs.declared.open_url.PlacedSlot.{PlacedSlot}
 use Rattle.html_template.specs.declared.parts.SlotKind.{SlotKind}
 use Rattle.html_template.proofs.Walks.{base_stands, past_base}
 use Rattle.html_tokenizer.specs.Standing.{is_refused, may_end, standing}
-use Rattle.html_tokenizer.specs.Tokenizer.States.{Tokenizer, refused}
+use Rattle.html_tokenizer.specs.Tokenizer.States.{In, Tokenizer, refused}
 use Rattle.html_tokenizer.specs.Tokenizer.Tokenization.{state_after}
-use Rattle.html_tokenizer.specs.UrlValues.{after_last, begins_value, is_url}
+use Rattle.html_tokenizer.specs.UrlValues.{after_last, begins_url, begins_value, is_of_urls}
 use Rattle.html_tokenizer.specs.declared.reader.Standing.{Standing}
-use Rattle.html_tokenizer.specs.declared.reader.Standing.TheVariants.{Stands, InUrl, InLink, InDeclaration, InScript, InJson, Nowhere, Barred}
+use Rattle.html_tokenizer.specs.declared.reader.Standing.TheVariants.{Stands, InUrl, InLink, InListedUrl, InDeclaration, InScript, InJson, Nowhere, Barred}
 use Rattle.html_tokenizer.specs.declared.slot_place.SlotPlace.{SlotPlace}
 use Rattle.html_tokenizer.proofs.Passing.{state_after-append}
 use Rattle.html_tokenizer.proofs.UrlValues.Following.{same_place}
-use Rattle.html_tokenizer.proofs.UrlValues.Slots.AtSlots.{AtUrl, in_url, no_url_tame, stands_in_url}
+use Rattle.html_tokenizer.proofs.UrlValues.Attributes.{of_open}
+use Rattle.html_tokenizer.proofs.UrlValues.Bytes.{is_at}
+use Rattle.html_tokenizer.proofs.UrlValues.Slots.AtSlots.{in_listed_url, in_url, no_url_tame, stands_in_list, stands_in_url}
+use Rattle.html_tokenizer.proofs.UrlValues.Slots.Tame.{inside_at}
 use Rattle.html_tokenizer.proofs.UrlValues.Slots.Marks.{walks_back}
 use Rattle.html_urls.specs.Bases.{behind_base}
 use Rattle.html_urls.specs.declared.base.BehindBase.{BehindBase}
@@ -64,6 +67,7 @@ reads_first = record {
 url_none : (url : OpenUrl) → url_as url None ≡ url
 url_none Outside = refl
 url_none (Within p part) = refl
+url_none (Listed p part) = refl
 url_none (Whole p) = refl
 url_none (Front p behind) = refl
 url_none (Declaration p) = refl
@@ -71,6 +75,7 @@ url_none (Declaration p) = refl
 begun_none : (found : PlacedSlot) (url : OpenUrl) → begun found url None ≡ found
 begun_none found Outside = refl
 begun_none found (Within p part) = refl
+begun_none found (Listed p part) = refl
 begun_none found (Whole p) = refl
 begun_none found (Front p behind) = refl
 begun_none found (Declaration p) = refl
@@ -92,7 +97,8 @@ turned_same way bytes (inr outside) =
 -- no URL ends before any markup
 none_ends : (url : OpenUrl) → url_markup url [] ≡ Ok Outside → url ≡ Outside
 none_ends Outside told = refl
-none_ends (Within p part) told = absurd (still_open p part (plain_text false []) told)
+none_ends (Within p part) told = absurd (still_open false p part (plain_text false []) told)
+none_ends (Listed p part) told = absurd (still_open true p part (plain_text false []) told)
 none_ends (Whole p) told = absurd (cc)
 none_ends (Front p behind) told = absurd (base_open p behind (plain_text false []) told)
 none_ends (Declaration p) told = absurd (cc)
@@ -172,6 +178,8 @@ begun_turned walk found (Whole p) None is =
 begun_turned walk found Outside following is =
     ap (λ u. record { tokenizer = after_slot found.place found.kind walk.tokenizer; markup = []; url = u }) (is ∙ sym (ap (λ u. url_as u following) is))
 begun_turned walk found (Within p part) following is =
+    ap (λ u. record { tokenizer = after_slot found.place found.kind walk.tokenizer; markup = []; url = u }) (is ∙ sym (ap (λ u. url_as u following) is))
+begun_turned walk found (Listed p part) following is =
     ap (λ u. record { tokenizer = after_slot found.place found.kind walk.tokenizer; markup = []; url = u }) (is ∙ sym (ap (λ u. url_as u following) is))
 begun_turned walk found (Front p behind) following is =
     ap (λ u. record { tokenizer = after_slot found.place found.kind walk.tokenizer; markup = []; url = u }) (is ∙ sym (ap (λ u. url_as u following) is))
@@ -268,11 +276,11 @@ markup_refused way number walk markup bytes why reads told =
     (λ (read : is_refused (state_after way.tokenizer bytes).state ≡ false).
     let settles : settled next ≡ Err why = rw read at told in
     ⊎_elim
-    (λ (in_url : is_url next.tokenizer.attribute ≡ true). let here : Ok next ≡ Err why = rw in_url at settles in absurd (cc))
-    (λ (outside : is_url next.tokenizer.attribute ≡ false).
+    (λ (in_url : is_of_urls next.tokenizer.attribute ≡ true). let here : Ok next ≡ Err why = rw in_url at settles in absurd (cc))
+    (λ (outside : is_of_urls next.tokenizer.attribute ≡ false).
     settled_refused next number walk (markup ++ bytes) why next_reads (sym (ap (λ (u : Tokenizer). is_refused u.state) next_reads.state) ∙ read)
     (url_markup next.url next.markup) refl (rw outside at settles))
-    (cases_Bool (is_url next.tokenizer.attribute)))
+    (cases_Bool (is_of_urls next.tokenizer.attribute)))
     (cases_Bool (is_refused (state_after way.tokenizer bytes).state))
 
 -- a way that is refused behind markup shows parts that are
@@ -286,19 +294,38 @@ markup_shown way parts markup bytes why reads told =
 -- ---- slots
 
 -- a slot in a URL that was not open where markup was let go: the byte that begins its value is in what was kept
-is_marked : (p : SlotPlace) (way : Way) (t : Tokenizer) (url : OpenUrl) (markup : List ℕ) → way.tokenizer ≡ state_after t markup → LetGo way t url markup →
-    in_url p (standing way.tokenizer) ≡ true → list_any (begins_value p) way.markup ≡ true
-is_marked p way t url markup state gone stands =
+any_begins : (p : SlotPlace) (way : Way) (t : Tokenizer) (url : OpenUrl) (markup : List ℕ) → way.tokenizer ≡ state_after t markup → LetGo way t url markup →
+    is_of_urls way.tokenizer.attribute ≡ true → is_at p way.tokenizer.state ≡ true → list_any (begins_value p) way.markup ≡ true
+any_begins p way t url markup state gone of at =
     let from : Tokenizer = state_after t gone.front in
     let there : way.tokenizer ≡ state_after from way.markup = state ∙ ap (state_after t) gone.whole ∙ state_after-append t gone.front way.markup in
-    let at : AtUrl p (state_after from way.markup) =
-    subst (AtUrl p) there (stands_in_url p way.tokenizer stands) in
     ⊎_elim
     (λ (any : list_any (begins_value p) way.markup ≡ true). any)
     (λ (none : list_any (begins_value p) way.markup ≡ false).
-    let open_before = walks_back p from way.markup (no_url_tame from gone.free) at.url at.at none in
-    absurd (true≢false (sym open_before.url ∙ gone.free)))
+    let open_before = walks_back p from way.markup (no_url_tame from gone.free) (subst (λ (u : Tokenizer). is_of_urls u.attribute ≡ true) there of)
+    (subst (λ (u : Tokenizer). is_at p u.state ≡ true) there at) none in
+    absurd (true≢false (sym open_before.of ∙ gone.free)))
     (cases_Bool (list_any (begins_value p) way.markup))
+
+is_marked : (p : SlotPlace) (way : Way) (t : Tokenizer) (url : OpenUrl) (markup : List ℕ) → way.tokenizer ≡ state_after t markup → LetGo way t url markup →
+    in_url p (standing way.tokenizer) ≡ true → list_any (begins_url false p) way.markup ≡ true
+is_marked p way t url markup state gone stands =
+    let here = stands_in_url p way.tokenizer stands in any_begins p way t url markup state gone (of_open way.tokenizer.attribute here.url_open) here.at
+
+-- or of a list
+any_weaker : (p : SlotPlace) (markup : List ℕ) → list_any (begins_value p) markup ≡ true → list_any (begins_url true p) markup ≡ true
+any_weaker p [] any = any
+any_weaker p (b ∷ markup) any =
+    ⊎_elim
+    (λ (here : begins_value p b ≡ true). rw here refl)
+    (λ (other : begins_value p b ≡ false). or_right (begins_url true p b) (list_any (begins_url true p) markup) (any_weaker p markup (rw other at any)))
+    (cases_Bool (begins_value p b))
+
+is_marked_in_list : (p : SlotPlace) (way : Way) (t : Tokenizer) (url : OpenUrl) (markup : List ℕ) → way.tokenizer ≡ state_after t markup → LetGo way t url markup →
+    in_listed_url p (standing way.tokenizer) ≡ true → list_any (begins_url true p) way.markup ≡ true
+is_marked_in_list p way t url markup state gone stands =
+    let here = stands_in_list p way.tokenizer stands in
+    any_weaker p way.markup (any_begins p way t url markup state gone (ap is_of_urls here.attribute_is) (rw here.state_is (inside_at p (In p) (same_place p))))
 
 last_same : (test : ℕ → Bool) (front markup : List ℕ) → list_any test markup ≡ true → after_last test (front ++ markup) ≡ after_last test markup
 last_same test [] markup any = refl
@@ -307,13 +334,17 @@ last_same test (b ∷ front) markup any = rw (any_more test front markup any) (l
 slot_same : (way : Way) (t : Tokenizer) (url : OpenUrl) (markup : List ℕ) (s : Standing) → way.tokenizer ≡ state_after t markup → LetGo way t url markup →
     standing way.tokenizer ≡ s → slot_at markup Outside s ≡ slot_at way.markup Outside s
 slot_same way t url markup (InUrl p) state gone is =
-    ap (λ m. first_slot p false (after_last (begins_value p) m)) gone.whole
-    ∙ ap (first_slot p false)
+    ap (λ m. first_slot false p false (after_last (begins_value p) m)) gone.whole
+    ∙ ap (first_slot false p false)
     (last_same (begins_value p) gone.front way.markup (is_marked p way t url markup state gone (ap (in_url p) is ∙ same_place p)))
 slot_same way t url markup (InLink p) state gone is =
-    ap (λ m. first_slot p true (after_last (begins_value p) m)) gone.whole
-    ∙ ap (first_slot p true)
+    ap (λ m. first_slot false p true (after_last (begins_value p) m)) gone.whole
+    ∙ ap (first_slot false p true)
     (last_same (begins_value p) gone.front way.markup (is_marked p way t url markup state gone (ap (in_url p) is ∙ same_place p)))
+slot_same way t url markup (InListedUrl p) state gone is =
+    ap (λ m. first_slot true p false (after_last (begins_url true p) m)) gone.whole
+    ∙ ap (first_slot true p false)
+    (last_same (begins_url true p) gone.front way.markup (is_marked_in_list p way t url markup state gone (ap (in_listed_url p) is ∙ same_place p)))
 slot_same way t url markup (Stands p) state gone is = refl
 slot_same way t url markup (InDeclaration p) state gone is = refl
 slot_same way t url markup InScript state gone is = refl

@@ -9,12 +9,12 @@ use Rattle.html_template.specs.Templates.{Chunk, Fill, Given, Markup, Slot, afte
 use Rattle.html_template.specs.declared.faults.PartFault.{PartFault}
 use Rattle.html_template.specs.declared.faults.PartFault.TheVariants as fault
 use Rattle.html_template.specs.declared.open_url.OpenUrl.{OpenUrl}
-use Rattle.html_template.specs.declared.open_url.OpenUrl.TheVariants.{Outside, Within, Whole, Front, Declaration}
+use Rattle.html_template.specs.declared.open_url.OpenUrl.TheVariants.{Outside, Within, Listed, Whole, Front, Declaration}
 use Rattle.html_template.specs.declared.open_url.PlacedSlot.{PlacedSlot}
 use Rattle.html_tokenizer.specs.Standing.{is_refused, may_end, standing}
 use Rattle.html_tokenizer.specs.Tokenizer.States.{Tokenizer}
 use Rattle.html_tokenizer.specs.Tokenizer.Tokenization.{state_after}
-use Rattle.html_tokenizer.specs.UrlValues.{is_url}
+use Rattle.html_tokenizer.specs.UrlValues.{is_of_urls}
 use Rattle.html_tokenizer.proofs.Passing.{state_after-append}
 use Rattle.html_template.proofs.Fronts.{guess_told}
 use Rattle.html_template.proofs.JoinedParts.{is_template_of, placed_of}
@@ -39,7 +39,7 @@ pub record LetGo (way : Way) (t : Tokenizer) (url : OpenUrl) (markup : List ℕ)
   pub whole : markup ≡ front ++ way.markup
   pub outside : way.url ≡ Outside
   pub ended : url_markup url front ≡ Ok Outside
-  pub free : is_url (state_after t front).attribute ≡ false
+  pub free : is_of_urls (state_after t front).attribute ≡ false
 
 -- the way is where the tokenizer comes from the last slot by this markup
 pub record Reads (way : Way) (t : Tokenizer) (url : OpenUrl) (markup : List ℕ) : Type 0 where
@@ -73,16 +73,19 @@ ended_in way t url markup kept told =
     kept
 
 reads_let_go : (way next : Way) (t : Tokenizer) (url : OpenUrl) (markup : List ℕ) → Reads way t url markup →
-    is_url way.tokenizer.attribute ≡ false → (found : Result OpenUrl PartFault) → url_markup way.url way.markup ≡ found → on_ok found (λ u. Ok (let_go way u)) ≡ Ok next →
+    is_of_urls way.tokenizer.attribute ≡ false → (found : Result OpenUrl PartFault) → url_markup way.url way.markup ≡ found → on_ok found (λ u. Ok (let_go way u)) ≡ Ok next →
     Reads next t url markup
 reads_let_go way next t url markup reads free (Err f) is told = absurd (cc)
 reads_let_go way next t url markup reads free (Ok Outside) is told =
     let here : let_go way Outside ≡ next = cc in
     subst (λ w. Reads w t url markup) here (record {
       state = reads.state;
-      kept = inr (record { front = markup; whole = sym (append-nil markup); outside = refl; ended = ended_in way t url markup reads.kept is; free = sym (ap (λ (u : Tokenizer). is_url u.attribute) reads.state) ∙ free });
+      kept = inr (record { front = markup; whole = sym (append-nil markup); outside = refl; ended = ended_in way t url markup reads.kept is; free = sym (ap (λ (u : Tokenizer). is_of_urls u.attribute) reads.state) ∙ free });
     })
 reads_let_go way next t url markup reads free (Ok (Within q open_part)) is told =
+    let here : way ≡ next = cc in
+    subst (λ w. Reads w t url markup) here reads
+reads_let_go way next t url markup reads free (Ok (Listed q open_part)) is told =
     let here : way ≡ next = cc in
     subst (λ w. Reads w t url markup) here reads
 reads_let_go way next t url markup reads free (Ok (Whole q)) is told =
@@ -98,13 +101,13 @@ reads_let_go way next t url markup reads free (Ok (Declaration q)) is told =
 reads_settled : (way next : Way) (t : Tokenizer) (url : OpenUrl) (markup : List ℕ) → Reads way t url markup → settled way ≡ Ok next → Reads next t url markup
 reads_settled way next t url markup reads told =
     ⊎_elim
-    (λ (in_url : is_url way.tokenizer.attribute ≡ true).
+    (λ (in_url : is_of_urls way.tokenizer.attribute ≡ true).
     let same : Ok way ≡ Ok next = rw in_url at told in
     let here : way ≡ next = cc in
     subst (λ w. Reads w t url markup) here reads)
-    (λ (outside : is_url way.tokenizer.attribute ≡ false).
+    (λ (outside : is_of_urls way.tokenizer.attribute ≡ false).
     reads_let_go way next t url markup reads outside (url_markup way.url way.markup) refl (rw outside at told))
-    (cases_Bool (is_url way.tokenizer.attribute))
+    (cases_Bool (is_of_urls way.tokenizer.attribute))
 
 pub reads_markup : (way next : Way) (t : Tokenizer) (url : OpenUrl) (markup bytes : List ℕ) → Reads way t url markup → way_behind way bytes ≡ Ok next →
     Reads next t url (markup ++ bytes)

@@ -6,17 +6,17 @@ use Rattle.html_template.specs.TemplateFaults.{slot_at}
 use Rattle.html_template.specs.declared.faults.PartFault.{PartFault}
 use Rattle.html_template.specs.declared.faults.PartFault.TheVariants as fault
 use Rattle.html_template.specs.declared.open_url.OpenUrl.{OpenUrl}
-use Rattle.html_template.specs.declared.open_url.OpenUrl.TheVariants.{Outside, Within, Whole, Front, Declaration}
+use Rattle.html_template.specs.declared.open_url.OpenUrl.TheVariants.{Outside, Within, Listed, Whole, Front, Declaration}
 use Rattle.html_template.specs.declared.open_url.PlacedSlot.{PlacedSlot}
 use Rattle.html_template.proofs.Walks.{same_after_slot}
 use Rattle.html_tokenizer.specs.declared.elements.Content.{Content}
 use Rattle.html_tokenizer.specs.declared.reader.Standing.{Standing}
-use Rattle.html_tokenizer.specs.declared.reader.Standing.TheVariants.{Barred, InDeclaration, InJson, InLink, InScript, InUrl, Nowhere, Stands}
+use Rattle.html_tokenizer.specs.declared.reader.Standing.TheVariants.{Barred, InDeclaration, InJson, InLink, InListedUrl, InScript, InUrl, Nowhere, Stands}
 use Rattle.html_tokenizer.specs.Standing.{AfterStanding, is_between_attributes, is_refused, standing, standing_in}
 use Rattle.html_tokenizer.specs.Tokenizer.States as state
 use Rattle.html_tokenizer.specs.Tokenizer.States.{Attribute, State, Tokenizer}
 use Rattle.html_tokenizer.specs.Tokenizer.Tokenization.{state_after}
-use Rattle.html_tokenizer.specs.UrlValues.{is_url}
+use Rattle.html_tokenizer.specs.UrlValues.{is_of_urls}
 use Rattle.html_view.specs.Attributes.{attributes, opened_at}
 use Rattle.html_view.specs.Following.{Follows}
 use Rattle.html_view.specs.Kept.{Before, asked_node, asked_nodes, asked_of, opening_of}
@@ -171,6 +171,7 @@ same_settled : (way next : Way) (found : Result OpenUrl PartFault) → on_ok fou
 same_settled way next (Err why) told = absurd (cc)
 same_settled way next (Ok Outside) told = let here : let_go way Outside ≡ next = cc in ap (λ (w : Way). w.tokenizer) (sym here)
 same_settled way next (Ok (Within p open_part)) told = let here : way ≡ next = cc in ap (λ (w : Way). w.tokenizer) (sym here)
+same_settled way next (Ok (Listed p open_part)) told = let here : way ≡ next = cc in ap (λ (w : Way). w.tokenizer) (sym here)
 same_settled way next (Ok (Whole p)) told = let here : way ≡ next = cc in ap (λ (w : Way). w.tokenizer) (sym here)
 same_settled way next (Ok (Front p behind)) told = let here : way ≡ next = cc in ap (λ (w : Way). w.tokenizer) (sym here)
 same_settled way next (Ok (Declaration p)) told = let here : way ≡ next = cc in ap (λ (w : Way). w.tokenizer) (sym here)
@@ -178,11 +179,11 @@ same_settled way next (Ok (Declaration p)) told = let here : way ≡ next = cc i
 settled_state : (way next : Way) → settled way ≡ Ok next → next.tokenizer ≡ way.tokenizer
 settled_state way next told =
     ⊎_elim
-    (λ (in_url : is_url way.tokenizer.attribute ≡ true).
+    (λ (in_url : is_of_urls way.tokenizer.attribute ≡ true).
     let same : Ok way ≡ Ok next = rw in_url at told in
     let here : way ≡ next = cc in ap (λ (w : Way). w.tokenizer) (sym here))
-    (λ (outside : is_url way.tokenizer.attribute ≡ false). same_settled way next (url_markup way.url way.markup) (rw outside at told))
-    (cases_Bool (is_url way.tokenizer.attribute))
+    (λ (outside : is_of_urls way.tokenizer.attribute ≡ false). same_settled way next (url_markup way.url way.markup) (rw outside at told))
+    (cases_Bool (is_of_urls way.tokenizer.attribute))
 
 markup_state : (way next : Way) (bytes : List ℕ) → way_behind way bytes ≡ Ok next → next.tokenizer ≡ state_after way.tokenizer bytes
 markup_state way next bytes told =
@@ -196,6 +197,7 @@ after_standing : (s : Standing) (t : Tokenizer) → AfterStanding s t (past_stan
 after_standing (Stands p) t = refl
 after_standing (InUrl p) t = refl
 after_standing (InLink p) t = refl
+after_standing (InListedUrl p) t = refl
 after_standing (InDeclaration p) t = refl
 after_standing InScript t = refl
 after_standing InJson t = refl

@@ -1,7 +1,7 @@
 -- The nodes of a source, with each slot between the attributes of a start tag spelled out.
 use Rattle.std.specs.Prelude.{◌≡◌, ℕ, List, if◌then◌else◌}
 use Rattle.html_tokenizer.specs.declared.reader.Standing.{Standing}
-use Rattle.html_tokenizer.specs.declared.reader.Standing.TheVariants.{InDeclaration, InJson, InLink, InUrl, Stands}
+use Rattle.html_tokenizer.specs.declared.reader.Standing.TheVariants.{InDeclaration, InJson, InLink, InListedUrl, InUrl, Stands}
 use Rattle.html_tokenizer.specs.Standing.{is_between_attributes, past_json, standing, state_after_slot}
 use Rattle.html_tokenizer.specs.Tokenizer.States.{Tokenizer, data_state}
 use Rattle.html_tokenizer.specs.Tokenizer.Tokenization.{state_after}
@@ -17,6 +17,7 @@ abbrev pub past_standing : Standing → Tokenizer → Tokenizer
 past_standing (Stands p) t = state_after_slot p t
 past_standing (InUrl p) t = state_after_slot p t
 past_standing (InLink p) t = state_after_slot p t
+past_standing (InListedUrl p) t = state_after_slot p t
 past_standing (InDeclaration p) t = state_after_slot p t
 past_standing InJson t = past_json t
 past_standing other t = t

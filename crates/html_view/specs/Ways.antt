@@ -11,12 +11,12 @@ use Rattle.html_template.specs.declared.open_url.PlacedSlot.{PlacedSlot}
 use Rattle.html_tokenizer.specs.Standing.{is_refused, may_end, standing}
 use Rattle.html_tokenizer.specs.Tokenizer.States.{Tokenizer, data_state}
 use Rattle.html_tokenizer.specs.Tokenizer.Tokenization.{state_after}
-use Rattle.html_tokenizer.specs.UrlValues.{is_url}
+use Rattle.html_tokenizer.specs.UrlValues.{is_of_urls}
 use Rattle.html_urls.specs.Bases.{behind_base}
 use Rattle.html_urls.specs.declared.base.BehindBase.{BehindBase}
 
 -- the tokenizer, the markup since the last slot, and what was open of a URL or a declaration with slots at that slot.
--- Outside of URLs the markup so far is let go
+-- Outside of URLs, and of lists of them, the markup so far is let go
 pub record Way : Type 0 where
   pub tokenizer : Tokenizer
   pub markup : List ℕ
@@ -41,7 +41,7 @@ let_go way Outside = record { tokenizer = way.tokenizer; markup = []; url = Outs
 let_go way other = way
 
 abbrev pub settled : Way → Result Way PartFault
-settled way = if is_url way.tokenizer.attribute then Ok way else on_ok (url_markup way.url way.markup) (λ url. Ok (let_go way url))
+settled way = if is_of_urls way.tokenizer.attribute then Ok way else on_ok (url_markup way.url way.markup) (λ url. Ok (let_go way url))
 
 abbrev pub way_behind : Way → List ℕ → Result Way PartFault
 way_behind way bytes =

@@ -10,7 +10,7 @@ use html_tokenizer::Reader;
 use html_urls::behind_base;
 use std::alloc::{AllocError, Allocator};
 
-/// The tokenizer, in a URL the markup since the last slot, and what was open of a URL or a declaration at that slot.
+/// The tokenizer, in a URL or a list of them the markup since the last slot, and what was open of a URL or a declaration at that slot.
 #[derive(Drop)]
 pub(crate) struct Way<A: Allocator> {
     alloc: A,
@@ -29,6 +29,9 @@ fn is_same_url(first: OpenUrl, second: OpenUrl) -> bool
     match (first, second) {
         (OpenUrl::Outside, OpenUrl::Outside) => true,
         (OpenUrl::Within(place, part), OpenUrl::Within(other, another)) => {
+            place == other && part == another
+        }
+        (OpenUrl::Listed(place, part), OpenUrl::Listed(other, another)) => {
             place == other && part == another
         }
         (OpenUrl::Whole(place), OpenUrl::Whole(other)) => place == other,
@@ -117,7 +120,7 @@ impl<A: Allocator + Copy> Way<A> {
             self.markup.extend_from_slice(bytes)?;
             return Ok(Ok(()));
         }
-        // Most markup stands where no URL is open, and is let go.
+        // Most markup stands outside of URLs, and is let go.
         if let OpenUrl::Outside = self.url {
             self.markup.clear();
             return Ok(Ok(()));

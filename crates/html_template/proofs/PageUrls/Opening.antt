@@ -8,9 +8,9 @@ use Rattle.html_template.specs.Templates.{Chunk}
 use Rattle.html_tokenizer.specs.declared.slot_place.SlotPlace.{SlotPlace}
 use Rattle.html_tokenizer.specs.Tokenizer.States.{In, Tokenizer}
 use Rattle.html_tokenizer.specs.Tokenizer.Tokenization.{state_after}
-use Rattle.html_tokenizer.specs.UrlValues.{open_url, urls_from}
+use Rattle.html_tokenizer.specs.UrlValues.{is_of_urls, open_url, urls_from}
 use Rattle.html_tokenizer.proofs.UrlValues.Appending.{urls_from-append}
-use Rattle.html_tokenizer.proofs.UrlValues.Attributes.{is_of_urls, is_open, open_url_is, url_of_urls}
+use Rattle.html_tokenizer.proofs.UrlValues.Attributes.{is_open, open_url_is, url_of_urls}
 use Rattle.html_tokenizer.proofs.UrlValues.Bytes.{may_hold_url}
 use Rattle.html_tokenizer.proofs.UrlValues.Places.{is_value_place}
 use Rattle.html_tokenizer.proofs.UrlValues.Slots.Tame.{IsFresh, IsTame, fresh_after}

@@ -10,6 +10,7 @@ use Rattle.html_template.specs.OpenUrls.{before, begun, behind_front, url_slot, 
 use Rattle.html_template.specs.Slots.{past_slot, suits}
 use Rattle.html_template.specs.TemplateFaults.{slot_at}
 use Rattle.html_template.specs.Templates.{Chunk, Slot}
+use Rattle.html_tokenizer.specs.UrlValues.{is_of_urls}
 use Rattle.html_tokenizer.specs.declared.reader.Standing.{Standing}
 use Rattle.html_tokenizer.specs.declared.reader.Standing.TheVariants.{Stands, InUrl, InLink, InListedUrl, InDeclaration, InScript, InJson, Nowhere, Barred}
 use Rattle.html_tokenizer.specs.declared.slot_place.SlotPlace.{SlotPlace}
@@ -17,7 +18,7 @@ use Rattle.html_tokenizer.specs.declared.slot_place.SlotPlace.TheVariants as pla
 use Rattle.html_tokenizer.specs.Standing.{past_json, standing}
 use Rattle.html_tokenizer.specs.Tokenizer.States.{In, Ordinary, Tokenizer, at_value}
 use Rattle.html_tokenizer.proofs.UrlValues.Slots.AtSlots.{in_listed_url, in_url, no_url_tame, open_at_slot, open_in_list, stands_in_list, stands_in_url}
-use Rattle.html_tokenizer.proofs.UrlValues.Attributes.{is_listed, is_of_urls, is_open, open_is_listed, open_so}
+use Rattle.html_tokenizer.proofs.UrlValues.Attributes.{is_listed, is_open, open_is_listed, open_so}
 use Rattle.html_tokenizer.proofs.UrlValues.Bytes.{may_hold_url}
 use Rattle.html_tokenizer.proofs.UrlValues.Slots.Tame.{IsTame}
 use Rattle.html_urls.specs.Bases.{behind_base}

@@ -14,11 +14,11 @@ use Rattle.html_tokenizer.specs.declared.slot_place.SlotPlace.{SlotPlace}
 use Rattle.html_tokenizer.specs.Standing.{standing}
 use Rattle.html_tokenizer.specs.Tokenizer.States.{Tokenizer}
 use Rattle.html_tokenizer.specs.Tokenizer.Tokenization.{state_after}
-use Rattle.html_tokenizer.specs.UrlValues.{urls_from}
+use Rattle.html_tokenizer.specs.UrlValues.{is_of_urls, urls_from}
 use Rattle.html_tokenizer.proofs.UrlValues.Appending.{urls_from-anew}
 use Rattle.html_tokenizer.proofs.UrlValues.Apart.Bytes.{StaysApart}
 use Rattle.html_tokenizer.proofs.UrlValues.Apart.OneByte.{IsApart}
-use Rattle.html_tokenizer.proofs.UrlValues.Attributes.{is_of_urls, no_url_of_none}
+use Rattle.html_tokenizer.proofs.UrlValues.Attributes.{no_url_of_none}
 use Rattle.html_tokenizer.proofs.UrlValues.Names.{is_named}
 use Rattle.html_tokenizer.proofs.UrlValues.Apart.Texts.{literal_apart, text_apart}
 use Rattle.html_template.proofs.PageUrls.Filled.{HasLater, IsFilled}

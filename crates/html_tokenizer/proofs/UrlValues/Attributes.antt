@@ -10,12 +10,7 @@ use Rattle.html_tokenizer.specs.Tokenizer.Attributes.ListParts.{fixed_part, is_i
 use Rattle.html_tokenizer.specs.Tokenizer.Code.Characters.{opening_parenthesis}
 use Rattle.html_tokenizer.specs.Tokenizer.States.{Attribute, FixedRawUrl, FixedUrl, Link, Listed, Ordinary, RawUrl, Url}
 use Rattle.html_tokenizer.specs.Tokenizer.Values.References.{begins_with_legacy, behind_reference, behind_word}
-use Rattle.html_tokenizer.specs.UrlValues.{is_url}
-
--- the value is a URL, or a list of them
-abbrev pub is_of_urls : Attribute → Bool
-is_of_urls (Listed part) = true
-is_of_urls other = is_url other
+use Rattle.html_tokenizer.specs.UrlValues.{is_of_urls, is_url}
 
 abbrev pub is_listed : Attribute → Bool
 is_listed (Listed part) = true

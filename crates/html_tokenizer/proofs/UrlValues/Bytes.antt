@@ -11,8 +11,8 @@ use Rattle.html_tokenizer.specs.Tokenizer.Tags.{is_space}
 use Rattle.html_tokenizer.specs.Tokenizer.Tokenization.{byte_in, consume}
 use Rattle.html_tokenizer.specs.Tokenizer.Transitions.{Transition}
 use Rattle.html_tokenizer.specs.Tokenizer.Values.{before_value_byte, unquoted_byte}
-use Rattle.html_tokenizer.specs.UrlValues.{begins_value}
-use Rattle.html_tokenizer.proofs.UrlValues.Attributes.{before_itself, is_going, is_listed, is_of_urls}
+use Rattle.html_tokenizer.specs.UrlValues.{begins_value, is_of_urls}
+use Rattle.html_tokenizer.proofs.UrlValues.Attributes.{before_itself, is_going, is_listed}
 use Rattle.html_tokenizer.proofs.UrlValues.Places.{is_value_place}
 use Rattle.html_tokenizer.proofs.UrlValues.Following.{StaysAt, Steps, in_value, same_place, unquoted_follows, value_follows, within_follows}
 

@@ -12,9 +12,9 @@ use Rattle.html_tokenizer.specs.Tokenizer.Attributes.ListParts.{is_in_listed_url
 use Rattle.html_tokenizer.specs.Tokenizer.States.{Attribute, In, Listed, Tokenizer, at_value}
 use Rattle.html_tokenizer.specs.Tokenizer.Tags.{is_space}
 use Rattle.html_tokenizer.specs.Tokenizer.Tokenization.{consume}
-use Rattle.html_tokenizer.specs.UrlValues.{closes_url, ends_value, is_url, last_bytes, urls_from, value_bytes}
+use Rattle.html_tokenizer.specs.UrlValues.{closes_url, ends_value, is_of_urls, is_url, last_bytes, urls_from, value_bytes}
 use Rattle.html_tokenizer.proofs.UrlValues.Appending.{urls_from-anew}
-use Rattle.html_tokenizer.proofs.UrlValues.Attributes.{ends_settled, is_of_urls, is_open, open_url_is, url_of_urls}
+use Rattle.html_tokenizer.proofs.UrlValues.Attributes.{ends_settled, is_open, open_url_is, url_of_urls}
 use Rattle.html_tokenizer.proofs.UrlValues.Places.{is_value_place}
 
 -- the byte ends the URL, and what is held of a `&` before it is added to it

@@ -19,8 +19,8 @@ use Rattle.html_tokenizer.specs.Tokenizer.Tokenization.{value_byte, within_byte}
 use Rattle.html_tokenizer.specs.Tokenizer.Transitions.{Transition, goes, keeps, moves, refuses}
 use Rattle.html_tokenizer.specs.Tokenizer.Values.{begins_character, character_read, ended, quoted_byte, unquoted_byte}
 use Rattle.html_tokenizer.specs.Tokenizer.Values.References.{ambiguous_end, begins_with_legacy, behind_reference, behind_word, characters_read, flushes, goes_on, legacy_end, name_end, named_characters, number_end, reference_byte, reference_end, unnamed_end}
-use Rattle.html_tokenizer.specs.UrlValues.{begins_value, ends_value, is_url}
-use Rattle.html_tokenizer.proofs.UrlValues.Attributes.{Before, byte_going, ends_settled, is_going, is_listed, is_of_urls, read_before, reference_before, word_before}
+use Rattle.html_tokenizer.specs.UrlValues.{begins_value, ends_value, is_of_urls, is_url}
+use Rattle.html_tokenizer.proofs.UrlValues.Attributes.{Before, byte_going, ends_settled, is_going, is_listed, read_before, reference_before, word_before}
 use Rattle.html_tokenizer.proofs.UrlValues.Names.{content_unnamed, is_named}
 use Rattle.html_tokenizer.proofs.UrlValues.Places.{is_value_place}
 

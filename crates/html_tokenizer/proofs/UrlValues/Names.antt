@@ -1,11 +1,11 @@
 -- The states in the name of an attribute, after which a value of URLs may begin.
 use Rattle.std.proofs.Common.{◌≡◌, Bool, true, false, refl}
 use Rattle.std.proofs.lemmas.Bool.{true≢false}
+use Rattle.html_tokenizer.specs.UrlValues.{is_of_urls}
 use Rattle.html_tokenizer.specs.declared.elements.OpenElement.{OpenElement}
 use Rattle.html_tokenizer.specs.declared.elements.OpenElement.TheVariants.{Script}
 use Rattle.html_tokenizer.specs.Tokenizer.Elements.{content_state}
 use Rattle.html_tokenizer.specs.Tokenizer.States.{AfterName, Attribute, Name, State}
-use Rattle.html_tokenizer.proofs.UrlValues.Attributes.{is_of_urls}
 
 -- in the name of an attribute, or after it
 abbrev pub is_named : State → Bool

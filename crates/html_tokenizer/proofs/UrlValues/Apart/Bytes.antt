@@ -4,9 +4,9 @@ use Rattle.std.proofs.lemmas.Bool.{cases_Bool, true≢false}
 use Rattle.html_tokenizer.specs.Tokenizer.Actions.{Action}
 use Rattle.html_tokenizer.specs.Tokenizer.States.{Tokenizer}
 use Rattle.html_tokenizer.specs.Tokenizer.Tokenization.{actions_of, consume, state_after}
-use Rattle.html_tokenizer.specs.UrlValues.{is_url, open_url, urls_from, value_bytes}
+use Rattle.html_tokenizer.specs.UrlValues.{is_of_urls, is_url, open_url, urls_from, value_bytes}
 use Rattle.html_tokenizer.proofs.UrlValues.Apart.OneByte.{BeginsNone, neither_begins, value_bytes-append, IsApart, apart_at_end, apart_next}
-use Rattle.html_tokenizer.proofs.UrlValues.Attributes.{is_of_urls, is_open, no_url_of_none, open_is_listed, open_url_is, url_of_urls, whole_open}
+use Rattle.html_tokenizer.proofs.UrlValues.Attributes.{is_open, no_url_of_none, open_is_listed, open_url_is, url_of_urls, whole_open}
 use Rattle.html_tokenizer.proofs.UrlValues.Bytes.{class_next, stays_open}
 use Rattle.html_tokenizer.proofs.UrlValues.Slots.Tame.{IsTame, tame_next}
 

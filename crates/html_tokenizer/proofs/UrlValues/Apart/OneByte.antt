@@ -6,8 +6,8 @@ use Rattle.std.proofs.lemmas.List.Folds.{list_any-append}
 use Rattle.html_tokenizer.specs.declared.slot_place.SlotPlace.{SlotPlace}
 use Rattle.html_tokenizer.specs.declared.slot_place.SlotPlace.TheVariants.{Text, DoubleQuoted, SingleQuoted, Unquoted}
 use Rattle.html_tokenizer.specs.Tokenizer.Actions.{Action, NewAttribute, StringEnd, StringStart, ValueByte, read_byte}
-use Rattle.html_tokenizer.specs.UrlValues.{value_bytes}
-use Rattle.html_tokenizer.proofs.UrlValues.Attributes.{before_itself, is_of_urls}
+use Rattle.html_tokenizer.specs.UrlValues.{is_of_urls, value_bytes}
+use Rattle.html_tokenizer.proofs.UrlValues.Attributes.{before_itself}
 use Rattle.html_tokenizer.proofs.UrlValues.Places.{is_value_place}
 use Rattle.html_tokenizer.specs.declared.elements.Content.{Content}
 use Rattle.html_tokenizer.specs.Tokenizer.States.{Attribute, BeforeName, BeforeValue, In, State, Tokenizer, Within}

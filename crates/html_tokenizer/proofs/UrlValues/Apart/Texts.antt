@@ -4,12 +4,12 @@ use Rattle.html_tokenizer.specs.declared.slot_place.SlotPlace.{SlotPlace}
 use Rattle.html_tokenizer.specs.Tokenizer.Actions.{StringEnd, StringStart, read_byte}
 use Rattle.html_tokenizer.specs.Tokenizer.States.{Tokenizer}
 use Rattle.html_tokenizer.specs.Tokenizer.Tokenization.{actions_of, state_after}
-use Rattle.html_tokenizer.specs.UrlValues.{is_url, value_bytes}
+use Rattle.html_tokenizer.specs.UrlValues.{is_of_urls, is_url, value_bytes}
 use Rattle.html_tokenizer.proofs.Passing.{Passes}
 use Rattle.html_tokenizer.proofs.UrlValues.Apart.Bytes.{KeepsUrl, StaysApart, keeps_url, stays_apart}
 use Rattle.html_tokenizer.proofs.UrlValues.Apart.OneByte.{BeginsNone, literal_begins_none, text_begins_none, text_in_value, IsApart}
 use Rattle.html_tokenizer.proofs.UrlValues.Places.{is_value_place}
-use Rattle.html_tokenizer.proofs.UrlValues.Attributes.{is_of_urls, is_open, url_of_urls}
+use Rattle.html_tokenizer.proofs.UrlValues.Attributes.{is_open, url_of_urls}
 use Rattle.html_tokenizer.proofs.UrlValues.Slots.Tame.{IsTame}
 
 none_in_text : (p : SlotPlace) (t u : Tokenizer) (bytes text : List ℕ) → Passes t bytes (map (read_byte p) text) u → BeginsNone (actions_of t bytes)

@@ -15,8 +15,7 @@ use Rattle.html_tokenizer.specs.Tokenizer.Attributes.{without_value}
 use Rattle.html_tokenizer.specs.Tokenizer.Tags.{first_name_byte, in_tag, name_byte}
 use Rattle.html_tokenizer.specs.Tokenizer.Tags.EndTags.{is_rcdata}
 use Rattle.html_tokenizer.specs.Tokenizer.Tokenization.{byte_in, consume, value_byte}
-use Rattle.html_tokenizer.specs.UrlValues.{value_bytes}
-use Rattle.html_tokenizer.proofs.UrlValues.Attributes.{is_of_urls}
+use Rattle.html_tokenizer.specs.UrlValues.{is_of_urls, value_bytes}
 use Rattle.html_tokenizer.proofs.UrlValues.Names.{is_named, opens_no_url}
 use Rattle.html_tokenizer.proofs.UrlValues.Opening.Markup.{code_end_opens_none, code_less_opens_none, code_word_opens_none, in_code_opens_none, HoldsNone, OpensNone, closed_opens_none, end_name_opens_none, first_name_holds_none, held_opens_none, in_tag_holds_none, in_tag_opens_none, name_holds_none, tag_name_opens_none, tag_open_opens_none}
 use Rattle.html_tokenizer.proofs.UrlValues.Opening.Values.{before_value_opens_none, reference_opens_none, string_less_opens_none, value_opens_none, within_opens_none}

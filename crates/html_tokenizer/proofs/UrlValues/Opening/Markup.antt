@@ -2,6 +2,7 @@
 use Rattle.std.proofs.Common.{ℕ, ◌≡◌, false, List, map, ◌&&◌, inl, inr, Option, Some, None, refl, arith, [], ◌∷◌, ◌++◌}
 use Rattle.std.proofs.lemmas.Bool.{cases_Bool}
 use Rattle.std.specs.Char.{is_ascii_alphabetic, to_ascii_lowercase}
+use Rattle.html_tokenizer.specs.UrlValues.{is_of_urls}
 use Rattle.html_tokenizer.specs.declared.elements.Content.{Content}
 use Rattle.html_tokenizer.specs.declared.elements.OpenElement.{OpenElement}
 use Rattle.html_tokenizer.specs.declared.elements.OpenElement.TheVariants.{Normal, Script, Style, SvgStyle}
@@ -11,7 +12,6 @@ use Rattle.html_tokenizer.specs.Tokenizer.States.{BeforeName, Ordinary, State, T
 use Rattle.html_tokenizer.specs.Tokenizer.Transitions.{Transition, refuses}
 use Rattle.html_tokenizer.specs.Tokenizer.Tags.{after_element_name, closed_itself, end_tag_byte, end_tag_name_byte, ends_name, first_name_byte, in_tag, name_byte, opened, tag_name_byte, tag_open_byte}
 use Rattle.html_tokenizer.specs.Tokenizer.Tags.EndTags.{is_appropriate, held_end_tag_byte}
-use Rattle.html_tokenizer.proofs.UrlValues.Attributes.{is_of_urls}
 use Rattle.html_tokenizer.proofs.UrlValues.Names.{content_unnamed, is_named, may_open, neither_opens}
 use Rattle.html_tokenizer.specs.declared.states.Code.{Code}
 use Rattle.html_tokenizer.specs.declared.states.Code.TheVariants as code

@@ -1,5 +1,6 @@
 -- No URL opens in text, in a string or in a value that is not of URLs.
 use Rattle.std.proofs.Common.{ℕ, ◌≡◌, Bool, true, false, ◌==◌, if◌then◌else◌, List, [], ◌∷◌, Option, Some, None, ◌∙◌, refl, arith}
+use Rattle.html_tokenizer.specs.UrlValues.{is_of_urls}
 use Rattle.html_tokenizer.specs.declared.elements.Content.{Content}
 use Rattle.html_tokenizer.specs.declared.states.Code.TheVariants as code
 use Rattle.html_tokenizer.specs.declared.slot_place.SlotPlace.{SlotPlace}
@@ -15,7 +16,7 @@ use Rattle.html_tokenizer.specs.Tokenizer.Tags.{opened}
 use Rattle.html_tokenizer.specs.Tokenizer.Tokenization.{value_byte, within_byte}
 use Rattle.html_tokenizer.specs.Tokenizer.Values.{before_value_byte, character_read, ended}
 use Rattle.html_tokenizer.specs.Tokenizer.Values.References.{behind_reference, behind_word, characters_read, goes_on, name_end, named_characters, number_end, reference_byte, reference_end, unnamed_end}
-use Rattle.html_tokenizer.proofs.UrlValues.Attributes.{is_of_urls, read_of_urls, word_of_urls}
+use Rattle.html_tokenizer.proofs.UrlValues.Attributes.{read_of_urls, word_of_urls}
 use Rattle.html_tokenizer.proofs.UrlValues.Opening.Markup.{in_code_opens_none, OpensNone, opened_opens_none}
 
 pub byte_opens_none : (attribute : Attribute) (b : ℕ) → is_of_urls attribute ≡ false → is_of_urls (value_byte_read attribute b) ≡ false

@@ -14,11 +14,11 @@ use Rattle.html_tokenizer.specs.Tokenizer.Tags.{is_space}
 use Rattle.html_tokenizer.specs.Tokenizer.Tokenization.{consume, state_after}
 use Rattle.html_tokenizer.specs.Tokenizer.Transitions.{Transition}
 use Rattle.html_tokenizer.specs.Tokenizer.Values.{before_value_byte}
-use Rattle.html_tokenizer.specs.UrlValues.{after_last, begins_url, begins_value, closes_url, ends_value, is_url, open_url, url_after, url_text, value_bytes}
+use Rattle.html_tokenizer.specs.UrlValues.{after_last, begins_url, begins_value, closes_url, ends_value, is_of_urls, is_url, open_url, url_after, url_text, value_bytes}
 use Rattle.html_tokenizer.proofs.Passing.{state_after-append}
 use Rattle.html_tokenizer.proofs.Slots.Html.{first_as_other}
 use Rattle.html_tokenizer.proofs.UrlValues.Appending.{open_url-append}
-use Rattle.html_tokenizer.proofs.UrlValues.Attributes.{is_going, is_listed, is_of_urls, is_open, of_open, open_is_listed, whole_open}
+use Rattle.html_tokenizer.proofs.UrlValues.Attributes.{is_going, is_listed, is_open, of_open, open_is_listed, whole_open}
 use Rattle.html_tokenizer.proofs.UrlValues.Bytes.{is_at, start_state, may_hold_url}
 use Rattle.html_tokenizer.proofs.UrlValues.Places.{is_in_quotes, is_value_place}
 use Rattle.html_tokenizer.proofs.UrlValues.Reading.{reads_on}

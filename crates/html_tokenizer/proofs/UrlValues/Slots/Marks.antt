@@ -8,8 +8,8 @@ use Rattle.html_tokenizer.specs.Tokenizer.Attributes.ListParts.{is_list_mark}
 use Rattle.html_tokenizer.specs.Tokenizer.States.{Attribute, BeforeValue, In, State, Tokenizer, Within}
 use Rattle.html_tokenizer.specs.Tokenizer.Tokenization.{consume, state_after}
 use Rattle.html_tokenizer.specs.Tokenizer.Transitions.{Transition}
-use Rattle.html_tokenizer.specs.UrlValues.{begins_value, ends_value, is_url, url_after, value_bytes}
-use Rattle.html_tokenizer.proofs.UrlValues.Attributes.{is_going, is_listed, is_of_urls, no_url_of_none}
+use Rattle.html_tokenizer.specs.UrlValues.{begins_value, ends_value, is_of_urls, is_url, url_after, value_bytes}
+use Rattle.html_tokenizer.proofs.UrlValues.Attributes.{is_going, is_listed, no_url_of_none}
 use Rattle.html_tokenizer.proofs.UrlValues.Bytes.{Begins, OpenUrl, before, class_next, is_at, start_state, starts, stays_open, unquoted, within}
 use Rattle.html_tokenizer.proofs.UrlValues.Following.{StaysAt, is_unheld}
 use Rattle.html_tokenizer.proofs.UrlValues.Places.{is_in_quotes, is_value_place}

@@ -7,8 +7,8 @@ use Rattle.html_tokenizer.specs.Standing.{is_same}
 use Rattle.html_tokenizer.specs.Tokenizer.States.{Attribute, BeforeValue, In, State, Tokenizer, Within, data_state}
 use Rattle.html_tokenizer.specs.Tokenizer.Tokenization.{consume, state_after}
 use Rattle.html_tokenizer.specs.Tokenizer.Transitions.{Transition}
-use Rattle.html_tokenizer.specs.UrlValues.{is_url, open_url, url_after, value_bytes}
-use Rattle.html_tokenizer.proofs.UrlValues.Attributes.{is_of_urls, no_url_of_none}
+use Rattle.html_tokenizer.specs.UrlValues.{is_of_urls, is_url, open_url, url_after, value_bytes}
+use Rattle.html_tokenizer.proofs.UrlValues.Attributes.{no_url_of_none}
 use Rattle.html_tokenizer.proofs.UrlValues.Bytes.{Begins, OpenUrl, before, is_at, may_hold_url, start_state, starts, stays_open, unquoted, within}
 use Rattle.html_tokenizer.proofs.UrlValues.Following.{in_value}
 use Rattle.html_tokenizer.proofs.UrlValues.Opening.AllStates.{opens_at_equals}
