@@ -104,12 +104,32 @@ pub(crate) enum Around<'s, 'p, 't> {
     Inside(Value<'p, 't>, &'s Around<'s, 'p, 't>),
 }
 
-// Most names that are not the same differ in their lengths.
+// Whether a name is this word. Most that are not differ in their lengths, and most have up to eight bytes: these are
+// compared by their ends, which may overlap.
 #[inline(always)]
 fn is_same(name: &str, word: &str) -> bool
     ensures { result ≡ bytes_eq name.now word.now }
 {
-    name.len() == word.len() && name == word
+    if name.len() != word.len() {
+        return false;
+    }
+    let (name, word) = (name.as_bytes(), word.as_bytes());
+    if name.len() <= 8 {
+        if let (Some(first), Some(other)) = (name.first_chunk::<4>(), word.first_chunk::<4>()) {
+            if let (Some(last), Some(another)) = (name.last_chunk::<4>(), word.last_chunk::<4>()) {
+                return *first == *other && *last == *another;
+            }
+        }
+    }
+    are_same(name, word)
+}
+
+// The same of others. It is called, so that a search makes nothing ready for long names.
+#[inline(never)]
+fn are_same(name: &[u8], word: &[u8]) -> bool
+    ensures { result ≡ bytes_eq name.now word.now }
+{
+    name == word
 }
 
 // The first value of this name.
