@@ -1,6 +1,8 @@
 -- The words of a name, cut at its first dot.
-use Rattle.std.proofs.Common.{ℕ, suc, ◌≡◌, ◌≢◌, ◌<◌, ◌==◌, true, false, List, [], ◌∷◌, ◌++◌, length, get_or, Option, Some, None, IfSome, IfNone, MatchOption, Bor, sym, ap, ◌∙◌, subst, append_assoc, append-nil, arith, ⊎_elim}
+use Rattle.std.proofs.Common.{ℕ, Bool, suc, nat_eq, refl, ◌≡◌, ◌≢◌, ◌<◌, ◌==◌, true, false, List, [], ◌∷◌, ◌++◌, length, get_or, Option, Some, None, IfSome, IfNone, MatchOption, Bor, sym, ap, ◌∙◌, subst, append_assoc, append-nil, arith, ⊎_elim}
 use Rattle.std.proofs.lemmas.Bool.{cases_Bool, eqb-true}
+use Rattle.std.proofs.lemmas.List.Folds.{list_any_at}
+use Rattle.std.specs.List.{list_any}
 use Rattle.html_view.specs.Names.{dot, words_behind}
 
 abbrev LacksDot : List ℕ → Type 0
@@ -44,3 +46,13 @@ pub shorter_cut : (words : List ℕ) (found : Option (Bor (List ℕ) × Bor (Lis
     IfSome found (λ x. length x.1.now < length words)
 shorter_cut words None cut = tt
 shorter_cut words (Some x) cut = subst (λ w. length x.1.now < length w) (sym cut.0) (longer x.0.now x.1.now)
+
+-- ---- where no byte is a dot
+
+lacks_dot : (word : List ℕ) → list_any (λ b. nat_eq b dot) word ≡ false → LacksDot word
+lacks_dot word none i below is =
+    let some : list_any (λ b. nat_eq b dot) word ≡ true = list_any_at (λ b. nat_eq b dot) word i 0 below (rw is refl) in
+    absurd (cc)
+
+pub dotless : (word bytes : List ℕ) (found : Bool) → bytes ≡ word → found ≡ list_any (λ b. nat_eq b dot) bytes → found ≡ false → words_behind [] word ≡ word ∷ []
+dotless word bytes found are same none = one_word [] word (lacks_dot word (ap (list_any (λ b. nat_eq b dot)) (sym are) ∙ sym same ∙ none))

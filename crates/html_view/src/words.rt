@@ -59,12 +59,16 @@ fn add_word<'a, A: Allocator>(words: &mut Vec<&'a str, A>, word: &'a str) -> Res
     }
 }
 
-// The first word of a name and its other words, `None` where it is one word.
+// The first word of a name and its other words, `None` where it is one word. Most are, which is seen sooner than
+// where one would end.
 fn cut_word(words: &str) -> Option<(&str, &str)>
     ensures some { IfSome result (λ r. words_behind [] words.now
         ≡ r.0.now ∷ words_behind [] r.1.now) }
     ensures none { IfNone result (words_behind [] words.now ≡ words.now ∷ []) }
     ensures shorter { IfSome result (λ r. length r.1.now < length words.now) }
 {
+    if !words.as_bytes().contains(&b'.') {
+        return None;
+    }
     words.split_once('.')
 }

@@ -175,7 +175,7 @@ pub(crate) fn add_markup<'a, A: Allocator>(
 }
 
 // So many nodes have room in a list that is begun: most have no more, and are made once.
-const ROOM: usize = 6;
+const ROOM: usize = 8;
 
 // Makes room in a list that is begun.
 #[inline(always)]

@@ -1,7 +1,7 @@
 use Rattle.std.proofs.Common.{arith}
 use Rattle.std.proofs.lemmas.Str.Pattern.{split_parts}
 use Rattle.html_view.specs.Names.{dot}
-use Rattle.html_view.proofs.CutNames.{none_cut, shorter_cut, some_cut}
+use Rattle.html_view.proofs.CutNames.{dotless, none_cut, shorter_cut, some_cut}
 use Rattle.html_view.proofs.words.cut_word.Goals as goal
 
 pub returns-clause-some : goal.returns-clause-some
@@ -12,3 +12,6 @@ returns-clause-none c = none_cut c.args.words.now c.split_once.result (split_par
 
 pub returns-clause-shorter : goal.returns-clause-shorter
 returns-clause-shorter c = shorter_cut c.args.words.now c.split_once.result (split_parts dot c.args.words.now c.split_once.result c.split_once.ensures.cases (omega arith))
+
+pub returns-then-not-contains-clause-none : goal.returns-then-not-contains-clause-none
+returns-then-not-contains-clause-none c = dotless c.args.words.now c.as_bytes.result.now c.contains.result c.as_bytes.ensures.value c.contains.ensures.value c.if-not-contains.true
