@@ -26,6 +26,8 @@ mod names;
 mod nodes;
 mod pages;
 mod refusals;
+#[cfg(test)]
+mod sizes;
 
 use crate::names::names_of;
 use crate::nodes::show_nodes;
