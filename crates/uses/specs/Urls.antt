@@ -1,1 +1,2 @@
+pub mod ContactLinks
 pub mod SearchLinks

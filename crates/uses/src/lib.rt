@@ -14,6 +14,6 @@ pub use crate::templates::{
     asset_page, bar, breadcrumbs, data_block, form_page, home_page, item_links, link_list,
     mail_rows, page_script, price_list, search_page,
 };
-pub use crate::urls::search_link;
+pub use crate::urls::{contact_links, search_link};
 pub use crate::views::{framed_page, json_page, nested_page, two_pages};
 pub use crate::writers::{log_item, log_list};
